@@ -1,0 +1,142 @@
+-- What a caller uses of the answers: laws on any list of Bool, and on the list that any number of words holds. Assumes nothing.
+use mathlib.Core.Path.{_≡_, refl, sym, ap, ap₂, _∙_}
+use mathlib.Core.Bool.{Bool, true, false}
+use mathlib.Core.List.{List, [], _∷_, _++_}
+use Prim.Native.Nat.{ℕ, zero, suc, _+_, _-_, _*_, _≤_, _<_}
+use native.Mathlib.Nat.{not-suc-le-zero, le-of-suc-le-suc, suc-mul, zero-mul}
+use native.Mathlib.Omega.{arith}
+use lib.ListN.{length, getD, set, drop, replicate, length-drop, length-set, replicate-append-replicate}
+use lib.Seq.{getD-drop}
+use Rattle.frontier.specs.Waiting.{bitsOf, bitsOfAll, waitingOf, seek, nextFrom, anyOf, countOf}
+use Rattle.frontier.specs.declared.Next.the-variants.{At, None}
+use Rattle.frontier.proofs.Words.{bits-all-length}
+
+-- ---- the first that waits
+
+-- v is the first at or after i that waits
+pub record First (l : List Bool) (i v : ℕ) : Type 0 where
+  pub from : i ≤ v
+  pub within : v < length l
+  pub waits : getD l v false ≡ true
+  pub before : (k : ℕ) → i ≤ k → k < v → getD l k false ≡ false
+
+-- the first of a list whose first place is b, by its place p in the list
+seek-at : (b : ℕ) (l : List Bool) (v : ℕ) → seek b l ≡ At v
+    → (p : ℕ) × (v ≡ b + p) × (p < length l) × (getD l p false ≡ true) × ((k : ℕ) → k < p → getD l k false ≡ false)
+unfolding seek
+seek-at b [] v e = let z : _≡_ {A = ℕ} 0 1 = cc in absurd (omega arith)
+seek-at b (true ∷ l) v e = let q : b ≡ v = cc in (zero, omega arith, omega arith, refl, λ k h. absurd (not-suc-le-zero h))
+seek-at b (false ∷ l) v e =
+    let r = seek-at (suc b) l v e in
+    (suc (r .0), omega (arith, r .1), omega (arith, r .2), r .3, below (r .0) (r .4))
+  where
+    below : (p : ℕ) → ((k : ℕ) → k < p → getD l k false ≡ false) → (k : ℕ) → k < suc p → getD (false ∷ l) k false ≡ false
+    below p f zero h = refl
+    below p f (suc k) h = f k (le-of-suc-le-suc h)
+
+seek-none : (b : ℕ) (l : List Bool) → seek b l ≡ None → (k : ℕ) → getD l k false ≡ false
+unfolding seek
+seek-none b [] e k = refl
+seek-none b (true ∷ l) e k = let z : _≡_ {A = ℕ} 0 1 = cc in absurd (omega arith)
+seek-none b (false ∷ l) e zero = refl
+seek-none b (false ∷ l) e (suc k) = seek-none (suc b) l e k
+
+-- a place at or after i, in what is left from i on
+left-at : (l : List Bool) (i k : ℕ) → i ≤ k → getD (drop i l) (k - i) false ≡ getD l k false
+left-at l i k h = let e : i + (k - i) ≡ k = omega arith in getD-drop i l (k - i) false ∙ ap (λ (m : ℕ). getD l m false) e
+
+pub next-first : (l : List Bool) (i v : ℕ) → nextFrom l i ≡ At v → First l i v
+next-first l i v e =
+    let r = seek-at i (drop i l) v e in
+    let p : v - i ≡ r .0 = omega (arith, r .1) in
+    let f : i ≤ v = omega (arith, r .1) in record {
+      from = f;
+      within = omega (arith, r .1, r .2, length-drop i l);
+      waits = sym (left-at l i v f) ∙ ap (λ (m : ℕ). getD (drop i l) m false) p ∙ r .3;
+      before = λ k a b. sym (left-at l i k a) ∙ r .4 (k - i) (omega (arith, r .1));
+    }
+
+pub next-none : (l : List Bool) (i : ℕ) → nextFrom l i ≡ None → (k : ℕ) → i ≤ k → getD l k false ≡ false
+next-none l i e k h = sym (left-at l i k h) ∙ seek-none i (drop i l) e (k - i)
+
+-- ---- how many wait: what falls as a vertex is taken out
+
+pub count-remove : (l : List Bool) (v : ℕ) → getD l v false ≡ true → countOf l ≡ suc (countOf (set l v false))
+unfolding countOf
+count-remove [] v e = let y : _≡_ {A = ℕ} 0 1 = cc in absurd (omega arith)
+count-remove (true ∷ l) zero e = refl
+count-remove (false ∷ l) zero e = let y : _≡_ {A = ℕ} 0 1 = cc in absurd (omega arith)
+count-remove (true ∷ l) (suc v) e = ap suc (count-remove l v e)
+count-remove (false ∷ l) (suc v) e = count-remove l v e
+
+pub count-insert : (l : List Bool) (v : ℕ) → v < length l → getD l v false ≡ false → countOf (set l v true) ≡ suc (countOf l)
+unfolding countOf
+count-insert [] v h e = absurd (not-suc-le-zero h)
+count-insert (true ∷ l) zero h e = let y : _≡_ {A = ℕ} 0 1 = cc in absurd (omega arith)
+count-insert (false ∷ l) zero h e = refl
+count-insert (true ∷ l) (suc v) h e = ap suc (count-insert l v (le-of-suc-le-suc h) e)
+count-insert (false ∷ l) (suc v) h e = count-insert l v (le-of-suc-le-suc h) e
+
+pub count-none : (l : List Bool) → ((k : ℕ) → getD l k false ≡ false) → countOf l ≡ 0
+unfolding countOf
+count-none [] f = refl
+count-none (true ∷ l) f = let e : true ≡ false = f 0 in let y : _≡_ {A = ℕ} 0 1 = cc in absurd (omega arith)
+count-none (false ∷ l) f = count-none l (λ k. f (suc k))
+
+-- ---- whether any waits
+
+pub any-none : (l : List Bool) → anyOf l ≡ false → (k : ℕ) → getD l k false ≡ false
+unfolding anyOf
+any-none [] e k = refl
+any-none (true ∷ l) e k = let y : _≡_ {A = ℕ} 0 1 = cc in absurd (omega arith)
+any-none (false ∷ l) e zero = refl
+any-none (false ∷ l) e (suc k) = any-none l e k
+
+pub none-any : (l : List Bool) → ((k : ℕ) → getD l k false ≡ false) → anyOf l ≡ false
+unfolding anyOf
+none-any [] f = refl
+none-any (true ∷ l) f = f 0
+none-any (false ∷ l) f = none-any l (λ k. f (suc k))
+
+pub any-some : (l : List Bool) → anyOf l ≡ true → (v : ℕ) × (v < length l) × (getD l v false ≡ true)
+unfolding anyOf
+any-some [] e = let y : _≡_ {A = ℕ} 0 1 = cc in absurd (omega arith)
+any-some (true ∷ l) e = (0, omega arith, refl)
+any-some (false ∷ l) e = let r = any-some l e in (suc (r .0), omega (arith, r .1), r .2)
+
+pub some-any : (l : List Bool) (v : ℕ) → getD l v false ≡ true → anyOf l ≡ true
+unfolding anyOf
+some-any [] v e = e
+some-any (true ∷ l) v e = refl
+some-any (false ∷ l) zero e = let y : _≡_ {A = ℕ} 0 1 = cc in absurd (omega arith)
+some-any (false ∷ l) (suc v) e = some-any l v e
+
+-- ---- the words
+
+pub waiting-length : (ws : List ℕ) → length (waitingOf ws) ≡ 64 * length ws
+waiting-length ws = omega (arith, bits-all-length 64 ws)
+
+pub words-length : (vs ws : List ℕ) → length (waitingOf vs) ≡ length (waitingOf ws) → length vs ≡ length ws
+words-length vs ws e = omega (arith, waiting-length vs, waiting-length ws)
+
+-- a bit that is put leaves as many words
+pub words-kept : (ws vs : List ℕ) (i : ℕ) (b : Bool) → waitingOf vs ≡ set (waitingOf ws) i b → length vs ≡ length ws
+words-kept ws vs i b e = words-length vs ws (ap length e ∙ length-set (waitingOf ws) i b)
+
+bits-zero : (n : ℕ) → bitsOf n 0 ≡ replicate n false
+unfolding bitsOf
+bits-zero zero = refl
+bits-zero (suc n) = ap {B = List Bool} (λ l. false ∷ l) (bits-zero n)
+
+bits-all-zero : (n k : ℕ) → bitsOfAll n (replicate k 0) ≡ replicate (k * n) false
+unfolding bitsOfAll
+bits-all-zero n zero = ap (λ (m : ℕ). replicate m false) (sym (zero-mul n))
+bits-all-zero n (suc k) =
+    let e : n + k * n ≡ suc k * n = omega (arith, suc-mul k n) in
+    ap₂ {A = List Bool} _++_ (bits-zero n) (bits-all-zero n k)
+    ∙ replicate-append-replicate n (k * n) false
+    ∙ ap (λ (m : ℕ). replicate m false) e
+
+-- in words that are all 0 nobody waits
+pub waiting-zero : (k : ℕ) → waitingOf (replicate k 0) ≡ replicate (k * 64) false
+waiting-zero k = bits-all-zero 64 k

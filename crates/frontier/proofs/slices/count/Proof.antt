@@ -1,0 +1,71 @@
+-- `frontier::slices::count` meets its contract. The loop's invariant: what was counted, and what waits from word `k` on, make up the whole.
+-- Assumes nothing.
+use mathlib.Core.Path.{_≡_, sym}
+use Prim.Native.Nat.{_+_, _-_}
+use native.Mathlib.Nat.{zero-add}
+use native.Mathlib.Omega.{arith}
+use borrow.Author.Needs.{needs}
+use lib.Count.{ones}
+use lib.ListN.{length, getD, drop}
+use Rattle.frontier.specs.Waiting.{waitingOf, countOf}
+use Rattle.frontier.proofs.Counts.{count-word, count-end, count-words-le}
+use Rattle.frontier.proofs.slices.count.Statement.{statement}
+use Rattle.frontier.proofs.slices.count.Tie as tie
+
+abbrev Inv-loop : tie.InvT-loop
+Inv-loop ws n₀ k₀ n k = countOf (waitingOf ws) ≡ n + countOf (waitingOf (drop k ws))
+
+abbrev μ-loop : tie.MeasureT-loop
+μ-loop ws n₀ k₀ n k = length ws - k
+
+loop-holds : tie.Need-loop-holds Inv-loop μ-loop
+loop-holds c = sym (zero-add (countOf (waitingOf (c .args .ws .now))))
+
+mul-n : tie.Need-mul-n Inv-loop μ-loop
+mul-n c = search needs
+
+shared-slice-read-n : tie.Need-shared-slice-read-n Inv-loop μ-loop
+shared-slice-read-n c = search needs
+
+-- what this turn counts
+step : (c : tie.After-shared-slice-known Inv-loop μ-loop)
+    → countOf (waitingOf (drop (c .before .before .loop .k) (c .before .before .before .args .ws .now)))
+    ≡ ones (getD (c .before .before .before .args .ws .now) (c .before .before .loop .k) 0)
+    + countOf (waitingOf (drop (c .before .before .loop .k + 1) (c .before .before .before .args .ws .now)))
+step c =
+    count-word (c .before .before .before .args .ws .now) (c .before .before .loop .k) (c .before .loop-test .taken)
+    (c .shared-slice-known .given (c .before .before .loop .k) .fits)
+
+cast-n : tie.Need-cast-n Inv-loop μ-loop
+cast-n c = omega (arith, step c, count-words-le (c .before .before .before .args .ws .now))
+
+add-n : tie.Need-add-n Inv-loop μ-loop
+add-n c = omega (arith, step c, count-words-le (c .before .before .before .args .ws .now))
+
+add-k : tie.Need-add-k Inv-loop μ-loop
+add-k c = search needs
+
+loop-less : tie.Need-loop-less Inv-loop μ-loop
+loop-less c = search needs
+
+loop-again : tie.Need-loop-again Inv-loop μ-loop
+loop-again c = omega (arith, step c)
+
+returns : tie.Need-returns Inv-loop μ-loop
+returns c = omega (arith, count-end (c .before .before .args .ws .now) (c .before .loop .k) (c .loop-test .left))
+
+pub count-spec : {M : Type 1} → statement M
+count-spec =
+    tie.close
+    (tie.spec
+    Inv-loop
+    μ-loop
+    loop-holds
+    mul-n
+    shared-slice-read-n
+    cast-n
+    add-n
+    add-k
+    loop-less
+    loop-again
+    returns)
