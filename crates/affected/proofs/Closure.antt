@@ -1,0 +1,140 @@
+-- The closure of affected vertices: its test agrees with its record, marks that sweeps make are in it, marks that are closed have all of
+-- it, and the order of records does not matter to it. Assumes nothing.
+--
+--   Named P es fs s ws ms    == each mark of ms is of an affected vertex
+--   Closed P es fs s ws ms   == each edge that would mark its head finds it marked
+--   Same es es'              == the two lists have the same edges
+use mathlib.Core.Path.{_≡_, refl, sym, ap, _∙_}
+use mathlib.Core.Logic.{_↔_, _≢_}
+use mathlib.Core.Bool.{Bool, true, false, not, _||_, cond, false≢true}
+use mathlib.Core.List.{List, [], _∷_, foldl, List·Memᴰ, List·Memᴰ·head, List·Memᴰ·tail}
+use Prim.Native.Nat.{ℕ, zero, suc, _<_}
+use native.Mathlib.Decide.{ℕ-discrete}
+use lib.ListN.{set}
+use lib.Seq.{getD-set-other}
+use lib.Dec.{eqb}
+use borrow.Author.Tests.{eqb-true, eqb-false, eq-eqb, ne-eqb, not-true}
+use Rattle.property.specs.Property.{Property}
+use Rattle.property.proofs.Tests.{is-false}
+use Rattle.graph.specs.Edge.{Edge, among}
+use Rattle.graph.proofs.Tests.{both, and-true, or-right}
+use Rattle.graph.proofs.Edges.{among-mem, mem-among}
+use Rattle.graph.proofs.Order.{Within}
+use Rattle.run.specs.Run.{word, tight}
+use Rattle.affected.specs.Affected.{removed, Held, Affected, struck, onward, held, marked, touches, mark, sweep, sweeps}
+
+-- ---- tests
+
+-- two tests that hold together are the same
+pub same-test : (a b : Bool) → (a ≡ true) ↔ (b ≡ true) → a ≡ b
+same-test true b h = sym (h .0 refl)
+same-test false b h = sym (is-false b (λ q. false≢true (h .1 q)))
+
+-- ---- the test and the record
+
+module _ (P : Property) (s : ℕ) (ws : List ℕ) (e : Edge) where
+  pub held-of : held P s ws e ≡ true → Held P s ws e
+  held-of h =
+      let a = both (tight P ws e) _ h in
+      let b = both (not (eqb (e .head) s)) (not (eqb (word P ws (e .head)) (P .none))) (a .1) in record {
+        tight = eqb-true _ _ (a .0);
+        elsewhere = eqb-false _ _ (not-true _ (b .0));
+        routed = eqb-false _ _ (not-true _ (b .1));
+      }
+
+  pub of-held : Held P s ws e → held P s ws e ≡ true
+  of-held h = and-true (eq-eqb _ _ (h .tight)) (and-true (ap not (ne-eqb _ _ (h .elsewhere))) (ap not (ne-eqb _ _ (h .routed))))
+
+-- ---- what marks say
+
+abbrev pub Named : Property → List Edge → List Edge → ℕ → List ℕ → List Bool → Type 0
+Named P es fs s ws ms = (t : ℕ) → marked ms t ≡ true → Affected P es fs s ws t
+
+abbrev pub Closed : Property → List Edge → List Edge → ℕ → List ℕ → List Bool → Type 0
+Closed P es fs s ws ms = (e : Edge) → List·Memᴰ e es → touches P fs s ws ms e ≡ true → marked ms (e .head) ≡ true
+
+module _ (P : Property) (es fs : List Edge) (s : ℕ) (ws : List ℕ) where
+  -- ---- sweeps mark affected vertices alone
+
+  touches-named : (ms : List Bool) (e : Edge) → Named P es fs s ws ms → List·Memᴰ e es → touches P fs s ws ms e ≡ true
+      → Affected P es fs s ws (e .head)
+  touches-named ms e g m h = let a = both (held P s ws e) _ h in pick (held-of P s ws e (a .0)) (removed fs e) refl (a .1)
+    where
+      pick : Held P s ws e → (b : Bool) → removed fs e ≡ b → (b || marked ms (e .tail)) ≡ true → Affected P es fs s ws (e .head)
+      pick k true r q = struck m r k
+      pick k false r q = onward (g (e .tail) q) m r k
+
+  mark-named : (ms : List Bool) (e : Edge) → Named P es fs s ws ms → List·Memᴰ e es → Named P es fs s ws (mark P fs s ws ms e)
+  unfolding mark
+  mark-named ms e g m = pick (touches P fs s ws ms e) refl
+    where
+      pick : (b : Bool) → touches P fs s ws ms e ≡ b → Named P es fs s ws (cond b (set ms (e .head) true) ms)
+      pick false h t q = g t q
+      pick true h t q = place (ℕ-discrete t (e .head))
+        where
+          place : Dec (t ≡ e .head) → Affected P es fs s ws t
+          place (yes p) = rw p (touches-named ms e g m h)
+          place (no d) = g t (sym (getD-set-other ms (e .head) t true false d) ∙ q)
+
+  fold-named : (xs : List Edge) (ms : List Bool) → ((e : Edge) → List·Memᴰ e xs → List·Memᴰ e es)
+      → Named P es fs s ws ms → Named P es fs s ws (foldl (mark P fs s ws) ms xs)
+  fold-named [] ms sub g = g
+  fold-named (x ∷ xs) ms sub g =
+      fold-named xs (mark P fs s ws ms x) (λ e m. sub e (List·Memᴰ·tail m)) (mark-named ms x g (sub x (List·Memᴰ·head refl)))
+
+  pub sweep-named : (ms : List Bool) → Named P es fs s ws ms → Named P es fs s ws (sweep P es fs s ws ms)
+  unfolding sweep
+  sweep-named ms g = fold-named es ms (λ e m. m) g
+
+  pub sweeps-named : (k : ℕ) (ms : List Bool) → Named P es fs s ws ms → Named P es fs s ws (sweeps P es fs s ws k ms)
+  unfolding sweeps
+  sweeps-named zero ms g = g
+  sweeps-named (suc k) ms g = sweeps-named k (sweep P es fs s ws ms) (sweep-named ms g)
+
+  -- ---- closed marks have every affected vertex
+
+  pub closed-marked : (ms : List Bool) → Closed P es fs s ws ms → {t : ℕ} → Affected P es fs s ws t → marked ms t ≡ true
+  closed-marked ms c (struck {e = e} m r h) = c e m (and-true (of-held P s ws e h) (rw r))
+  closed-marked ms c (onward {e = e} a m r h) = c e m (and-true (of-held P s ws e h) (or-right (removed fs e) (closed-marked ms c a)))
+
+  -- ---- whom the closure never has
+
+  affected-elsewhere : {t : ℕ} → Affected P es fs s ws t → t ≢ s
+  affected-elsewhere (struck m r h) = h .elsewhere
+  affected-elsewhere (onward a m r h) = h .elsewhere
+
+  -- the landmark is never affected
+  pub landmark-unaffected : Affected P es fs s ws s → ⊥
+  landmark-unaffected a = affected-elsewhere a refl
+
+  pub affected-below : {n t : ℕ} → Within n es → Affected P es fs s ws t → t < n
+  affected-below inside (struck {e = e} m r h) = inside .heads e m
+  affected-below inside (onward {e = e} a m r h) = inside .heads e m
+
+-- ---- the order of records
+
+abbrev pub Same : List Edge → List Edge → Type 0
+Same es es' = (e : Edge) → List·Memᴰ e es ↔ List·Memᴰ e es'
+
+pub same-refl : (es : List Edge) → Same es es
+same-refl es e = (λ m. m, λ m. m)
+
+pub same-back : {es es' : List Edge} → Same es es' → Same es' es
+same-back p e = (p e .1, p e .0)
+
+pub same-within : {n : ℕ} {es es' : List Edge} → Same es es' → Within n es → Within n es'
+same-within p inside = record {
+  tails = λ e m. inside .tails e (p e .1 m);
+  heads = λ e m. inside .heads e (p e .1 m);
+  weights = λ e m. inside .weights e (p e .1 m);
+}
+
+removed-order : {fs fs' : List Edge} → Same fs fs' → (e : Edge) → removed fs e ≡ removed fs' e
+removed-order {fs} {fs'} q e = ap not (same-test (among fs e) (among fs' e)
+    (λ h. mem-among (q e .0 (among-mem fs e h)), λ h. mem-among (q e .1 (among-mem fs' e h))))
+
+-- The closure asks of the lists only which edges are in them: each of its two rules carries over edge by edge.
+pub affected-order : {P : Property} {es es' fs fs' : List Edge} {s t : ℕ} {ws : List ℕ} → Same es es' → Same fs fs'
+    → Affected P es fs s ws t → Affected P es' fs' s ws t
+affected-order p q (struck {e = e} m r h) = struck (p e .0 m) (sym (removed-order q e) ∙ r) h
+affected-order p q (onward {e = e} a m r h) = onward (affected-order p q a) (p e .0 m) (sym (removed-order q e) ∙ r) h

@@ -1,0 +1,93 @@
+-- Affected vertices of small networks, computed: document 01, "Near the edges, and a small deck". Assumes nothing.
+use mathlib.Core.Path.{_≡_, refl}
+use mathlib.Core.Bool.{Bool, true, false}
+use mathlib.Core.List.{List, [], _∷_, map}
+use Prim.Native.Nat.{ℕ}
+use Rattle.property.specs.Property.{M, sssp, sswp, ssr}
+use Rattle.graph.specs.Edge.{Edge, edge, reverse, exists}
+use Rattle.graph.specs.Table.{insert, delete}
+use Rattle.run.specs.Run.{tight}
+use Rattle.affected.specs.Affected.{mark, sweep, sweeps, affected}
+
+nobody : List Bool
+nobody = false ∷ false ∷ false ∷ false ∷ []
+
+-- ---- deck A, landmark 0, of which 0→1 is taken
+
+graphA : List Edge
+graphA = edge 0 1 4 ∷ edge 0 3 9 ∷ edge 1 2 4 ∷ edge 2 1 4 ∷ edge 3 2 2 ∷ []
+
+less : List Edge
+less = delete (edge 0 1 0) graphA
+
+time : List ℕ
+time = 0 ∷ 4 ∷ 8 ∷ 9 ∷ []
+
+widths : List ℕ
+widths = M ∷ 4 ∷ 4 ∷ 9 ∷ []
+
+-- 1 lost the edge that gives its time, and 2 has its own from 1
+take-time : affected sssp graphA less 0 time 4 ≡ false ∷ true ∷ true ∷ false ∷ []
+unfolding affected sweeps sweep mark exists delete graphA less time
+take-time = refl
+
+-- the ring 1→2→1 of equal words cannot uphold itself
+take-widths : affected sswp graphA less 0 widths 4 ≡ false ∷ true ∷ true ∷ false ∷ []
+unfolding affected sweeps sweep mark exists delete graphA less widths
+take-widths = refl
+
+-- the backward row: nobody has a way to 0, and the edge that goes was into 0 as that row sees it
+take-backward : affected sssp (map reverse graphA) (map reverse less) 0 (0 ∷ M ∷ M ∷ M ∷ []) 4 ≡ nobody
+unfolding affected sweeps sweep mark exists delete graphA less nobody
+take-backward = refl
+
+-- taken and added back: the new table has the same three words, so nothing is removed
+back : affected sssp graphA (insert (edge 0 1 4) less) 0 time 4 ≡ nobody
+unfolding affected sweeps sweep mark exists insert delete graphA less time nobody
+back = refl
+
+-- added back with another weight: the edge that was there is removed
+reweighed : affected sssp graphA (insert (edge 0 1 3) less) 0 time 4 ≡ false ∷ true ∷ true ∷ false ∷ []
+unfolding affected sweeps sweep mark exists insert delete graphA less time
+reweighed = refl
+
+-- an edge that is removed without being tight affects nobody
+slack : affected sssp graphA (delete (edge 3 2 0) graphA) 0 time 4 ≡ nobody
+unfolding affected sweeps sweep mark exists delete graphA time nobody
+slack = refl
+
+-- ---- heads that are never affected
+
+apart : List Edge
+apart = edge 1 2 4 ∷ []
+
+-- going along an edge between two vertices without a route gives the head's word, which is no route ..
+apart-tight : tight sssp (0 ∷ M ∷ M ∷ []) (edge 1 2 4) ≡ true
+apart-tight = refl
+
+-- .. and its removal still affects nobody
+apart-taken : affected sssp apart [] 0 (0 ∷ M ∷ M ∷ []) 3 ≡ false ∷ false ∷ false ∷ []
+unfolding affected sweeps sweep mark exists apart
+apart-taken = refl
+
+ring : List Edge
+ring = edge 0 1 1 ∷ edge 1 0 1 ∷ []
+
+-- a tight edge into the landmark ..
+ring-tight : tight ssr (1 ∷ 1 ∷ []) (edge 1 0 1) ≡ true
+ring-tight = refl
+
+-- .. affects nobody: the landmark has its word from itself
+ring-taken : affected ssr ring (delete (edge 1 0 0) ring) 0 (1 ∷ 1 ∷ []) 2 ≡ false ∷ false ∷ []
+unfolding affected sweeps sweep mark exists delete ring
+ring-taken = refl
+
+-- ---- two tight edges into a head
+
+diamond : List Edge
+diamond = edge 0 1 1 ∷ edge 0 2 1 ∷ edge 1 3 1 ∷ edge 2 3 1 ∷ []
+
+-- 3 is affected by the removal of 1→3, though 1 is not and 2→3 stays
+diamond-taken : affected sssp diamond (delete (edge 1 3 0) diamond) 0 (0 ∷ 1 ∷ 1 ∷ 2 ∷ []) 4 ≡ false ∷ false ∷ false ∷ true ∷ []
+unfolding affected sweeps sweep mark exists delete diamond
+diamond-taken = refl

@@ -1,0 +1,4 @@
+pub mod Closure
+pub mod Sweeps
+pub mod Examples
+pub mod Batch

@@ -1,0 +1,200 @@
+-- Sweeps come to rest, and where they rest the marks are exactly the closure. Assumes nothing.
+--
+--   Swept xs ms ls   == ls, the marks after edges xs were gone over from ms, are those before and closed, or they are more
+use mathlib.Core.Path.{_≡_, refl, sym, ap, _∙_}
+use mathlib.Core.Logic.{_↔_, _⊎_, inl, inr, ⊎-elim, _≢_}
+use mathlib.Core.Bool.{Bool, true, false, cond, true≢false, false≢true}
+use mathlib.Core.List.{List, [], _∷_, foldl, List·Memᴰ, List·Memᴰ·head, List·Memᴰ·tail}
+use mathlib.Core.List.{List·Memᴰ·cases-cons, List·Memᴰ·not-nil, List·Memᴰ·eq-of-singleton}
+use Prim.Native.Nat.{ℕ, zero, suc, _+_, _≤_, _<_}
+use native.Mathlib.Omega.{arith}
+use lib.ListN.{length, set, replicate, length-set, length-replicate}
+use lib.Seq.{set-getD, ext-getD}
+use borrow.Author.Tests.{eqb-true, not-false}
+use Rattle.property.specs.Property.{Property}
+use Rattle.property.proofs.Tests.{is-false}
+use Rattle.frontier.specs.Waiting.{countOf}
+use Rattle.frontier.proofs.Counts.{count-le}
+use Rattle.frontier.proofs.Laws.{count-insert}
+use Rattle.graph.specs.Edge.{Edge}
+use Rattle.graph.proofs.Lists.{fold-keeps}
+use Rattle.graph.proofs.Edges.{among-mem}
+use Rattle.graph.proofs.Order.{Within}
+use Rattle.run.specs.Run.{word, tight}
+use Rattle.affected.specs.Affected.{removed, Held, Affected, struck, onward, marked, touches, mark, sweep, sweeps, affected}
+use Rattle.affected.proofs.Closure.{same-test, Named, Closed, sweeps-named, closed-marked, landmark-unaffected}
+use Rattle.affected.proofs.Closure.{Same, same-back, same-within, affected-order}
+
+module _ (P : Property) (es fs : List Edge) (s : ℕ) (ws : List ℕ) where
+  -- ---- sweeps keep the length
+
+  mark-length : (n : ℕ) (ms : List Bool) (e : Edge) → length ms ≡ n → length (mark P fs s ws ms e) ≡ n
+  unfolding mark
+  mark-length n ms e h = pick (touches P fs s ws ms e)
+    where
+      pick : (b : Bool) → length (cond b (set ms (e .head) true) ms) ≡ n
+      pick true = length-set ms (e .head) true ∙ h
+      pick false = h
+
+  pub sweep-length : (ms : List Bool) → length (sweep P es fs s ws ms) ≡ length ms
+  unfolding sweep
+  sweep-length ms = fold-keeps (λ l. length l ≡ length ms) (mark P fs s ws) (mark-length (length ms)) es ms refl
+
+  pub sweeps-length : (k : ℕ) (ms : List Bool) → length (sweeps P es fs s ws k ms) ≡ length ms
+  unfolding sweeps
+  sweeps-length zero ms = refl
+  sweeps-length (suc k) ms = sweeps-length k (sweep P es fs s ws ms) ∙ sweep-length ms
+
+  pub affected-length : (n : ℕ) → length (affected P es fs s ws n) ≡ n
+  unfolding affected
+  affected-length n = sweeps-length n (replicate n false) ∙ length-replicate n false
+
+  -- ---- a sweep leaves the marks as they are, or adds one
+
+  abbrev Swept : List Edge → List Bool → List Bool → Type 0
+  Swept xs ms ls = ((ls ≡ ms) × Closed P xs fs s ws ms) ⊎ (countOf ms < countOf ls)
+
+  mark-swept : (ms : List Bool) (x : Edge) → x .head < length ms → Swept (x ∷ []) ms (mark P fs s ws ms x)
+  unfolding mark
+  mark-swept ms x l = pick (touches P fs s ws ms x) refl (marked ms (x .head)) refl
+    where
+      only : (touches P fs s ws ms x ≡ true → marked ms (x .head) ≡ true) → Closed P (x ∷ []) fs s ws ms
+      only c e m = rw (List·Memᴰ·eq-of-singleton m) c
+
+      pick : (b : Bool) → touches P fs s ws ms x ≡ b → (a : Bool) → marked ms (x .head) ≡ a → Swept (x ∷ []) ms (cond b (set ms (x .head) true) ms)
+      pick false h a q = inl (refl, only (λ k. absurd (true≢false (sym k ∙ h))))
+      pick true h true q = inl (ap (set ms (x .head)) (sym q) ∙ set-getD ms (x .head) false, only (λ k. q))
+      pick true h false q = inr (let g = count-insert ms (x .head) l q in omega arith)
+
+  fold-swept : (n : ℕ) (xs : List Edge) → ((e : Edge) → List·Memᴰ e xs → e .head < n)
+      → (ms : List Bool) → length ms ≡ n → Swept xs ms (foldl (mark P fs s ws) ms xs)
+  fold-swept n [] heads ms h = inl (refl, λ e m. absurd (List·Memᴰ·not-nil m))
+  fold-swept n (x ∷ xs) heads ms h = pick (mark-swept ms x (omega (arith, heads x (List·Memᴰ·head refl))))
+      (fold-swept n xs (λ e m. heads e (List·Memᴰ·tail m)) ms h)
+      (fold-swept n xs (λ e m. heads e (List·Memᴰ·tail m)) next (mark-length n ms x h))
+    where
+      next : List Bool
+      next = mark P fs s ws ms x
+
+      pick : Swept (x ∷ []) ms next → Swept xs ms (foldl (mark P fs s ws) ms xs) → Swept xs next (foldl (mark P fs s ws) next xs)
+          → Swept (x ∷ xs) ms (foldl (mark P fs s ws) next xs)
+      pick (inl (q, c)) (inl (r, d)) w = inl (rw q r, λ e m. ⊎-elim (λ p. c e (List·Memᴰ·head p)) (d e) (List·Memᴰ·cases-cons m))
+      pick (inl (q, c)) (inr l) w = inr (rw q l)
+      pick (inr g) v (inl (r, d)) = inr (let z : countOf (foldl (mark P fs s ws) next xs) ≡ countOf next = ap countOf r in omega arith)
+      pick (inr g) v (inr l) = inr (omega arith)
+
+  -- ---- sweeps come to rest
+
+  -- once a sweep changes nothing, none does
+  pub sweeps-still : (k : ℕ) (ms : List Bool) → sweep P es fs s ws ms ≡ ms → sweeps P es fs s ws k ms ≡ ms
+  unfolding sweeps
+  sweeps-still zero ms q = refl
+  sweeps-still (suc k) ms q = ap (sweeps P es fs s ws k) q ∙ sweeps-still k ms q
+
+  still-rest : (k : ℕ) (ms : List Bool) → sweep P es fs s ws ms ≡ ms → sweep P es fs s ws (sweeps P es fs s ws k ms) ≡ sweeps P es fs s ws k ms
+  still-rest k ms q = rw (sweeps-still k ms q) q
+
+  module _ (n : ℕ) (inside : Within n es) where
+    sweep-swept : (ms : List Bool) → length ms ≡ n → Swept es ms (sweep P es fs s ws ms)
+    unfolding sweep
+    sweep-swept ms h = fold-swept n es (inside .heads) ms h
+
+    -- a sweep that changes nothing finds the marks closed
+    pub still-closed : (ms : List Bool) → length ms ≡ n → sweep P es fs s ws ms ≡ ms → Closed P es fs s ws ms
+    still-closed ms h q = ⊎-elim (λ r. r .1) (λ l. absurd (let z = ap countOf q in omega arith)) (sweep-swept ms h)
+
+    -- With k sweeps to come there are at most k vertices without a mark. A sweep that changes something marks one of them, so k - 1
+    -- are left with k - 1 sweeps to come. A sweep that changes nothing is the last that could. Where no vertex is without a mark,
+    -- there is none to add.
+    pub sweeps-rest : (k : ℕ) (ms : List Bool) → length ms ≡ n → n ≤ countOf ms + k
+        → sweep P es fs s ws (sweeps P es fs s ws k ms) ≡ sweeps P es fs s ws k ms
+    unfolding sweeps
+    sweeps-rest zero ms h l = ⊎-elim (λ r. r .0) (λ g. absurd (omega (arith, count-le (sweep P es fs s ws ms), sweep-length ms))) (sweep-swept ms h)
+    sweeps-rest (suc k) ms h l =
+        ⊎-elim (λ r. still-rest (suc k) ms (r .0)) (λ g. sweeps-rest k (sweep P es fs s ws ms) (sweep-length ms ∙ h) (omega arith)) (sweep-swept ms h)
+
+    -- a further sweep finds nothing: n of them are enough
+    pub affected-still : sweep P es fs s ws (affected P es fs s ws n) ≡ affected P es fs s ws n
+    unfolding affected
+    affected-still = sweeps-rest n (replicate n false) (length-replicate n false) (omega arith)
+
+-- ---- the marks are the closure
+
+none-marked : (n t : ℕ) → marked (replicate n false) t ≡ false
+none-marked zero t = refl
+none-marked (suc n) zero = refl
+none-marked (suc n) (suc t) = none-marked n t
+
+-- two lists that mark the same vertices
+same-marks : (ms ls : List Bool) → length ms ≡ length ls → ((t : ℕ) → (marked ms t ≡ true) ↔ (marked ls t ≡ true)) → ms ≡ ls
+same-marks ms ls h f = ext-getD false ms ls h (λ t l. same-test (marked ms t) (marked ls t) (f t))
+
+module _ (P : Property) (es fs : List Edge) (s : ℕ) (ws : List ℕ) (n : ℕ) where
+  -- the affected vertices, as marks
+  abbrev marks : List Bool
+  marks = affected P es fs s ws n
+
+  -- sweeps start from no marks and add only those of affected vertices
+  pub affected-named : Named P es fs s ws marks
+  unfolding affected
+  affected-named = sweeps-named P es fs s ws n (replicate n false) (λ t q. absurd (false≢true (sym (none-marked n t) ∙ q)))
+
+  pub unaffected-unmarked : (t : ℕ) → (Affected P es fs s ws t → ⊥) → marked marks t ≡ false
+  unaffected-unmarked t d = is-false (marked marks t) (λ q. d (affected-named t q))
+
+  -- the landmark is never marked
+  pub landmark-safe : marked marks s ≡ false
+  landmark-safe = unaffected-unmarked s (landmark-unaffected P es fs s ws)
+
+  module _ (inside : Within n es) where
+    pub named-affected : {t : ℕ} → Affected P es fs s ws t → marked marks t ≡ true
+    named-affected a = closed-marked P es fs s ws marks
+        (still-closed P es fs s ws n inside marks (affected-length P es fs s ws n) (affected-still P es fs s ws n inside)) a
+
+    -- The computed marks are the inductive closure. Each sweep marks only what the closure names. After n sweeps a further one would
+    -- change nothing, so the marks are closed under both rules of the closure, and by induction along these rules they have all
+    -- that it names.
+    pub affected-exact : (t : ℕ) → (marked marks t ≡ true) ↔ Affected P es fs s ws t
+    affected-exact t = (affected-named t, named-affected)
+
+    -- Seen from a head that is not marked: a held edge into it stays, and its tail is not marked either. A removed one would have
+    -- marked the head, and so would a marked tail.
+    pub held-closed : (e : Edge) → List·Memᴰ e es → Held P s ws e → marked marks (e .head) ≡ false
+        → List·Memᴰ e fs × (marked marks (e .tail) ≡ false)
+    held-closed e m h q = pick (removed fs e) refl
+      where
+        clash : Affected P es fs s ws (e .head) → ⊥
+        clash a = true≢false (sym (named-affected a) ∙ q)
+
+        pick : (b : Bool) → removed fs e ≡ b → List·Memᴰ e fs × (marked marks (e .tail) ≡ false)
+        pick true r = absurd (clash (struck m r h))
+        pick false r = (among-mem fs e (not-false _ r), unaffected-unmarked (e .tail) (λ a. clash (onward a m r h)))
+
+    -- the same, part by part
+    pub affected-closed : (e : Edge) → List·Memᴰ e es → tight P ws e ≡ true → e .head ≢ s → word P ws (e .head) ≢ P .none
+        → marked marks (e .head) ≡ false → List·Memᴰ e fs × (marked marks (e .tail) ≡ false)
+    affected-closed e m t d w q = held-closed e m (record { tight = eqb-true _ _ t; elsewhere = d; routed = w }) q
+
+    -- ---- any marks that are named and closed
+
+    -- What a program has to show that spreads marks in any order: it marks affected vertices alone, and no edge is left that would
+    -- mark its head. Then it has marked what the sweeps mark, since both have exactly the closure.
+    pub closed-exact : (ms : List Bool) → length ms ≡ n → Named P es fs s ws ms → Closed P es fs s ws ms → ms ≡ marks
+    closed-exact ms h g c = same-marks ms marks (h ∙ sym (affected-length P es fs s ws n))
+        (λ t. (λ q. named-affected (g t q), λ q. closed-marked P es fs s ws ms c (affected-named t q)))
+
+    pub fixed-exact : (ms : List Bool) → length ms ≡ n → Named P es fs s ws ms → sweep P es fs s ws ms ≡ ms → ms ≡ marks
+    fixed-exact ms h g q = closed-exact ms h g (still-closed P es fs s ws n inside ms h q)
+
+-- ---- the order of records
+
+carried : (P : Property) (es es' fs fs' : List Edge) (s : ℕ) (ws : List ℕ) (n : ℕ) → Within n es' → Same es es' → Same fs fs'
+    → (t : ℕ) → marked (affected P es fs s ws n) t ≡ true → marked (affected P es' fs' s ws n) t ≡ true
+carried P es es' fs fs' s ws n inside p q t h = named-affected P es' fs' s ws n inside (affected-order p q (affected-named P es fs s ws n t h))
+
+-- lists with the same edges have the same marks, since they have the same closure
+pub marks-order : (P : Property) (es es' fs fs' : List Edge) (s : ℕ) (ws : List ℕ) (n : ℕ) → Within n es → Same es es' → Same fs fs'
+    → affected P es fs s ws n ≡ affected P es' fs' s ws n
+marks-order P es es' fs fs' s ws n inside p q =
+    same-marks (affected P es fs s ws n) (affected P es' fs' s ws n) (affected-length P es fs s ws n ∙ sym (affected-length P es' fs' s ws n))
+    (λ t. (carried P es es' fs fs' s ws n (same-within p inside) p q t, carried P es' es fs' fs s ws n inside (same-back p) (same-back q) t))

@@ -1,0 +1,70 @@
+-- Affected vertices of a row ("suspects"): document 01, "Batch". Assumes nothing.
+--
+-- es is the list of edges before the batch, fs the list after it, s the landmark of the row, ws its words.
+--
+--   removed fs e            == e, an edge of es, is "removed": not in the new list, by its three words
+--   added es e              == e, an edge of fs, is "added": not in the old list
+--   Held P s ws e           == e is tight, and its head is not the landmark and has a route
+--   Affected P es fs s ws t == t is affected: the head of a removed held edge, and so on along held edges that stay
+--   held P s ws e           == the same as Held, as a test
+--   marked ms t             == t is marked
+--   touches .. ms e         == e marks its head: held, and removed or its tail is marked
+--   sweep .. ms             == one pass over the old edges, each marking its head where it does
+--   sweeps .. k ms          == k passes
+--   affected P es fs s ws n == the affected ones of n vertices, as marks: n passes find all
+use mathlib.Core.Path.{_≡_}
+use mathlib.Core.Logic.{_≢_}
+use mathlib.Core.Bool.{Bool, true, false, not, _&&_, _||_, cond}
+use mathlib.Core.List.{List, [], _∷_, foldl, List·Memᴰ}
+use Prim.Native.Nat.{ℕ, zero, suc}
+use lib.ListN.{getD, set, replicate}
+use lib.Dec.{eqb}
+use Rattle.property.specs.Property.{Property}
+use Rattle.graph.specs.Edge.{Edge, among}
+use Rattle.run.specs.Run.{word, tight}
+
+-- ---- the net effect of a batch
+
+abbrev pub removed : List Edge → Edge → Bool
+removed fs e = not (among fs e)
+
+abbrev pub added : List Edge → Edge → Bool
+added es e = not (among es e)
+
+-- ---- the closure, as document 01 names it
+
+pub record Held (P : Property) (s : ℕ) (ws : List ℕ) (e : Edge) : Type 0 where
+  pub tight : P .along (word P ws (e .tail)) (e .weight) ≡ word P ws (e .head)
+  pub elsewhere : e .head ≢ s
+  pub routed : word P ws (e .head) ≢ P .none
+
+pub data Affected (P : Property) (es fs : List Edge) (s : ℕ) (ws : List ℕ) : ℕ → Type 0 where
+  struck : {e : Edge} → List·Memᴰ e es → removed fs e ≡ true → Held P s ws e → Affected P es fs s ws (e .head)
+  onward : {e : Edge} → Affected P es fs s ws (e .tail) → List·Memᴰ e es → removed fs e ≡ false → Held P s ws e
+      → Affected P es fs s ws (e .head)
+
+-- ---- as marks that compute
+
+abbrev pub held : Property → ℕ → List ℕ → Edge → Bool
+held P s ws e = tight P ws e && (not (eqb (e .head) s) && not (eqb (word P ws (e .head)) (P .none)))
+
+abbrev pub marked : List Bool → ℕ → Bool
+marked ms t = getD ms t false
+
+module _ (P : Property) (fs : List Edge) (s : ℕ) (ws : List ℕ) where
+  abbrev pub touches : List Bool → Edge → Bool
+  touches ms e = held P s ws e && (removed fs e || marked ms (e .tail))
+
+  unfoldable pub mark : List Bool → Edge → List Bool
+  mark ms e = cond (touches ms e) (set ms (e .head) true) ms
+
+module _ (P : Property) (es fs : List Edge) (s : ℕ) (ws : List ℕ) where
+  unfoldable pub sweep : List Bool → List Bool
+  sweep ms = foldl (mark P fs s ws) ms es
+
+  unfoldable pub sweeps : ℕ → List Bool → List Bool
+  sweeps zero ms = ms
+  sweeps (suc k) ms = sweeps k (sweep ms)
+
+  unfoldable pub affected : ℕ → List Bool
+  affected n = sweeps n (replicate n false)

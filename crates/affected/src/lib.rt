@@ -1,0 +1,1 @@
+// Affected vertices: definitions that the contracts of the calls cite.

@@ -1,0 +1,6 @@
+pub mod Decimal
+pub mod Lines
+pub mod Read
+pub mod Network
+pub mod Sources
+pub mod Call

@@ -1,0 +1,87 @@
+-- Lists of edges: those that pass a test, whether one does, membership by the three words, reversed lists. Assumes nothing.
+use mathlib.Core.Path.{_≡_, refl, sym, ap, _∙_}
+use mathlib.Core.Logic.{_⊎_, inl, inr, ⊎-elim}
+use mathlib.Core.Bool.{Bool, true, false, _||_, false≢true}
+use mathlib.Core.List.{List, [], _∷_, map, List·Memᴰ, List·Memᴰ·head, List·Memᴰ·tail, List·Memᴰ·cases-cons, List·Memᴰ·not-nil}
+use Prim.Native.Nat.{ℕ}
+use lib.Dec.{eqb}
+use Rattle.graph.specs.Edge.{Edge, reverse, same, keepIf, keep, exists, among, leaving}
+use borrow.Author.Tests.{eqb-true, eq-eqb}
+use Rattle.graph.proofs.Tests.{both}
+
+-- ---- keep
+
+pub keep-in : (f : Edge → Bool) (es : List Edge) (x : Edge) → List·Memᴰ x (keep f es) → List·Memᴰ x es × (f x ≡ true)
+unfolding keep keepIf
+keep-in f [] x m = absurd (List·Memᴰ·not-nil m)
+keep-in f (e ∷ es) x m = pick (λ k. keep-in f es x k) (f e) refl m
+  where
+    pick : (List·Memᴰ x (keep f es) → List·Memᴰ x es × (f x ≡ true)) → (b : Bool) → f e ≡ b → List·Memᴰ x (keepIf b e (keep f es)) → List·Memᴰ x (e ∷ es) × (f x ≡ true)
+    pick below true q k = ⊎-elim (λ p. (List·Memᴰ·head p, ap f p ∙ q)) (λ k′. let z = below k′ in (List·Memᴰ·tail (z .0), z .1)) (List·Memᴰ·cases-cons k)
+    pick below false q k = let z = below k in (List·Memᴰ·tail (z .0), z .1)
+
+pub in-keep : (f : Edge → Bool) {es : List Edge} {x : Edge} → List·Memᴰ x es → f x ≡ true → List·Memᴰ x (keep f es)
+unfolding keep keepIf
+in-keep f (List·Memᴰ·head {x = e} {xs = es} p) q = rw (sym (ap f p) ∙ q) (List·Memᴰ·head p)
+in-keep f {x = x} (List·Memᴰ·tail {x = e} {xs = es} m) q = pick (f e) (in-keep f m q)
+  where
+    pick : (b : Bool) → List·Memᴰ x (keep f es) → List·Memᴰ x (keepIf b e (keep f es))
+    pick true k = List·Memᴰ·tail k
+    pick false k = k
+
+pub leaving-in : (i : ℕ) (es : List Edge) (x : Edge) → List·Memᴰ x (leaving i es) → List·Memᴰ x es × (x .tail ≡ i)
+leaving-in i es x m = let z = keep-in (λ e. eqb (e .tail) i) es x m in (z .0, eqb-true _ _ (z .1))
+
+pub in-leaving : (i : ℕ) {es : List Edge} {x : Edge} → List·Memᴰ x es → x .tail ≡ i → List·Memᴰ x (leaving i es)
+in-leaving i m p = in-keep (λ e. eqb (e .tail) i) m (eq-eqb _ _ p)
+
+-- ---- exists
+
+pub exists-true : (f : Edge → Bool) (es : List Edge) → exists f es ≡ true → (e : Edge) × List·Memᴰ e es × (f e ≡ true)
+unfolding exists
+exists-true f [] h = absurd (false≢true h)
+exists-true f (o ∷ es) h = pick (λ k. exists-true f es k) (f o) refl h
+  where
+    pick : (exists f es ≡ true → (e : Edge) × List·Memᴰ e es × (f e ≡ true)) → (b : Bool) → f o ≡ b → (b || exists f es) ≡ true → (e : Edge) × List·Memᴰ e (o ∷ es) × (f e ≡ true)
+    pick below true q k = (o, List·Memᴰ·head refl, q)
+    pick below false q k = let (e, m, z) = below k in (e, List·Memᴰ·tail m, z)
+
+pub true-exists : (f : Edge → Bool) {es : List Edge} {e : Edge} → List·Memᴰ e es → f e ≡ true → exists f es ≡ true
+unfolding exists
+true-exists f (List·Memᴰ·head p) q = rw (sym (ap f p) ∙ q)
+true-exists f (List·Memᴰ·tail {x = o} {xs = es} m) q = pick (f o) (true-exists f m q)
+  where
+    pick : (b : Bool) → exists f es ≡ true → (b || exists f es) ≡ true
+    pick true k = refl
+    pick false k = k
+
+-- ---- membership by the three words
+
+same-eq : (e f : Edge) → same e f ≡ true → e ≡ f
+same-eq e f h =
+    let a = both (eqb (e .tail) (f .tail)) _ h in
+    let b = both (eqb (e .head) (f .head)) (eqb (e .weight) (f .weight)) (a .1) in
+    let p = eqb-true _ _ (a .0) in
+    let q = eqb-true _ _ (b .0) in
+    let r = eqb-true _ _ (b .1) in
+    λ i. record { tail = p i; head = q i; weight = r i }
+
+pub among-mem : (es : List Edge) (e : Edge) → among es e ≡ true → List·Memᴰ e es
+among-mem es e h = let (x, m, q) = exists-true (same e) es h in rw (same-eq e x q) m
+
+pub mem-among : {es : List Edge} {e : Edge} → List·Memᴰ e es → among es e ≡ true
+mem-among {e = e} m = true-exists (same e) m (rw (eq-eqb (e .tail) (e .tail) refl, eq-eqb (e .head) (e .head) refl, eq-eqb (e .weight) (e .weight) refl))
+
+-- ---- reversed lists
+
+pub mem-reverse : {es : List Edge} {e : Edge} → List·Memᴰ e es → List·Memᴰ (reverse e) (map reverse es)
+mem-reverse (List·Memᴰ·head p) = List·Memᴰ·head (ap reverse p)
+mem-reverse (List·Memᴰ·tail m) = List·Memᴰ·tail (mem-reverse m)
+
+pub reverse-mem : (es : List Edge) (e : Edge) → List·Memᴰ e (map reverse es) → List·Memᴰ (reverse e) es
+reverse-mem [] e m = absurd (List·Memᴰ·not-nil m)
+reverse-mem (o ∷ es) e m = pick (λ k. reverse-mem es e k) (List·Memᴰ·cases-cons m)
+  where
+    pick : (List·Memᴰ e (map reverse es) → List·Memᴰ (reverse e) es) → (e ≡ reverse o) ⊎ List·Memᴰ e (map reverse es) → List·Memᴰ (reverse e) (o ∷ es)
+    pick below (inl p) = List·Memᴰ·head (ap reverse p)
+    pick below (inr k) = List·Memᴰ·tail (below k)

@@ -1,0 +1,68 @@
+-- Lists: ranges, tables over them, stored places, folds. Assumes nothing.
+use mathlib.Core.Path.{_≡_, refl, ap, _∙_}
+use mathlib.Core.Logic.{_⊎_, inl, inr, _≢_}
+use mathlib.Core.List.{List, [], _∷_, map, foldl, List·Memᴰ, List·Memᴰ·head, List·Memᴰ·tail, List·Memᴰ·cases-cons, List·Memᴰ·not-nil}
+use Prim.Native.Nat.{ℕ, zero, suc, _+_, _<_}
+use native.Mathlib.Nat.{add-zero, zero-add}
+use native.Mathlib.Decide.{ℕ-discrete}
+use native.Mathlib.Omega.{arith}
+use lib.ListN.{getD, set, length, length-map}
+use lib.Seq.{getD-set-same, getD-set-other}
+use Rattle.graph.specs.Edge.{range}
+
+-- ---- ranges and tables over them
+
+pub length-range : (i n : ℕ) → length (range i n) ≡ n
+unfolding range
+length-range i zero = refl
+length-range i (suc n) = ap suc (length-range (suc i) n)
+
+pub mem-range : (i n t : ℕ) → t < n → List·Memᴰ (i + t) (range i n)
+unfolding range
+mem-range i zero t h = absurd (omega arith)
+mem-range i (suc n) zero h = let e : i + 0 ≡ i = omega arith in List·Memᴰ·head e
+mem-range i (suc n) (suc t) h =
+    let e : i + suc t ≡ suc i + t = omega arith in
+    let z : List·Memᴰ (i + suc t) (range (suc i) n) = rw e (mem-range (suc i) n t (omega arith)) in
+    List·Memᴰ·tail z
+
+pub mem-range-0 : (n t : ℕ) → t < n → List·Memᴰ t (range 0 n)
+mem-range-0 n t h = rw (zero-add t) at (mem-range 0 n t h)
+
+pub range-below : (i n t : ℕ) → List·Memᴰ t (range i n) → t < i + n
+unfolding range
+range-below i zero t m = absurd (List·Memᴰ·not-nil m)
+range-below i (suc n) t m = pick (List·Memᴰ·cases-cons m) (λ k. range-below (suc i) n t k)
+  where
+    pick : (t ≡ i) ⊎ List·Memᴰ t (range (suc i) n) → (List·Memᴰ t (range (suc i) n) → t < suc i + n) → t < i + suc n
+    pick (inl p) below = omega arith
+    pick (inr k) below = let z = below k in omega arith
+
+module _ {A : Type 0} (f : ℕ → A) where
+  pub length-table : (i n : ℕ) → length (map f (range i n)) ≡ n
+  length-table i n = length-map (range i n) f ∙ length-range i n
+
+  table-from : (i n t : ℕ) (d : A) → t < n → getD (map f (range i n)) t d ≡ f (i + t)
+  unfolding range
+  table-from i zero t d h = absurd (omega arith)
+  table-from i (suc n) zero d h = rw add-zero
+  table-from i (suc n) (suc t) d h = table-from (suc i) n t d (omega arith) ∙ ap f (omega arith)
+
+  pub table-at : (n t : ℕ) (d : A) → t < n → getD (map f (range 0 n)) t d ≡ f t
+  table-at n t d h = table-from 0 n t d h ∙ ap f (zero-add t)
+
+-- ---- a stored place and the others
+
+pub at-set : {A : Type 0} (l : List A) (h : ℕ) (v : A) (t : ℕ) (d : A) → h < length l
+    → ((t ≡ h) × (getD (set l h v) t d ≡ v)) ⊎ ((t ≢ h) × (getD (set l h v) t d ≡ getD l t d))
+at-set l h v t d b = go (ℕ-discrete t h)
+  where
+    go : Dec (t ≡ h) → ((t ≡ h) × (getD (set l h v) t d ≡ v)) ⊎ ((t ≢ h) × (getD (set l h v) t d ≡ getD l t d))
+    go (yes p) = inl (p, rw (p, getD-set-same l h v d b))
+    go (no n) = inr (n, getD-set-other l h t v d n)
+
+-- ---- what each step keeps, a fold keeps
+
+pub fold-keeps : {A B : Type 0} (Q : B → Type 0) (f : B → A → B) → ((b : B) (a : A) → Q b → Q (f b a)) → (l : List A) (b : B) → Q b → Q (foldl f b l)
+fold-keeps Q f k [] b q = q
+fold-keeps Q f k (a ∷ l) b q = fold-keeps Q f k l (f b a) (k b a q)

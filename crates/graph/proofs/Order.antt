@@ -1,0 +1,198 @@
+-- The table's rules: what they say of each edge, and that insert and delete keep them. Assumes nothing.
+use mathlib.Core.Path.{_≡_, refl, sym, ap, _∙_}
+use mathlib.Core.Logic.{_⊎_, inl, inr, ⊎-elim, _≢_}
+use mathlib.Core.Bool.{Bool, true, false, not, _&&_, _||_, cond, true≢false, false≢true}
+use mathlib.Core.List.{List, [], _∷_, List·Memᴰ, List·Memᴰ·head, List·Memᴰ·tail, List·Memᴰ·cases-cons, List·Memᴰ·not-nil}
+use Prim.Native.Nat.{ℕ, zero, suc, _≤_, _<_}
+use native.Mathlib.Decide.{ℕ-discrete, decLt}
+use native.Mathlib.Omega.{arith}
+use lib.ListN.{length}
+use lib.Dec.{ltb, leb, eqb}
+use Rattle.property.specs.Property.{M}
+use Rattle.graph.specs.Limits.{maxWeight}
+use Rattle.graph.specs.Refusal.{Verdict, accept, refuse, _▷_, refuseIf}
+use Rattle.graph.specs.Edge.{Edge, samePair, precedes, exists, present}
+use Rattle.graph.specs.Table.{isWeight, isEdge, follow, rules, insert, delete}
+use borrow.Author.Tests.{ltb-true, leb-true, eqb-true, not-false, lt-ltb, eq-eqb}
+use Rattle.graph.proofs.Tests.{both, and-true, neither}
+use Rattle.graph.proofs.Verdicts.{then-accept, accept-then, if-accept, accept-if}
+
+-- ---- the order of edges
+
+abbrev Less : Edge → Edge → Type 0
+Less e f = (e .tail < f .tail) ⊎ ((e .tail ≡ f .tail) × (e .head < f .head))
+
+less-of : (e f : Edge) → precedes e f ≡ true → Less e f
+less-of e f h = pick (ltb (e .tail) (f .tail)) refl h
+  where
+    pick : (b : Bool) → ltb (e .tail) (f .tail) ≡ b → (b || (eqb (e .tail) (f .tail) && ltb (e .head) (f .head))) ≡ true → Less e f
+    pick true q k = inl (ltb-true _ _ q)
+    pick false q k = let z = both (eqb (e .tail) (f .tail)) (ltb (e .head) (f .head)) k in inr (eqb-true _ _ (z .0), ltb-true _ _ (z .1))
+
+of-less : (e f : Edge) → Less e f → precedes e f ≡ true
+of-less e f (inl h) = rw (lt-ltb (e .tail) (f .tail) h)
+of-less e f (inr (p, h)) = pick (ltb (e .tail) (f .tail)) (and-true (eq-eqb _ _ p) (lt-ltb _ _ h))
+  where
+    pick : (b : Bool) → (eqb (e .tail) (f .tail) && ltb (e .head) (f .head)) ≡ true → (b || (eqb (e .tail) (f .tail) && ltb (e .head) (f .head))) ≡ true
+    pick true k = refl
+    pick false k = k
+
+precedes-trans : (e f g : Edge) → precedes e f ≡ true → precedes f g ≡ true → precedes e g ≡ true
+precedes-trans e f g h k = of-less e g (pick (less-of e f h) (less-of f g k))
+  where
+    pick : Less e f → Less f g → Less e g
+    pick (inl a) (inl b) = inl (omega arith)
+    pick (inl a) (inr b) = inl (let p = b .0 in omega arith)
+    pick (inr a) (inl b) = inl (let p = a .0 in omega arith)
+    pick (inr a) (inr b) = inr (a .0 ∙ b .0, (let p = a .1 in let q = b .1 in omega arith))
+
+-- neither precedes nor the same pair: after
+precedes-else : (e f : Edge) → precedes e f ≡ false → samePair e f ≡ false → precedes f e ≡ true
+precedes-else e f h k = of-less f e (pick (decLt (f .tail) (e .tail)) (ℕ-discrete (e .tail) (f .tail)))
+  where
+    never : Less e f → ⊥
+    never l = true≢false (sym (of-less e f l) ∙ h)
+
+    pick : Dec (f .tail < e .tail) → Dec (e .tail ≡ f .tail) → Less f e
+    pick (yes l) d = inl l
+    pick (no l) (no d) = absurd (never (inl (omega arith)))
+    pick (no l) (yes p) = inr (sym p, heads (decLt (f .head) (e .head)) (ℕ-discrete (e .head) (f .head)))
+      where
+        heads : Dec (f .head < e .head) → Dec (e .head ≡ f .head) → f .head < e .head
+        heads (yes z) d = z
+        heads (no z) (no d) = absurd (never (inr (p, omega arith)))
+        heads (no z) (yes r) = absurd (true≢false (sym (and-true (eq-eqb _ _ p) (eq-eqb _ _ r)) ∙ k))
+
+-- ---- sound lists of edges
+
+abbrev pub Follows : ℕ → Edge → List Edge → Type 0
+Follows n p [] = Unit {0}
+Follows n p (e ∷ es) = (precedes p e ≡ true) × (isEdge n e ≡ true) × Follows n e es
+
+abbrev pub Sound : ℕ → List Edge → Type 0
+Sound n [] = Unit {0}
+Sound n (e ∷ es) = (isEdge n e ≡ true) × Follows n e es
+
+follow-accept : (n i : ℕ) (p : Edge) (es : List Edge) → follow n i p es ≡ accept → Follows n p es
+unfolding follow
+follow-accept n i p [] h = tt
+follow-accept n i p (e ∷ es) h =
+    let z = then-accept (refuseIf (not (precedes p e && isEdge n e)) 4 i) (follow n (suc i) e es) h in
+    let y = both (precedes p e) (isEdge n e) (not-false _ (if-accept _ _ _ (z .0))) in
+    (y .0, y .1, follow-accept n (suc i) e es (z .1))
+
+accept-follow : (n i : ℕ) (p : Edge) (es : List Edge) → Follows n p es → follow n i p es ≡ accept
+unfolding follow
+accept-follow n i p [] h = refl
+accept-follow n i p (e ∷ es) h = accept-then (accept-if _ _ (ap not (and-true (h .0) (h .1)))) ∙ accept-follow n (suc i) e es (h .2)
+
+pub rules-accept : (n : ℕ) (es : List Edge) → rules n es ≡ accept → Sound n es
+unfolding rules
+rules-accept n [] h = tt
+rules-accept n (e ∷ es) h =
+    let z = then-accept (refuseIf (not (isEdge n e)) 4 0) (follow n 1 e es) h in
+    (not-false _ (if-accept _ _ _ (z .0)), follow-accept n 1 e es (z .1))
+
+pub accept-rules : (n : ℕ) (es : List Edge) → Sound n es → rules n es ≡ accept
+unfolding rules
+accept-rules n [] h = refl
+accept-rules n (e ∷ es) h = accept-then (accept-if _ _ (ap not (h .0))) ∙ accept-follow n 1 e es (h .1)
+
+follows-fit : (n : ℕ) (p : Edge) (es : List Edge) → Follows n p es → (e : Edge) → List·Memᴰ e es → isEdge n e ≡ true
+follows-fit n p [] h e m = absurd (List·Memᴰ·not-nil m)
+follows-fit n p (x ∷ es) h e m = ⊎-elim (λ q. rw q (h .1)) (λ k. follows-fit n x es (h .2) e k) (List·Memᴰ·cases-cons m)
+
+sound-fit : (n : ℕ) (es : List Edge) → Sound n es → (e : Edge) → List·Memᴰ e es → isEdge n e ≡ true
+sound-fit n [] h e m = absurd (List·Memᴰ·not-nil m)
+sound-fit n (x ∷ es) h e m = ⊎-elim (λ q. rw q (h .0)) (λ k. follows-fit n x es (h .1) e k) (List·Memᴰ·cases-cons m)
+
+module _ (n : ℕ) (e : Edge) (h : isEdge n e ≡ true) where
+  tail-fits : e .tail < n
+  tail-fits = ltb-true _ _ ((both (ltb (e .tail) n) _ h) .0)
+
+  head-fits : e .head < n
+  head-fits = ltb-true _ _ ((both (ltb (e .head) n) _ ((both (ltb (e .tail) n) _ h) .1)) .0)
+
+  weight-fits : e .weight ≤ M
+  weight-fits =
+      let a = both (ltb (e .head) n) _ ((both (ltb (e .tail) n) _ h) .1) in
+      let b = both (not (eqb (e .tail) (e .head))) (isWeight (e .weight)) (a .1) in
+      let c = both (ltb 0 (e .weight)) (leb (e .weight) maxWeight) (b .1) in
+      let l : e .weight ≤ maxWeight = leb-true _ _ (c .1) in
+      omega arith
+
+-- what theorems about runs need of the rules
+pub record Within (n : ℕ) (es : List Edge) : Type 0 where
+  pub tails : (e : Edge) → List·Memᴰ e es → e .tail < n
+  pub heads : (e : Edge) → List·Memᴰ e es → e .head < n
+  pub weights : (e : Edge) → List·Memᴰ e es → e .weight ≤ M
+
+pub within : (n : ℕ) (es : List Edge) → Sound n es → Within n es
+within n es h = record {
+  tails = λ e m. tail-fits n e (sound-fit n es h e m);
+  heads = λ e m. head-fits n e (sound-fit n es h e m);
+  weights = λ e m. weight-fits n e (sound-fit n es h e m);
+}
+
+-- ---- insert and delete
+
+insert-follows : (n : ℕ) (p e : Edge) (es : List Edge) → Follows n p es → precedes p e ≡ true → isEdge n e ≡ true → present es e ≡ false → Follows n p (insert e es)
+unfolding insert exists
+insert-follows n p e [] h b f a = (b, f, tt)
+insert-follows n p e (x ∷ es) h b f a =
+    let z = neither (samePair e x) (present es e) a in
+    pick (precedes e x) refl (λ k. insert-follows n x e es (h .2) k f (z .1)) (z .0)
+  where
+    pick : (c : Bool) → precedes e x ≡ c → (precedes x e ≡ true → Follows n x (insert e es)) → samePair e x ≡ false → Follows n p (cond c (e ∷ x ∷ es) (x ∷ insert e es))
+    pick true q below s = (b, f, (q, h .1, h .2))
+    pick false q below s = (h .0, h .1, below (precedes-else e x q s))
+
+pub insert-sound : (n : ℕ) (e : Edge) (es : List Edge) → Sound n es → isEdge n e ≡ true → present es e ≡ false → Sound n (insert e es)
+unfolding insert exists
+insert-sound n e [] h f a = (f, tt)
+insert-sound n e (x ∷ es) h f a = let z = neither (samePair e x) (present es e) a in pick (precedes e x) refl (z .0) (z .1)
+  where
+    pick : (c : Bool) → precedes e x ≡ c → samePair e x ≡ false → present es e ≡ false → Sound n (cond c (e ∷ x ∷ es) (x ∷ insert e es))
+    pick true q s k = (f, (q, h .0, h .1))
+    pick false q s k = (h .0, insert-follows n x e es (h .1) (precedes-else e x q s) f k)
+
+skip : (n : ℕ) (p x : Edge) (es : List Edge) → precedes p x ≡ true → Follows n x es → Follows n p es
+skip n p x [] b h = tt
+skip n p x (y ∷ es) b h = (precedes-trans p x y b (h .0), h .1, h .2)
+
+delete-follows : (n : ℕ) (p e : Edge) (es : List Edge) → Follows n p es → Follows n p (delete e es)
+unfolding delete
+delete-follows n p e [] h = tt
+delete-follows n p e (x ∷ es) h = pick (samePair e x) (delete-follows n x e es (h .2))
+  where
+    pick : (c : Bool) → Follows n x (delete e es) → Follows n p (cond c es (x ∷ delete e es))
+    pick true below = skip n p x es (h .0) (h .2)
+    pick false below = (h .0, h .1, below)
+
+pub delete-sound : (n : ℕ) (e : Edge) (es : List Edge) → Sound n es → Sound n (delete e es)
+unfolding delete
+delete-sound n e [] h = tt
+delete-sound n e (x ∷ es) h = pick (samePair e x) es (h .1)
+  where
+    pick : (c : Bool) (l : List Edge) → Follows n x l → Sound n (cond c l (x ∷ delete e l))
+    pick true [] k = tt
+    pick true (y ∷ l) k = (k .1, k .2)
+    pick false l k = (h .0, delete-follows n x e l k)
+
+pub length-insert : (e : Edge) (es : List Edge) → length (insert e es) ≡ suc (length es)
+unfolding insert
+length-insert e [] = refl
+length-insert e (x ∷ es) = pick (precedes e x) (length-insert e es)
+  where
+    pick : (c : Bool) → length (insert e es) ≡ suc (length es) → length (cond c (e ∷ x ∷ es) (x ∷ insert e es)) ≡ suc (suc (length es))
+    pick true k = refl
+    pick false k = ap suc k
+
+pub length-delete : (e : Edge) (es : List Edge) → length (delete e es) ≤ length es
+unfolding delete
+length-delete e [] = omega arith
+length-delete e (x ∷ es) = pick (samePair e x) (length-delete e es)
+  where
+    pick : (c : Bool) → length (delete e es) ≤ length es → length (cond c es (x ∷ delete e es)) ≤ suc (length es)
+    pick true k = omega arith
+    pick false k = omega arith

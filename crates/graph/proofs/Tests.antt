@@ -1,0 +1,21 @@
+-- Conjunctions and disjunctions of tests, as facts. (`borrow.Author.Tests` has those on numbers and on `not`.) Assumes nothing.
+use mathlib.Core.Path.{_≡_, refl}
+use mathlib.Core.Bool.{Bool, true, false, _&&_, _||_, true≢false, false≢true}
+
+pub both : (a b : Bool) → (a && b) ≡ true → (a ≡ true) × (b ≡ true)
+both true b e = (refl, e)
+both false b e = absurd (false≢true e)
+
+pub and-true : {a b : Bool} → a ≡ true → b ≡ true → (a && b) ≡ true
+and-true p q = rw (p, q)
+
+pub neither : (a b : Bool) → (a || b) ≡ false → (a ≡ false) × (b ≡ false)
+neither true b e = absurd (true≢false e)
+neither false b e = (refl, e)
+
+pub or-false : {a b : Bool} → a ≡ false → b ≡ false → (a || b) ≡ false
+or-false p q = rw (p, q)
+
+pub or-right : (a : Bool) {b : Bool} → b ≡ true → (a || b) ≡ true
+or-right true e = refl
+or-right false e = e

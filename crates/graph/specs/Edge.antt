@@ -1,0 +1,74 @@
+-- Edges, and the lists of words that hold them: document 01, "Network". Assumes nothing.
+--
+--   Edge               == a "segment": tail, head and weight ("figure")
+--   edge t h w         == the edge from t to h of weight w
+--   reverse e          == e the other way round; backward rows go by reversed edges
+--   same e f           == the same three words
+--   samePair e f       == the same tail and head
+--   precedes e f       == table order: "by tail, then head"
+--   keep f es          == the edges of es that pass the test f, in order
+--   exists f es        == some edge of es passes the test f
+--   among es e         == e is in es, by its three words
+--   present es e       == the pair of e is in es
+--   leaving i es       == the edges of tail i, in table order
+--   edges ts hs ws m   == the "records" below the count m of three lists of words
+--   range i k          == the k numbers from i on
+use mathlib.Core.Bool.{Bool, true, false, _&&_, _||_}
+use mathlib.Core.List.{List, [], _∷_}
+use Prim.Native.Nat.{ℕ, zero, suc}
+use lib.ListN.{take}
+use lib.Dec.{eqb, ltb}
+
+pub record Edge : Type 0 where
+  pub tail : ℕ
+  pub head : ℕ
+  pub weight : ℕ
+
+abbrev pub edge : ℕ → ℕ → ℕ → Edge
+edge t h w = record { tail = t; head = h; weight = w }
+
+abbrev pub reverse : Edge → Edge
+reverse e = edge (e .head) (e .tail) (e .weight)
+
+abbrev pub samePair : Edge → Edge → Bool
+samePair e f = eqb (e .tail) (f .tail) && eqb (e .head) (f .head)
+
+abbrev pub same : Edge → Edge → Bool
+same e f = eqb (e .tail) (f .tail) && (eqb (e .head) (f .head) && eqb (e .weight) (f .weight))
+
+abbrev pub precedes : Edge → Edge → Bool
+precedes e f = ltb (e .tail) (f .tail) || (eqb (e .tail) (f .tail) && ltb (e .head) (f .head))
+
+unfoldable pub keepIf : Bool → Edge → List Edge → List Edge
+keepIf true e es = e ∷ es
+keepIf false e es = es
+
+unfoldable pub keep : (Edge → Bool) → List Edge → List Edge
+keep f [] = []
+keep f (e ∷ es) = keepIf (f e) e (keep f es)
+
+unfoldable pub exists : (Edge → Bool) → List Edge → Bool
+exists f [] = false
+exists f (e ∷ es) = f e || exists f es
+
+abbrev pub among : List Edge → Edge → Bool
+among es e = exists (same e) es
+
+abbrev pub present : List Edge → Edge → Bool
+present es e = exists (samePair e) es
+
+abbrev pub leaving : ℕ → List Edge → List Edge
+leaving i es = keep (λ e. eqb (e .tail) i) es
+
+unfoldable pub zip : List ℕ → List ℕ → List ℕ → List Edge
+zip [] hs ws = []
+zip (t ∷ ts) [] ws = []
+zip (t ∷ ts) (h ∷ hs) [] = []
+zip (t ∷ ts) (h ∷ hs) (w ∷ ws) = edge t h w ∷ zip ts hs ws
+
+unfoldable pub edges : List ℕ → List ℕ → List ℕ → ℕ → List Edge
+edges ts hs ws m = zip (take m ts) (take m hs) (take m ws)
+
+unfoldable pub range : ℕ → ℕ → List ℕ
+range i zero = []
+range i (suc k) = i ∷ range (suc i) k

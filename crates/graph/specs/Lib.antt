@@ -1,0 +1,5 @@
+pub mod Limits
+pub mod Refusal
+pub mod Edge
+pub mod Table
+pub mod Route

@@ -1,0 +1,1 @@
+// The edge table and routes: definitions that the contracts of the calls cite.

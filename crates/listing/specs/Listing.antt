@@ -1,0 +1,100 @@
+-- What the values program prints for the bytes of deck.gr and deck.ss: document 01, "Text". Assumes nothing.
+--
+--   maxFile               == a file of more than 65,536 bytes is refused with number 2
+--   spaced vs             == numbers parted by single spaces, and a line feed
+--   Graph                  == a network that was read: n and its edges
+--   networkOf d            == the network of a deck, opened with the landmarks of choice, four or n if fewer
+--   valueAt d w s t p     == property p from s to t: the settled word of a query
+--   lineOf d w s t        == the line of a source and a vertex: both from 1, then the five properties
+--   listed d ss           == the header, and per source in file order and vertex ascending a line
+--   refusedLine k i       == `refused`, number, place
+--   printed gr ss         == the whole output: a refusal in either file, deck.gr first, or what is listed
+use mathlib.Core.List.{List, [], _∷_, _++_, map}
+use Prim.Native.Nat.{ℕ, suc}
+use lib.ListN.{length, getD, replicate}
+use lib.Dec.{ltb}
+use Rattle.property.specs.Property.{property}
+use Rattle.graph.specs.Limits.{maxLandmarks}
+use Rattle.graph.specs.Refusal.{Verdict, accept, refuse, _▷_, refuseIf, Outcome}
+use Rattle.graph.specs.Edge.{Edge, range}
+use Rattle.run.specs.Run.{word}
+use Rattle.network.specs.Network.{Network}
+use Rattle.network.specs.Query.{Query, Words, queryCall}
+use Rattle.network.specs.Choice.{choice}
+use Rattle.network.specs.Caller.{holding, opened}
+use Rattle.dimacs.specs.Decimal.{digits}
+use Rattle.dimacs.specs.Lines.{fieldsOf}
+use Rattle.dimacs.specs.Read.{Read}
+use Rattle.dimacs.specs.Network.{State, readNetwork}
+use Rattle.dimacs.specs.Sources.{readSources}
+use Rattle.dimacs.specs.Call.{judged, vertexCount, edgesRead, sourcesRead}
+
+abbrev pub maxFile : ℕ
+maxFile = 65536
+
+-- ---- lines
+
+-- `source station time handovers headroom worst reach`
+abbrev pub header : List ℕ
+header =
+    115 ∷ 111 ∷ 117 ∷ 114 ∷ 99 ∷ 101 ∷ 32 ∷ 115 ∷ 116 ∷ 97 ∷ 116 ∷ 105 ∷ 111 ∷ 110 ∷ 32 ∷ 116 ∷ 105 ∷ 109 ∷ 101 ∷ 32 ∷ 104 ∷ 97 ∷ 110 ∷ 100 ∷ 111 ∷ 118
+    ∷ 101 ∷ 114 ∷ 115 ∷ 32 ∷ 104 ∷ 101 ∷ 97 ∷ 100 ∷ 114 ∷ 111 ∷ 111 ∷ 109 ∷ 32 ∷ 119 ∷ 111 ∷ 114 ∷ 115 ∷ 116 ∷ 32 ∷ 114 ∷ 101 ∷ 97 ∷ 99 ∷ 104 ∷ 10
+    ∷ []
+
+unfoldable pub spaced : List ℕ → List ℕ
+spaced [] = 10 ∷ []
+spaced (v ∷ vs) = digits v ++ fieldsOf vs ++ (10 ∷ [])
+
+-- `refused`
+unfoldable pub refusedLine : ℕ → ℕ → List ℕ
+refusedLine k i = (114 ∷ 101 ∷ 102 ∷ 117 ∷ 115 ∷ 101 ∷ 100 ∷ []) ++ fieldsOf (k ∷ i ∷ []) ++ (10 ∷ [])
+
+-- ---- values
+
+pub record Graph : Type 0 where
+  pub n : ℕ
+  pub edges : List Edge
+
+abbrev pub landmarksOf : Graph → List ℕ
+landmarksOf d = choice (d .n) (d .edges) maxLandmarks
+
+abbrev pub networkOf : Graph → Network
+networkOf d = opened (d .n) (landmarksOf d) (holding (d .edges) (landmarksOf d) (d .n))
+
+abbrev pub valueAt : Graph → Network → ℕ → ℕ → ℕ → ℕ
+valueAt d w s t p =
+    word (property p)
+    ((queryCall (d .n) (landmarksOf d) w (record { property = p; source = s; schedule = [] })
+    (record { starts = replicate (d .n) 0; settled = replicate (d .n) 0 })) .memory .settled)
+    t
+
+unfoldable pub lineOf : Graph → Network → ℕ → ℕ → List ℕ
+lineOf d w s t = spaced (suc s ∷ suc t ∷ map (valueAt d w s t) (range 1 5))
+
+unfoldable pub linesOf : Graph → Network → ℕ → List ℕ → List ℕ
+linesOf d w s [] = []
+linesOf d w s (t ∷ ts) = lineOf d w s t ++ linesOf d w s ts
+
+unfoldable pub sourceLines : Graph → Network → List ℕ → List ℕ
+sourceLines d w [] = []
+sourceLines d w (s ∷ ss) = linesOf d w s (range 0 (d .n)) ++ sourceLines d w ss
+
+unfoldable pub listed : Graph → List ℕ → List ℕ
+listed d ss = let w = networkOf d in header ++ sourceLines d w ss
+
+-- ---- the program
+
+unfoldable pub output : Verdict → List ℕ → List ℕ
+output accept text = text
+output (refuse k i) text = refusedLine k i
+
+abbrev pub graphOf : Read State → Graph
+graphOf r = record { n = vertexCount r; edges = edgesRead r }
+
+unfoldable pub printed : List ℕ → List ℕ → List ℕ
+printed gr ss =
+    let r = readNetwork gr in
+    let q = readSources (vertexCount r) ss in
+    output
+    (refuseIf (ltb maxFile (length gr)) 2 0 ▷ judged r ▷ refuseIf (ltb maxFile (length ss)) 2 0 ▷ judged q)
+    (listed (graphOf r) (sourcesRead q))

@@ -1,0 +1,1 @@
+// What the values program prints: definitions that the contracts cite.

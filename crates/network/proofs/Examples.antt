@@ -1,0 +1,592 @@
+-- Small calls, computed: document 01, "Network", "Runs", "Turned back" and "Near the edges". Each line says which sentence it shows and
+-- which nearby reading it shuts out; the numbers are worked out by hand. Assumes nothing.
+--
+-- A table of examples lists what a definition gives beside what document 01 says; one equation holds for all of its lines.
+use mathlib.Core.Path.{_≡_, refl}
+use mathlib.Core.List.{List, [], _∷_, _++_, map}
+use Prim.Native.Nat.{ℕ, _+_, _-_, _*_, _/_, _%_}
+use lib.ListN.{length, replicate, set}
+use lib.ListN as list
+use Rattle.property.specs.Property.{M, property}
+use Rattle.frontier.specs.Waiting.{anyOf, countOf}
+use Rattle.graph.specs.Refusal.{Verdict, accept, refuse, _▷_, refuseIf, Reply, accepted, refused, replied, verdictOf, Outcome, choose}
+use Rattle.graph.specs.Edge.{Edge, edge, keepIf, keep, exists, zip, edges, range}
+use Rattle.graph.specs.Table.{Columns, follow, rules, insert, delete}
+use Rattle.run.specs.Run.{Tally, storeIf, relax, clear, handle, visitIf, visit, takeIf, pass, round, settle}
+use Rattle.run.specs.Run as run
+use Rattle.run.specs.Start.{bound, asked}
+use Rattle.run.specs.Start as start
+use Rattle.affected.specs.Affected.{mark, sweep, sweeps, affected}
+use Rattle.affected.specs.Prepared.{cleared, reopened, prepared}
+use Rattle.network.specs.Network.{Rows, Memory, Network, edgesIn, isIn, areLandmarks, flat, unsettled, storesOf}
+use Rattle.network.specs.Open.{openCall}
+use Rattle.network.specs.Query.{Words, scheduled, queryCall}
+use Rattle.network.specs.Change.{Change, edit, item, items}
+use Rattle.network.specs.Batch.{Report, affectedOver, batchCall}
+use Rattle.network.specs.Settled.{Check, settled, found, inRecords, inRows, settledCall}
+use Rattle.network.specs.Choice.{place, ranked, choiceCall}
+use Rattle.network.specs.Lookup.{indexOf, lookupRow, lookupNumber}
+use Rattle.network.specs.Caller.{holding, opened, reported, lived}
+use Rattle.network.specs.Current.{turnedBack, after, current}
+use Rattle.network.specs.Starred.{graphA, take, add}
+
+-- ---- numbers 1 to 6 of every call, in their order
+
+-- lists of so many words for tails, heads, weights, forward rows and backward rows, and a count; all words are 0
+abbrev lists : ℕ → ℕ → ℕ → ℕ → ℕ → ℕ → Network
+lists i j k f b m = record {
+  memory = record {
+    table = record { tails = replicate i 0; heads = replicate j 0; weights = replicate k 0 };
+    rows = record { forward = replicate f 0; backward = replicate b 0 };
+  };
+  count = m;
+}
+
+-- one landmark, 4 vertices, no edge: lists just long enough
+abbrev bare : Network
+bare = lists 2048 2048 2048 20 20 0
+
+-- the same with one list a word too short
+abbrev shorts : List Network
+shorts =
+    lists 2047 2048 2048 20 20 0
+    ∷ lists 2048 2047 2048 20 20 0
+    ∷ lists 2048 2048 2047 20 20 0
+    ∷ lists 2048 2048 2048 19 20 0
+    ∷ lists 2048 2048 2048 20 19 0
+    ∷ []
+
+abbrev opens : ℕ → List ℕ → Network → Verdict
+opens n ls w = verdictOf ((openCall n ls w) .reply)
+
+abbrev asks : ℕ → List ℕ → Network → ℕ → ℕ → List ℕ → ℕ → ℕ → Verdict
+asks n ls w p s vs i j =
+    verdictOf
+    ((queryCall n ls w (record { property = p; source = s; schedule = vs }) (record { starts = replicate i 0; settled = replicate j 0 }))
+    .reply)
+
+abbrev changes : ℕ → List ℕ → Network → List Change → Verdict
+changes n ls w b = verdictOf ((batchCall n ls w b) .reply)
+
+abbrev checks : ℕ → List ℕ → Network → Verdict
+checks n ls w = verdictOf (settledCall n ls w)
+
+abbrev chooses : ℕ → Network → ℕ → Verdict
+chooses n w k = verdictOf (choiceCall n (w .memory .table) (w .count) k)
+
+abbrev looks : ℕ → List ℕ → Network → ℕ → ℕ → ℕ → Verdict
+looks n ls w side l p = verdictOf (lookupNumber n ls (w .memory .rows) side l p)
+
+-- a change that is bad in every way that a record can be
+abbrev worst : Change
+worst = record { kind = 7; tail = 9; head = 9; weight = 99999 }
+
+abbrev refusals : List (Verdict × Verdict)
+refusals =
+    -- "The lowest number that applies is given": each line mends what the line before was refused for. First the opening
+    (opens 0 [] (lists 0 0 0 0 0 2049), refuse 1 0)
+    ∷ (opens 257 [] (lists 0 0 0 0 0 2049), refuse 1 0)
+    ∷ (opens 4 [] (lists 2047 2048 2048 0 0 2049), refuse 2 0)
+    ∷ (opens 4 [] (lists 2048 2048 2048 0 0 2049), refuse 3 0)
+    ∷ (opens 4 (0 ∷ []) (lists 2048 2048 2048 20 20 2049), refuse 4 0)
+    ∷ (opens 4 (0 ∷ []) bare, accept)
+    -- longer lists are good, and so is n 1
+    ∷ (opens 4 (0 ∷ []) (lists 2049 2050 2051 21 22 0), accept)
+    ∷ (opens 1 (0 ∷ []) (lists 2048 2048 2048 5 5 0), accept)
+    -- a table's record of zeros is a loop of weight 0: number 4, not 8 or 9
+    ∷ (opens 4 (0 ∷ []) (lists 2048 2048 2048 20 20 1), refuse 4 0)
+    -- posts: over 4, not a station, repeated; four in any order are good
+    ∷ (opens 5 (3 ∷ 1 ∷ 4 ∷ 0 ∷ []) (lists 2048 2048 2048 100 100 0), accept)
+    ∷ (opens 5 (0 ∷ 1 ∷ 2 ∷ 3 ∷ 4 ∷ []) (lists 2048 2048 2048 125 125 0), refuse 3 0)
+    ∷ (opens 4 (4 ∷ []) bare, refuse 3 0)
+    ∷ (opens 4 (1 ∷ 2 ∷ 1 ∷ []) (lists 2048 2048 2048 60 60 0), refuse 3 0)
+    -- row lists are measured with the posts list's real length: five posts with rows for four, one post named twice
+    ∷ (opens 5 (0 ∷ 1 ∷ 2 ∷ 3 ∷ 4 ∷ []) (lists 2048 2048 2048 100 100 0), refuse 2 0)
+    ∷ (opens 4 (1 ∷ 1 ∷ []) bare, refuse 2 0)
+    ∷ (opens 4 (1 ∷ 1 ∷ []) (lists 2048 2048 2048 40 40 0), refuse 3 0)
+    -- a query: n, picks over 4,096; then its own two lists are number 2 as any lent list, before bad posts
+    ∷ (asks 0 [] (lists 0 0 0 0 0 2049) 0 9 (9 ∷ []) 0 0, refuse 1 0)
+    ∷ (asks 4 [] (lists 0 0 0 0 0 2049) 0 9 (replicate 4097 9) 0 0, refuse 1 0)
+    ∷ (asks 4 [] (lists 2048 2048 2047 0 0 2049) 0 9 (9 ∷ []) 4 4, refuse 2 0)
+    ∷ (asks 4 [] (lists 2048 2048 2048 0 0 2049) 0 9 (9 ∷ []) 3 4, refuse 2 0)
+    ∷ (asks 4 [] (lists 2048 2048 2048 0 0 2049) 0 9 (9 ∷ []) 4 3, refuse 2 0)
+    ∷ (asks 4 [] (lists 2048 2048 2048 0 0 2049) 0 9 (9 ∷ []) 4 4, refuse 3 0)
+    ∷ (asks 4 (0 ∷ []) (lists 2048 2048 2048 20 20 2049) 0 9 (9 ∷ []) 4 4, refuse 4 0)
+    ∷ (asks 4 (0 ∷ []) bare 0 9 (9 ∷ []) 4 4, refuse 5 0)
+    ∷ (asks 4 (0 ∷ []) bare 6 9 (9 ∷ []) 4 4, refuse 5 0)
+    -- a bad source has place 0, also before a bad pick; a bad pick has its index, and n itself is no station
+    ∷ (asks 4 (0 ∷ []) bare 5 4 (3 ∷ 4 ∷ []) 4 4, refuse 6 0)
+    ∷ (asks 4 (0 ∷ []) bare 5 3 (3 ∷ 0 ∷ 4 ∷ 9 ∷ []) 4 4, refuse 6 2)
+    ∷ (asks 4 (0 ∷ []) bare 5 3 (replicate 4095 3 ++ (4 ∷ [])) 4 4, refuse 6 4095)
+    ∷ (asks 4 (0 ∷ []) bare 5 3 (replicate 4096 3) 4 4, accept)
+    -- a batch: n, over 1,024 changes; 1 to 4 come before any change is looked at
+    ∷ (changes 257 [] (lists 0 0 0 0 0 2049) (worst ∷ []), refuse 1 0)
+    ∷ (changes 4 [] (lists 0 0 0 0 0 2049) (replicate 1025 worst), refuse 1 0)
+    ∷ (changes 4 [] (lists 2048 2047 2048 0 0 2049) (worst ∷ []), refuse 2 0)
+    ∷ (changes 4 [] (lists 2048 2048 2048 0 0 2049) (worst ∷ []), refuse 3 0)
+    ∷ (changes 4 (0 ∷ []) (lists 2048 2048 2048 20 20 2049) (worst ∷ []), refuse 4 0)
+    ∷ (changes 4 (0 ∷ []) bare (worst ∷ []), refuse 6 0)
+    ∷ (changes 4 (0 ∷ []) bare [], accept)
+    -- the settled check
+    ∷ (checks 0 [] (lists 0 0 0 0 0 2049), refuse 1 0)
+    ∷ (checks 4 [] (lists 2048 2048 2047 0 0 2049), refuse 2 0)
+    ∷ (checks 4 [] (lists 2048 2048 2048 0 0 2049), refuse 3 0)
+    ∷ (checks 4 (0 ∷ []) (lists 2048 2048 2048 20 20 2049), refuse 4 0)
+    ∷ (checks 4 (0 ∷ []) bare, accept)
+    -- post choice: k is number 3, before a bad table; k may be above n
+    ∷ (chooses 257 (lists 0 0 0 0 0 2049) 0, refuse 1 0)
+    ∷ (chooses 3 (lists 2048 2047 2048 0 0 2049) 0, refuse 2 0)
+    ∷ (chooses 3 (lists 2048 2048 2048 0 0 2049) 0, refuse 3 0)
+    ∷ (chooses 3 (lists 2048 2048 2048 0 0 2049) 5, refuse 3 0)
+    ∷ (chooses 3 (lists 2048 2048 2048 0 0 2049) 4, refuse 4 0)
+    ∷ (chooses 3 (lists 2048 2048 2048 0 0 0) 4, accept)
+    -- a look-up: both lists are measured, whichever side is asked; a post not in the list is 3, before a bad property or side
+    ∷ (looks 0 [] (lists 0 0 0 0 0 0) 2 9 6, refuse 1 0)
+    ∷ (looks 4 (0 ∷ []) (lists 0 0 0 19 20 0) 1 9 6, refuse 2 0)
+    ∷ (looks 4 (0 ∷ []) (lists 0 0 0 20 19 0) 0 9 6, refuse 2 0)
+    ∷ (looks 4 [] (lists 0 0 0 0 0 0) 2 9 6, refuse 3 0)
+    ∷ (looks 4 (0 ∷ []) (lists 0 0 0 20 20 0) 2 1 6, refuse 3 0)
+    ∷ (looks 4 (0 ∷ []) (lists 0 0 0 20 20 0) 0 0 0, refuse 5 0)
+    ∷ (looks 4 (0 ∷ []) (lists 0 0 0 20 20 0) 0 0 6, refuse 5 0)
+    ∷ (looks 4 (0 ∷ []) (lists 0 0 0 20 20 0) 2 0 5, refuse 5 0)
+    ∷ (looks 4 (0 ∷ []) (lists 0 0 0 20 20 0) 1 0 5, accept)
+    -- n 256 and its last station are good, station 256 is not
+    ∷ (looks 256 (255 ∷ []) (lists 0 0 0 1280 1280 0) 0 255 1, accept)
+    ∷ (looks 256 (256 ∷ []) (lists 0 0 0 1280 1280 0) 0 256 1, refuse 3 0)
+    ∷ []
+
+refusals-said : map (λ c. c .0) refusals ≡ map (λ c. c .1) refusals
+unfolding openCall queryCall batchCall settledCall choiceCall lookupNumber replied verdictOf choose _▷_ refuseIf isIn areLandmarks scheduled item items edges zip rules follow unsettled anyOf range property start.opened bound asked run.take takeIf pass settle round visit visitIf handle clear relax storeIf keep keepIf exists insert delete edit mark sweep sweeps affected cleared reopened prepared inRecords inRows place ranked
+refusals-said = refl
+
+-- "a lent list .. is too short": each of the five lists counts in each call that takes a network
+shorts-said : map (opens 4 (0 ∷ [])) shorts ++ map (λ w. asks 4 (0 ∷ []) w 1 0 [] 4 4) shorts ++ map (λ w. changes 4 (0 ∷ []) w []) shorts ++ map (checks 4 (0 ∷ [])) shorts
+    ≡ replicate 20 (refuse 2 0)
+unfolding openCall queryCall batchCall settledCall replied verdictOf _▷_ refuseIf
+shorts-said = refl
+
+-- ---- the changes of a batch: numbers 6 to 12
+
+abbrev change : ℕ → ℕ → ℕ → ℕ → Change
+change k t h w = record { kind = k; tail = t; head = h; weight = w }
+
+-- a change against deck A; its place is 5
+abbrev onA : Change → Verdict
+onA c = item 4 5 graphA c
+
+-- 2,048 edges among 256 vertices, in table order: tails 0 to 127, each to the heads 128 to 143
+abbrev fullTable : List Edge
+fullTable = map (λ i. edge (i / 16) (128 + i % 16) 1) (range 0 2048)
+
+abbrev onFull : List Change → Verdict
+onFull b = items 256 0 fullTable b
+
+abbrev itemsJudged : List (Verdict × Verdict)
+itemsJudged =
+    -- 6: tail or head is n or more, before a bad kind, a loop and a bad figure
+    (onA worst, refuse 6 5)
+    ∷ (onA (add 4 0 1), refuse 6 5)
+    ∷ (onA (add 0 4 1), refuse 6 5)
+    ∷ (onA (take 0 4), refuse 6 5)
+    -- 7: neither 1 nor 2, before a loop and a bad figure
+    ∷ (onA (change 0 1 1 65536), refuse 7 5)
+    ∷ (onA (change 3 0 1 0), refuse 7 5)
+    -- 8: tail equals head, before a bad figure; a loop's pair is never there, and that is no 11
+    ∷ (onA (add 1 1 0), refuse 8 5)
+    ∷ (onA (change 2 1 1 4), refuse 8 5)
+    ∷ (onA (take 1 1), refuse 8 5)
+    -- 9: an add's figure is 1 to 65,535, a take's is 0 even where the record has that figure; before 10 and 11
+    ∷ (onA (add 0 1 0), refuse 9 5)
+    ∷ (onA (add 1 0 0), refuse 9 5)
+    ∷ (onA (add 1 0 65535), accept)
+    ∷ (onA (add 1 0 65536), refuse 9 5)
+    ∷ (onA (change 2 0 1 4), refuse 9 5)
+    ∷ (onA (change 2 1 0 4), refuse 9 5)
+    ∷ (onA (take 0 1), accept)
+    -- 10: the pair is there, whatever its figure; the reversed pair is another
+    ∷ (onA (add 0 1 4), refuse 10 5)
+    ∷ (onA (add 0 1 7), refuse 10 5)
+    ∷ (onA (add 1 0 4), accept)
+    -- 11: no such pair; the reversed one does not do
+    ∷ (onA (take 1 0), refuse 11 5)
+    -- 12: an add when 2,048 are there; a pair that is there is 10 first; a take needs no room
+    ∷ (onFull (add 0 1 1 ∷ []), refuse 12 0)
+    ∷ (onFull (add 0 128 1 ∷ []), refuse 10 0)
+    ∷ (onFull (take 0 1 ∷ []), refuse 11 0)
+    ∷ (onFull (take 0 128 ∷ []), accept)
+    -- with 2,047 there is room for one
+    ∷ (items 256 0 (list.take 2047 fullTable) (add 200 0 1 ∷ add 200 1 1 ∷ []), refuse 12 1)
+    -- "against the table as earlier items left it": a take makes room for one add, an add after it finds its pair gone
+    ∷ (onFull (take 0 128 ∷ add 0 1 1 ∷ []), accept)
+    ∷ (onFull (take 0 128 ∷ add 0 128 9 ∷ []), accept)
+    ∷ (onFull (take 0 128 ∷ add 0 1 1 ∷ add 0 2 1 ∷ []), refuse 12 2)
+    ∷ (onFull (add 0 1 1 ∷ take 0 128 ∷ []), refuse 12 0)
+    ∷ (items 4 0 graphA (add 1 0 5 ∷ add 1 0 6 ∷ []), refuse 10 1)
+    ∷ (items 4 0 graphA (add 1 0 5 ∷ take 1 0 ∷ take 1 0 ∷ []), refuse 11 2)
+    ∷ (items 4 0 graphA (take 1 0 ∷ add 1 0 5 ∷ []), refuse 11 0)
+    -- "the first item with any of 6 to 12, its lowest number": a later item with a lower number is not heard
+    ∷ (items 4 0 graphA (add 1 0 5 ∷ take 2 0 ∷ worst ∷ []), refuse 11 1)
+    -- place is the "index from 0"
+    ∷ (items 4 0 graphA (take 0 1 ∷ take 0 3 ∷ take 1 2 ∷ worst ∷ []), refuse 6 3)
+    ∷ (items 4 0 graphA [], accept)
+    ∷ []
+
+itemsJudged-said : map (λ c. c .0) itemsJudged ≡ map (λ c. c .1) itemsJudged
+unfolding item items edit insert delete exists _▷_ refuseIf range
+itemsJudged-said = refl
+
+-- ---- what the calls leave in lent memory
+
+-- the lists of a network of deck A with 4 vertices: 2,050 words for each column, those past the count 77; rows as given, and two words
+-- past them that are 99
+abbrev dusty : List ℕ → List ℕ → Network
+dusty f b = record {
+  memory = record {
+    table = record {
+      tails = (0 ∷ 0 ∷ 1 ∷ 2 ∷ 3 ∷ []) ++ replicate 2045 77;
+      heads = (1 ∷ 3 ∷ 2 ∷ 1 ∷ 2 ∷ []) ++ replicate 2045 77;
+      weights = (4 ∷ 9 ∷ 4 ∷ 4 ∷ 2 ∷ []) ++ replicate 2045 77;
+    };
+    rows = record { forward = f ++ (99 ∷ 99 ∷ []); backward = b ++ (99 ∷ 99 ∷ []) };
+  };
+  count = 5;
+}
+
+-- deck A, landmark 0: "Reading the outward row as homeward" is shut out: 0 has a way to each vertex, and none has a way to 0
+abbrev forwardOf0 : List ℕ
+forwardOf0 = (0 ∷ 4 ∷ 8 ∷ 9 ∷ []) ++ (0 ∷ 1 ∷ 2 ∷ 1 ∷ []) ++ (M ∷ 4 ∷ 4 ∷ 9 ∷ []) ++ (0 ∷ 4 ∷ 4 ∷ 9 ∷ []) ++ (1 ∷ 1 ∷ 1 ∷ 1 ∷ [])
+
+abbrev backwardOf0 : List ℕ
+backwardOf0 = (0 ∷ M ∷ M ∷ M ∷ []) ++ (0 ∷ M ∷ M ∷ M ∷ []) ++ (M ∷ 0 ∷ 0 ∷ 0 ∷ []) ++ (0 ∷ M ∷ M ∷ M ∷ []) ++ (1 ∷ 0 ∷ 0 ∷ 0 ∷ [])
+
+-- deck A, landmark 2
+abbrev forwardOf2 : List ℕ
+forwardOf2 = (M ∷ 4 ∷ 0 ∷ M ∷ []) ++ (M ∷ 1 ∷ 0 ∷ M ∷ []) ++ (0 ∷ 4 ∷ M ∷ 0 ∷ []) ++ (M ∷ 4 ∷ 0 ∷ M ∷ []) ++ (0 ∷ 1 ∷ 1 ∷ 0 ∷ [])
+
+abbrev backwardOf2 : List ℕ
+backwardOf2 = (8 ∷ 4 ∷ 0 ∷ 2 ∷ []) ++ (2 ∷ 1 ∷ 0 ∷ 1 ∷ []) ++ (4 ∷ 4 ∷ M ∷ 2 ∷ []) ++ (4 ∷ 4 ∷ 0 ∷ 2 ∷ []) ++ (1 ∷ 1 ∷ 1 ∷ 1 ∷ [])
+
+-- an opening writes the row lists alone: "words past those stay", and so does the table with all that lies past its count
+opening : openCall 4 (0 ∷ []) (dusty (replicate 20 5) (replicate 20 6)) ≡ record { reply = accepted tt; memory = (dusty forwardOf0 backwardOf0) .memory }
+unfolding openCall replied choose _▷_ refuseIf isIn areLandmarks edges zip rules follow unsettled flat anyOf range property start.opened settle round visit visitIf handle clear relax storeIf keep keepIf
+opening = refl
+
+-- "rows go by post in list order, then property": landmark 2 comes first where it is listed first
+opening-two : (openCall 4 (2 ∷ 0 ∷ []) (dusty (replicate 40 5) (replicate 40 6))) .memory .rows
+    ≡ record { forward = forwardOf2 ++ forwardOf0 ++ (99 ∷ 99 ∷ []); backward = backwardOf2 ++ backwardOf0 ++ (99 ∷ 99 ∷ []) }
+unfolding openCall replied choose _▷_ refuseIf isIn areLandmarks edges zip rules follow unsettled flat anyOf range property start.opened settle round visit visitIf handle clear relax storeIf keep keepIf
+opening-two = refl
+
+-- a refused opening leaves every list: here a landmark is named twice
+opening-refused : openCall 4 (0 ∷ 0 ∷ []) (dusty (replicate 40 5) (replicate 40 6))
+    ≡ record { reply = refused 3 0; memory = (dusty (replicate 40 5) (replicate 40 6)) .memory }
+unfolding openCall replied choose _▷_ refuseIf isIn areLandmarks
+opening-refused = refl
+
+-- after the take of 0→1: each forward row loses the words of 1 and 2 and finds them by way of 3. Headroom is 2, and not the 4 that the
+-- ring 1→2→1 would feed itself; no backward word changes
+abbrev forwardTaken : List ℕ
+forwardTaken = (0 ∷ 15 ∷ 11 ∷ 9 ∷ []) ++ (0 ∷ 3 ∷ 2 ∷ 1 ∷ []) ++ (M ∷ 2 ∷ 2 ∷ 9 ∷ []) ++ (0 ∷ 9 ∷ 9 ∷ 9 ∷ []) ++ (1 ∷ 1 ∷ 1 ∷ 1 ∷ [])
+
+-- the lists after a batch: "Records from the new count to 2,047 become zero", words from 2,048 on stay, and so do words past the rows
+abbrev swept : List ℕ → List ℕ → List ℕ → List ℕ → List ℕ → Memory
+swept ts hs ws f b = record {
+  table = record {
+    tails = ts ++ replicate (2048 - length ts) 0 ++ (77 ∷ 77 ∷ []);
+    heads = hs ++ replicate (2048 - length hs) 0 ++ (77 ∷ 77 ∷ []);
+    weights = ws ++ replicate (2048 - length ws) 0 ++ (77 ∷ 77 ∷ []);
+  };
+  rows = record { forward = f ++ (99 ∷ 99 ∷ []); backward = b ++ (99 ∷ 99 ∷ []) };
+}
+
+abbrev report : ℕ → ℕ → ℕ → Reply Report
+report m a s = accepted (record { count = m; affected = a; stores = s })
+
+abbrev batches : List (Outcome Report Memory × Outcome Report Memory)
+batches =
+    -- two affected vertices and two stores in each of five forward rows: "sums suspects and stores over all rows"
+    (
+      batchCall 4 (0 ∷ []) (dusty forwardOf0 backwardOf0) (take 0 1 ∷ []),
+      record {
+        reply = report 4 10 10;
+        memory = swept (0 ∷ 1 ∷ 2 ∷ 3 ∷ []) (3 ∷ 2 ∷ 1 ∷ 2 ∷ []) (9 ∷ 4 ∷ 4 ∷ 2 ∷ []) forwardTaken backwardOf0;
+      },
+    )
+    -- "An empty batch is accepted": count as before, 0, 0; it zeroes the records past the count all the same
+    ∷ (
+      batchCall 4 (0 ∷ []) (dusty forwardOf0 backwardOf0) [],
+      record {
+        reply = report 5 0 0;
+        memory = swept (0 ∷ 0 ∷ 1 ∷ 2 ∷ 3 ∷ []) (1 ∷ 3 ∷ 2 ∷ 1 ∷ 2 ∷ []) (4 ∷ 9 ∷ 4 ∷ 4 ∷ 2 ∷ []) forwardOf0 backwardOf0;
+      },
+    )
+    -- "all or none": the second item is refused, and the first has changed nothing
+    ∷ (
+      batchCall 4 (0 ∷ []) (dusty forwardOf0 backwardOf0) (take 0 1 ∷ take 0 1 ∷ []),
+      record { reply = refused 11 1; memory = (dusty forwardOf0 backwardOf0) .memory },
+    )
+    -- 1,024 changes are good: 0→1 is taken and added back 512 times; its record stands in both tables, so it is neither removed nor added
+    ∷ (
+      batchCall 4 (0 ∷ []) (dusty forwardOf0 backwardOf0) (map (λ i. change (2 - i % 2) 0 1 (4 * (i % 2))) (range 0 1024)),
+      record {
+        reply = report 5 0 0;
+        memory = swept (0 ∷ 0 ∷ 1 ∷ 2 ∷ 3 ∷ []) (1 ∷ 3 ∷ 2 ∷ 1 ∷ 2 ∷ []) (4 ∷ 9 ∷ 4 ∷ 4 ∷ 2 ∷ []) forwardOf0 backwardOf0;
+      },
+    )
+    ∷ []
+
+batches-said : map (λ c. c .0) batches ≡ map (λ c. c .1) batches
+unfolding batchCall replied choose _▷_ refuseIf isIn areLandmarks edges zip rules follow item items edit insert delete exists unsettled flat storesOf affectedOver anyOf countOf range property settle round visit visitIf handle clear relax storeIf keep keepIf mark sweep sweeps affected cleared reopened prepared
+batches-said = refl
+
+-- ---- affected vertices and stores of a batch
+
+-- deck A with one landmark, opened
+abbrev withLandmark : ℕ → Network
+withLandmark l = opened 4 (l ∷ []) (holding graphA (l ∷ []) 4)
+
+abbrev replyTo : ℕ → List Change → Reply Report
+replyTo l b = (batchCall 4 (l ∷ []) (withLandmark l) b) .reply
+
+abbrev reports : List (Reply Report × Reply Report)
+reports =
+    -- "same three words": with another figure the old record is removed and the new one added, for handovers and reach too
+    (replyTo 0 (take 0 1 ∷ add 0 1 3 ∷ []), report 5 10 10)
+    -- a store for each word that gets better: time gives 2 the word 14, then 11; worst gives 2 and 1 first 10, then 9
+    ∷ (replyTo 0 (take 0 1 ∷ add 0 1 10 ∷ []), report 5 10 13)
+    -- an added edge has no affected vertices; 3→0 gives 3 a way to 0, a store in each backward row and none in a forward one
+    ∷ (replyTo 0 (add 3 0 5 ∷ []), report 6 0 5)
+    -- a removed edge that is not tight affects nobody: 3→2 gives 11 for 8, 2 for 4 and 9 for 4; it is tight for handovers, where it
+    -- affects 2, and for reach, where "and so on" leads from 2 to 1
+    ∷ (replyTo 0 (take 3 2 ∷ []), report 4 3 3)
+    -- "For homeward rows all segments are reversed": 1 has lost its only way to 2, and 0 goes by way of 3 now; forward, 1→2 ends in the
+    -- landmark and affects nobody
+    ∷ (replyTo 2 (take 1 2 ∷ []), report 4 10 5)
+    -- "both its ends hold the no-route word": 0→3 has no route at either end in the forward rows of landmark 1, and 3 is not
+    -- affected there; the one affected vertex is 0 in the backward row for reach
+    ∷ (replyTo 1 (take 0 3 ∷ []), report 4 1 1)
+    -- sums go over the rows of all posts: 10 and 10 forward for landmark 0, 5 and 5 backward for landmark 2
+    ∷ ((batchCall 4 (2 ∷ 0 ∷ []) (dusty (forwardOf2 ++ forwardOf0) (backwardOf2 ++ backwardOf0)) (take 0 1 ∷ [])) .reply, report 4 15 15)
+    ∷ []
+
+reports-said : map (λ c. c .0) reports ≡ map (λ c. c .1) reports
+unfolding openCall start.opened batchCall replied choose _▷_ refuseIf isIn areLandmarks edges zip rules follow item items edit insert delete exists unsettled flat storesOf affectedOver anyOf countOf range property settle round visit visitIf handle clear relax storeIf keep keepIf mark sweep sweeps affected cleared reopened prepared
+reports-said = refl
+
+-- ---- queries
+
+-- what a query on deck A leaves: two lists longer than n, whose words past n stay, and the tally: picks taken, rounds, stores
+abbrev query : List ℕ → Network → ℕ → ℕ → List ℕ → Outcome Tally Words
+query ls w p s vs =
+    queryCall 4 ls w (record { property = p; source = s; schedule = vs }) (record { starts = replicate 6 7; settled = replicate 5 8 })
+
+abbrev answer : List ℕ → List ℕ → ℕ → ℕ → ℕ → Outcome Tally Words
+answer xs ys k r c = record {
+  reply = accepted (record { taken = k; rounds = r; stores = c });
+  memory = record { starts = xs ++ (7 ∷ 7 ∷ []); settled = ys ++ (8 ∷ []) };
+}
+
+-- deck A as the openings above leave it: landmark 0, landmark 2, both
+abbrev graph0 : Network
+graph0 = dusty forwardOf0 backwardOf0
+
+abbrev graph2 : Network
+graph2 = dusty forwardOf2 backwardOf2
+
+abbrev graphBoth : Network
+graphBoth = dusty (forwardOf2 ++ forwardOf0) (backwardOf2 ++ backwardOf0)
+
+abbrev queries : List (Outcome Tally Words × Outcome Tally Words)
+queries =
+    -- from the landmark itself: bounds are best values; the round that finds nothing to store counts
+    (query (0 ∷ []) graph0 1 0 [], answer (0 ∷ 4 ∷ 8 ∷ 9 ∷ []) (0 ∷ 4 ∷ 8 ∷ 9 ∷ []) 0 1 0)
+    -- M + 4 is M: 1 has no way to landmark 0, and a sum that wraps would start 2 and 3 with 7 and 8
+    ∷ (query (0 ∷ []) graph0 1 1 [], answer (M ∷ 0 ∷ M ∷ M ∷ []) (M ∷ 0 ∷ 4 ∷ M ∷ []) 0 1 1)
+    -- the backward word of 3 is no route: its forward word 9, read in its place, would start 0 with 9 and 1 with 13
+    ∷ (query (0 ∷ []) graph0 1 3 [], answer (M ∷ M ∷ M ∷ 0 ∷ []) (M ∷ 6 ∷ 2 ∷ 0 ∷ []) 0 3 2)
+    -- headroom: no route is 0, the source has M
+    ∷ (query (0 ∷ []) graph0 3 3 [], answer (0 ∷ 0 ∷ 0 ∷ M ∷ []) (0 ∷ 2 ∷ 2 ∷ M ∷ []) 0 3 2)
+    -- landmark 2: the way there, 2, joined with the way on, 4: their sum for time, their greater one for worst stretch, their lesser one for headroom
+    ∷ (query (2 ∷ []) graph2 1 3 [], answer (M ∷ 6 ∷ 2 ∷ 0 ∷ []) (M ∷ 6 ∷ 2 ∷ 0 ∷ []) 0 1 0)
+    ∷ (query (2 ∷ []) graph2 4 3 [], answer (M ∷ 4 ∷ 2 ∷ 0 ∷ []) (M ∷ 4 ∷ 2 ∷ 0 ∷ []) 0 1 0)
+    ∷ (query (2 ∷ []) graph2 3 3 [], answer (0 ∷ 2 ∷ 2 ∷ M ∷ []) (0 ∷ 2 ∷ 2 ∷ M ∷ []) 0 1 0)
+    -- landmark 2, from 0: the bound for 1 is 8 + 4, and the edge 0→1 betters it; 3 has no bound
+    ∷ (query (2 ∷ []) graph2 1 0 [], answer (0 ∷ 12 ∷ 8 ∷ M ∷ []) (0 ∷ 4 ∷ 8 ∷ 9 ∷ []) 0 1 2)
+    -- "the best, over all posts", wherever it is listed: landmark 2 is the better one from 3, landmark 0 from 0
+    ∷ (query (2 ∷ 0 ∷ []) graphBoth 1 3 [], answer (M ∷ 6 ∷ 2 ∷ 0 ∷ []) (M ∷ 6 ∷ 2 ∷ 0 ∷ []) 0 1 0)
+    ∷ (query (2 ∷ 0 ∷ []) graphBoth 1 0 [], answer (0 ∷ 4 ∷ 8 ∷ 9 ∷ []) (0 ∷ 4 ∷ 8 ∷ 9 ∷ []) 0 1 0)
+    -- picks come before rounds: 3, 2, 1 in that order leave nothing to do; 0 does not wait, and 3 alone leaves two rounds
+    ∷ (query (0 ∷ []) graph0 1 3 (3 ∷ 2 ∷ 1 ∷ []), answer (M ∷ M ∷ M ∷ 0 ∷ []) (M ∷ 6 ∷ 2 ∷ 0 ∷ []) 3 0 2)
+    ∷ (query (0 ∷ []) graph0 1 3 (0 ∷ 3 ∷ 3 ∷ []), answer (M ∷ M ∷ M ∷ 0 ∷ []) (M ∷ 6 ∷ 2 ∷ 0 ∷ []) 1 2 2)
+    -- "Standing words may be any words": rows of zeros are not refused; for time they leave words that are too good, for headroom the run mends them
+    ∷ (query (0 ∷ []) (holding graphA (0 ∷ []) 4) 1 0 [], answer (0 ∷ 0 ∷ 0 ∷ 0 ∷ []) (0 ∷ 0 ∷ 0 ∷ 0 ∷ []) 0 1 0)
+    ∷ (query (0 ∷ []) (holding graphA (0 ∷ []) 4) 3 0 [], answer (M ∷ 0 ∷ 0 ∷ 0 ∷ []) (M ∷ 4 ∷ 4 ∷ 9 ∷ []) 0 1 3)
+    -- .. and a run may end with an edge that could better a word: 3 never waits, so 2 keeps 8 though 3→2 would give 3
+    ∷ (query (0 ∷ []) (dusty (set forwardOf0 3 1) backwardOf0) 1 0 [], answer (0 ∷ 4 ∷ 8 ∷ 1 ∷ []) (0 ∷ 4 ∷ 8 ∷ 1 ∷ []) 0 1 0)
+    -- the source's start word is its value though the landmark rows say 5 + 5
+    ∷ (query (0 ∷ []) (dusty (replicate 20 5) (replicate 20 5)) 1 0 [], answer (0 ∷ 10 ∷ 10 ∷ 10 ∷ []) (0 ∷ 4 ∷ 8 ∷ 9 ∷ []) 0 1 3)
+    -- "No lent memory changes"
+    ∷ (query (0 ∷ []) graph0 6 0 [], record { reply = refused 5 0; memory = record { starts = replicate 6 7; settled = replicate 5 8 } })
+    ∷ (
+      query (0 ∷ []) graph0 1 0 (0 ∷ 4 ∷ []),
+      record { reply = refused 6 1; memory = record { starts = replicate 6 7; settled = replicate 5 8 } },
+    )
+    ∷ []
+
+queries-said : map (λ c. c .0) queries ≡ map (λ c. c .1) queries
+unfolding queryCall replied choose _▷_ refuseIf isIn areLandmarks scheduled edges zip rules follow unsettled flat anyOf range property bound asked run.take takeIf pass settle round visit visitIf handle clear relax storeIf keep keepIf
+queries-said = refl
+
+-- ---- the settled check
+
+abbrev checked : List ℕ → List ℕ → List ℕ → Reply Check
+checked ls f b = settledCall 4 ls (dusty f b)
+
+abbrev checkings : List (Reply Check × Reply Check)
+checkings =
+    -- the rows that an opening leaves are settled: an edge that gives a word its equal could not better it
+    (checked (0 ∷ []) forwardOf0 backwardOf0, accepted settled)
+    ∷ (checked (2 ∷ []) forwardOf2 backwardOf2, accepted settled)
+    -- forward, row 0 (time): 1 has 5, and record 0 would give it 4
+    ∷ (checked (0 ∷ []) (set forwardOf0 1 5) backwardOf0, accepted (found 0 0 0))
+    -- row 1 (handovers): 2 has 3; records 2 and 4 would give it 2, and the first of them is named
+    ∷ (checked (0 ∷ []) (set forwardOf0 6 3) backwardOf0, accepted (found 0 1 2))
+    -- row 2 (headroom): a lesser word is the worse one; 3 has 8, and record 1 would give it 9
+    ∷ (checked (0 ∷ []) (set forwardOf0 11 8) backwardOf0, accepted (found 0 2 1))
+    -- the second landmark's rows come after the first's five: row 5 is its time row
+    ∷ (checked (0 ∷ 2 ∷ []) (forwardOf0 ++ set forwardOf2 1 5) (backwardOf0 ++ backwardOf2), accepted (found 0 5 3))
+    -- backward alone: side 1; 3 has 7, and 3→2 would give it 2: record 4 of the table, not its place among reversed edges (3)
+    ∷ (checked (2 ∷ []) forwardOf2 (set backwardOf2 3 7), accepted (found 1 0 4))
+    -- "in order outward, homeward, then row, then record": a late forward row goes before an early backward one
+    ∷ (checked (2 ∷ []) (set forwardOf2 17 0) (set backwardOf2 3 7), accepted (found 0 4 3))
+    -- an early row with a late record goes before a late row with an early record
+    ∷ (checked (0 ∷ []) (set (set forwardOf0 2 20) 5 9) backwardOf0, accepted (found 0 0 2))
+    -- "Settled" doesn't say that words aren't too good: 2 has 3 for 8. Where a word that is too good would better another, that edge is named
+    ∷ (checked (0 ∷ []) (set forwardOf0 2 3) backwardOf0, accepted settled)
+    ∷ (checked (0 ∷ []) (set forwardOf0 3 0) backwardOf0, accepted (found 0 0 4))
+    -- a call that is refused says nothing of the rows
+    ∷ (checked (0 ∷ 0 ∷ []) (forwardOf0 ++ forwardOf0) (backwardOf0 ++ backwardOf0), refused 3 0)
+    ∷ []
+
+checkings-said : map (λ c. c .0) checkings ≡ map (λ c. c .1) checkings
+unfolding settledCall replied _▷_ refuseIf isIn areLandmarks edges zip rules follow inRows inRecords range property
+checkings-said = refl
+
+-- ---- post choice
+
+-- lists of a table that holds the edges es
+abbrev tableOf : List Edge → Columns
+tableOf es = (holding es [] 0) .memory .table
+
+abbrev chosen : ℕ → List Edge → ℕ → Reply (List ℕ)
+chosen n es k = choiceCall n (tableOf es) (length es) k
+
+abbrev choices : List (Reply (List ℕ) × Reply (List ℕ))
+choices =
+    -- deck A has 2, 3, 3, 2 segments in plus out: "most .. first, ties to the lower number, listed in that order"
+    (chosen 4 graphA 1, accepted (1 ∷ []))
+    ∷ (chosen 4 graphA 2, accepted (1 ∷ 2 ∷ []))
+    ∷ (chosen 4 graphA 3, accepted (1 ∷ 2 ∷ 0 ∷ []))
+    ∷ (chosen 4 graphA 4, accepted (1 ∷ 2 ∷ 0 ∷ 3 ∷ []))
+    -- segments in alone and segments out alone count alike: 3 has three in, and in the other network three out
+    ∷ (chosen 4 (edge 0 3 1 ∷ edge 1 3 1 ∷ edge 2 3 1 ∷ []) 2, accepted (3 ∷ 0 ∷ []))
+    ∷ (chosen 4 (edge 3 0 1 ∷ edge 3 1 1 ∷ edge 3 2 1 ∷ []) 2, accepted (3 ∷ 0 ∷ []))
+    -- in plus out: 2 has one each way, the others one
+    ∷ (chosen 3 (edge 0 2 1 ∷ edge 2 1 1 ∷ []) 3, accepted (2 ∷ 0 ∷ 1 ∷ []))
+    -- figures don't count
+    ∷ (chosen 4 (edge 0 1 1 ∷ edge 2 3 65535 ∷ []) 4, accepted (0 ∷ 1 ∷ 2 ∷ 3 ∷ []))
+    -- "or n if fewer": k above n is good and gives n stations
+    ∷ (chosen 3 (edge 1 2 1 ∷ []) 4, accepted (1 ∷ 2 ∷ 0 ∷ []))
+    ∷ (chosen 1 [] 4, accepted (0 ∷ []))
+    -- a station without segments may be chosen
+    ∷ (chosen 5 [] 2, accepted (0 ∷ 1 ∷ []))
+    -- k is 1 to 4, however many stations there are
+    ∷ (chosen 5 [] 0, refused 3 0)
+    ∷ (chosen 5 [] 5, refused 3 0)
+    ∷ []
+
+choices-said : map (λ c. c .0) choices ≡ map (λ c. c .1) choices
+unfolding choiceCall replied _▷_ refuseIf edges zip rules follow place ranked keep keepIf range
+choices-said = refl
+
+-- ---- row look-up
+
+-- landmarks 2 and 0, in that order; three words past the rows
+abbrev rows : Rows
+rows = record { forward = forwardOf2 ++ forwardOf0 ++ (99 ∷ 99 ∷ 99 ∷ []); backward = backwardOf2 ++ backwardOf0 ++ (98 ∷ 98 ∷ 98 ∷ []) }
+
+-- side, landmark and property
+abbrev shown : ℕ → ℕ → ℕ → List ℕ
+shown side l p = lookupRow 4 (2 ∷ 0 ∷ []) rows side l p
+
+abbrev lookups : List (List ℕ × List ℕ)
+lookups =
+    -- the post is named by its station: 2 is the first of the list, 0 the second
+    (shown 0 2 1, M ∷ 4 ∷ 0 ∷ M ∷ [])
+    ∷ (shown 0 0 1, 0 ∷ 4 ∷ 8 ∷ 9 ∷ [])
+    -- "a part of whichever of the two it belongs to": 0 is outward, 1 homeward; A has 0→3 but no way from 3 to 0
+    ∷ (shown 1 0 1, 0 ∷ M ∷ M ∷ M ∷ [])
+    ∷ (shown 1 2 1, 8 ∷ 4 ∷ 0 ∷ 2 ∷ [])
+    -- properties count from 1; the last row ends where the words past the rows begin
+    ∷ (shown 0 2 3, 0 ∷ 4 ∷ M ∷ 0 ∷ [])
+    ∷ (shown 1 2 4, 4 ∷ 4 ∷ 0 ∷ 2 ∷ [])
+    ∷ (shown 0 0 5, 1 ∷ 1 ∷ 1 ∷ 1 ∷ [])
+    ∷ (shown 1 0 5, 1 ∷ 0 ∷ 0 ∷ 0 ∷ [])
+    -- "A refused look-up shows the empty part": property 0 and 6, side 2, a post not in the list (1 is its index, no station of it)
+    ∷ (shown 0 2 0, [])
+    ∷ (shown 0 2 6, [])
+    ∷ (shown 2 2 1, [])
+    ∷ (shown 0 1 1, [])
+    ∷ (lookupRow 4 (2 ∷ 2 ∷ []) rows 0 2 1, [])
+    ∷ []
+
+lookups-said : map (λ c. c .0) lookups ≡ map (λ c. c .1) lookups
+unfolding lookupRow choose _▷_ refuseIf isIn areLandmarks indexOf
+lookups-said = refl
+
+-- ---- the network as it is now
+
+-- accepted; refused, for 0→1 is gone; accepted; refused as a whole, though its first change is good; accepted and empty
+abbrev history : List (List Change)
+history =
+    (take 0 1 ∷ [])
+    ∷ (take 0 1 ∷ [])
+    ∷ (add 1 0 2 ∷ add 0 1 3 ∷ [])
+    ∷ (take 0 3 ∷ add 2 2 1 ∷ [])
+    ∷ []
+    ∷ []
+
+abbrev edgesNow : List Edge
+edgesNow = edge 0 1 3 ∷ edge 0 3 9 ∷ edge 1 0 2 ∷ edge 1 2 4 ∷ edge 2 1 4 ∷ edge 3 2 2 ∷ []
+
+-- "Accepted: item by item .. the list stays in table order. Refused: it stays"
+current-now : current 4 graphA history ≡ edgesNow
+unfolding after turnedBack choose item items edit insert delete exists _▷_ refuseIf
+current-now = refl
+
+-- "The table's records below the present count are this list, and the count is its length": a refused batch hands on words and count.
+-- The time rows of landmark 0 are those of the edges now: from 0 and, by way of the new edge 1→0, to 0
+abbrev held : Network → List Edge × ℕ × List ℕ × List ℕ
+held w = (edgesIn w, w .count, list.take 4 (w .memory .rows .forward), list.take 4 (w .memory .rows .backward))
+
+lived-now : held (lived 4 (0 ∷ []) (withLandmark 0) history) ≡ (edgesNow, 6, 0 ∷ 3 ∷ 7 ∷ 9 ∷ [], 0 ∷ 2 ∷ 6 ∷ 8 ∷ [])
+unfolding openCall start.opened batchCall reported replied choose _▷_ refuseIf isIn areLandmarks edges zip rules follow item items edit insert delete exists unsettled flat storesOf affectedOver anyOf countOf range property settle round visit visitIf handle clear relax storeIf keep keepIf mark sweep sweeps affected cleared reopened prepared
+lived-now = refl
+
+-- "whether "Turned back" accepts the batch": reckoned from the edges alone it is what the call says, number and place
+abbrev judgedBatches : List (List Change × Verdict)
+judgedBatches =
+    ([], accept)
+    ∷ (take 0 1 ∷ [], accept)
+    ∷ (take 0 1 ∷ take 0 1 ∷ [], refuse 11 1)
+    ∷ (take 0 1 ∷ add 0 1 4 ∷ worst ∷ [], refuse 6 2)
+    ∷ (replicate 1025 worst, refuse 1 0)
+    ∷ []
+
+turnedBack-said : map (λ c. turnedBack 4 graphA (c .0)) judgedBatches ≡ map (λ c. c .1) judgedBatches
+unfolding turnedBack item items edit insert delete exists _▷_ refuseIf
+turnedBack-said = refl
+
+batchCall-said : map (λ c. changes 4 (0 ∷ []) (withLandmark 0) (c .0)) judgedBatches ≡ map (λ c. c .1) judgedBatches
+unfolding openCall start.opened batchCall verdictOf replied choose _▷_ refuseIf isIn areLandmarks edges zip rules follow item items edit insert delete exists unsettled flat storesOf affectedOver anyOf countOf range property settle round visit visitIf handle clear relax storeIf keep keepIf mark sweep sweeps affected cleared reopened prepared
+batchCall-said = refl

@@ -1,0 +1,265 @@
+-- What an opening brings about and every batch keeps: the network's invariant. Assumes nothing.
+--
+--   Good n ls w      == the invariant: no call refuses w for its size, lists, landmarks or table, and its rows hold best words
+--   Step n ls w b    == what the batch b does to w: the invariant stays, the edges are those after b, and what demand 3 says of it
+use mathlib.Core.Path.{_≡_, refl, sym, ap, _∙_, subst}
+use mathlib.Core.Bool.{_||_, false}
+use mathlib.Core.List.{List, [], _∷_, map}
+use Prim.Native.Nat.{ℕ, suc, _%_, _≤_}
+use native.Mathlib.Omega.{arith}
+use lib.ListN.{length}
+use lib.Dec.{ltb}
+use Rattle.property.specs.Property.{properties}
+use Rattle.property.proofs.Instances.{property-laws}
+use Rattle.graph.specs.Limits.{maxEdges, maxBatch}
+use Rattle.graph.specs.Refusal.{Verdict, accept, refuse, refused, _▷_, refuseIf, replied, verdictOf, choose, Outcome, outcome, over}
+use Rattle.graph.specs.Edge.{Edge, reverse}
+use Rattle.graph.specs.Table.{size, shortTable, table}
+use Rattle.graph.proofs.Tests.{or-false}
+use Rattle.graph.proofs.Verdicts.{then-accept, accept-then, refuse-then, accept-if}
+use Rattle.graph.proofs.Order.{Sound, Within, within}
+use Rattle.theory.proofs.Reverse.{within-reverse}
+use Rattle.network.specs.Network.{Memory, Network, edgesIn, shortRows, landmarks, flat, unsettled}
+use Rattle.network.specs.Open.{openRow, openVerdict, openMemory, openCall}
+use Rattle.network.specs.Change.{Change, items}
+use Rattle.network.specs.Batch.{batchRow, Report, newEdges, newForward, newBackward, batchVerdict, batchMemory, report, batchCall}
+use Rattle.network.specs.Caller.{opened, reported, handOn, lived}
+use Rattle.network.specs.Current.{turnedBack, after, current}
+use Rattle.network.specs.History.{Unworse, Applied, moment, now}
+use Rattle.network.proofs.Items.{items-good, table-accept, accept-table, table-count, rewritten-edges, rewritten-long}
+use Rattle.network.proofs.Rows.{rows-long, open-sized, batch-sized, RowsBest, open-best, batch-rests, batch-best, batch-unworse}
+
+-- ---- verdicts
+
+-- what comes after an accepted verdict may be put otherwise
+pub then-same : (a : Verdict) {b c : Verdict} → (a ≡ accept → b ≡ c) → (a ▷ b) ≡ (a ▷ c)
+unfolding _▷_
+then-same accept h = h refl
+then-same (refuse k i) h = refl
+
+-- a last refusal that never comes
+pub then-last : (a : Verdict) {b : Verdict} → (a ≡ accept → b ≡ accept) → (a ▷ b) ≡ a
+unfolding _▷_
+then-last accept h = h refl
+then-last (refuse k i) h = refl
+
+then-assoc : (a b c : Verdict) → (a ▷ b ▷ c) ≡ ((a ▷ b) ▷ c)
+unfolding _▷_
+then-assoc accept b c = refl
+then-assoc (refuse k i) b c = refl
+
+pub verdict-replied : {A : Type 0} (v : Verdict) (a : A) → verdictOf (replied v a) ≡ v
+unfolding replied verdictOf
+verdict-replied accept a = refl
+verdict-replied (refuse k i) a = refl
+
+pub choose-accept : {A : Type 0} {v : Verdict} (new old : A) → v ≡ accept → choose v new old ≡ new
+unfolding choose
+choose-accept new old e = rw e
+
+-- ---- the invariant
+
+pub record Good (n : ℕ) (ls : List ℕ) (w : Network) : Type 0 where
+  pub sized : size n ≡ accept
+  pub roomy : shortTable (w .memory .table) ≡ accept
+  pub long : shortRows n ls (w .memory .rows) ≡ accept
+  pub chosen : landmarks n ls ≡ accept
+  pub sound : table n (w .memory .table) (w .count) ≡ accept
+  pub forward : RowsBest n ls (edgesIn w) (w .memory .rows .forward)
+  pub backward : RowsBest n ls (map reverse (edgesIn w)) (w .memory .rows .backward)
+
+pub good-within : (n : ℕ) (ls : List ℕ) (w : Network) → Good n ls w → Within n (edgesIn w)
+good-within n ls w g = within n (edgesIn w) ((table-accept n (w .memory .table) (w .count) (g .sound)) .1)
+
+pub good-count : (n : ℕ) (ls : List ℕ) (w : Network) → Good n ls w → length (edgesIn w) ≡ w .count
+good-count n ls w g = table-count (w .memory .table) (w .count) (g .roomy) ((table-accept n (w .memory .table) (w .count) (g .sound)) .0)
+
+-- ---- the opening
+
+module _ (n : ℕ) (ls : List ℕ) (w : Network) where
+  abbrev begun : Memory → Network
+  begun m = record { memory = m; count = w .count }
+
+  open-good : openVerdict n ls w ≡ accept → Good n ls (begun (openMemory n ls w))
+  open-good h =
+      let a = then-accept (size n) _ h in
+      let b = then-accept (shortTable (w .memory .table)) _ (a .1) in
+      let c = then-accept (shortRows n ls (w .memory .rows)) _ (b .1) in
+      let d = then-accept (landmarks n ls) _ (c .1) in
+      let e = then-accept (table n (w .memory .table) (w .count)) _ (d .1) in
+      let i = within n (edgesIn w) ((table-accept n (w .memory .table) (w .count) (e .0)) .1) in
+      record {
+        sized = a .0;
+        roomy = b .0;
+        long = rows-long n ls (openRow n ls (edgesIn w)) (openRow n ls (map reverse (edgesIn w))) (open-sized n ls (edgesIn w))
+            (open-sized n ls (map reverse (edgesIn w))) (w .memory .rows) (c .0);
+        chosen = d .0;
+        sound = e .0;
+        forward = open-best n ls (d .0) (edgesIn w) i (w .memory .rows .forward);
+        backward = open-best n ls (d .0) (map reverse (edgesIn w)) (within-reverse n (edgesIn w) i) (w .memory .rows .backward);
+      }
+
+  -- An accepted opening brings the invariant about. As it was accepted, size, lists, landmarks and table are as they must be. It leaves
+  -- the table as it is, so the edges too, and writes rows of best words into the row lists, which stay as long as they were.
+  pub opens : verdictOf ((openCall n ls w) .reply) ≡ accept → Good n ls (opened n ls w) × (edgesIn (opened n ls w) ≡ edgesIn w)
+  unfolding openCall
+  opens h =
+      let v : openVerdict n ls w ≡ accept = sym (verdict-replied (openVerdict n ls w) tt) ∙ h in
+      let e = choose-accept (openMemory n ls w) (w .memory) v in
+      (subst (λ m. Good n ls (begun m)) (sym e) (open-good v), ap (λ m. edgesIn (begun m)) e)
+
+-- ---- a batch
+
+pub record Step (n : ℕ) (ls : List ℕ) (w : Network) (b : List Change) : Type 0 where
+  pub kept : Good n ls (handOn w (batchCall n ls w b))
+  pub moved : edgesIn (handOn w (batchCall n ls w b)) ≡ after n (edgesIn w) b
+  pub applied : Applied n ls (edgesIn w) w b
+
+module _ (n : ℕ) (ls : List ℕ) (w : Network) (b : List Change) (g : Good n ls w) where
+  -- the edges before and after the batch, and the rows before it
+  abbrev es : List Edge
+  es = edgesIn w
+
+  abbrev fs : List Edge
+  fs = newEdges n ls w b
+
+  abbrev ahead : List ℕ
+  ahead = w .memory .rows .forward
+
+  abbrev back : List ℕ
+  back = w .memory .rows .backward
+
+  -- its outcome under the verdict v
+  abbrev out : Verdict → Outcome Report Memory
+  out v = outcome v (report n ls w b) (batchMemory n ls w b) (w .memory)
+
+  called : (v : Verdict) → batchVerdict n ls w b ≡ v → batchCall n ls w b ≡ out v
+  unfolding batchCall
+  called v e = ap out e
+
+  afterwards : (v : Verdict) → turnedBack n es b ≡ v → after n es b ≡ choose v fs es
+  unfolding after
+  afterwards v e = ap (λ x. choose x fs es) e
+
+  -- of the call's refusals those are left that document 01 has for a batch, and 13
+  judged : batchVerdict n ls w b ≡ (turnedBack n es b ▷ refuseIf (unsettled (newForward n ls w b) || unsettled (newBackward n ls w b)) 13 0)
+  unfolding turnedBack
+  judged = accept-then (g .sized)
+      ∙ then-same (refuseIf (ltb maxBatch (length b)) 1 0)
+      (λ _. accept-then (g .roomy) ∙ accept-then (g .long) ∙ accept-then (g .chosen) ∙ accept-then (g .sound))
+      ∙ then-assoc (refuseIf (ltb maxBatch (length b)) 1 0) (items n 0 es b) _
+
+  refused-kept : (v : Verdict) (k i : ℕ) → (out v) .reply ≡ refused k i → handOn w (out v) ≡ w
+  unfolding replied choose reported
+  refused-kept accept k i r = let z : _≡_ {A = ℕ} 0 1 = cc in absurd (omega arith)
+  refused-kept (refuse j p) k i r = refl
+
+  -- one step under the verdict v, from what the lists are under it
+  stepped : (v : Verdict) → turnedBack n es b ≡ v → batchVerdict n ls w b ≡ v
+      → Good n ls (handOn w (out v)) → edgesIn (handOn w (out v)) ≡ choose v fs es
+      → Unworse n ls es (choose v fs es) ahead ((out v) .memory .rows .forward)
+      → Unworse n ls (map reverse es) (map reverse (choose v fs es)) back ((out v) .memory .rows .backward)
+      → Step n ls w b
+  stepped v e c good moved forward backward =
+      let d = called v c in
+      let f = afterwards v e in
+      record {
+        kept = subst (λ o. Good n ls (handOn w o)) (sym d) good;
+        moved = ap (λ o. edgesIn (handOn w o)) d ∙ moved ∙ sym f;
+        applied = record {
+          judged = ap (λ o. verdictOf (o .reply)) d ∙ verdict-replied v (report n ls w b) ∙ sym e;
+          kept = λ k i r. ap (handOn w) d ∙ refused-kept v k i (ap (λ o. o .reply) (sym d) ∙ r);
+          forward = subst (λ o. Unworse n ls es (after n es b) ahead (o .memory .rows .forward)) (sym d)
+              (subst (λ x. Unworse n ls es x ahead ((out v) .memory .rows .forward)) (sym f) forward);
+          backward = subst (λ o. Unworse n ls (map reverse es) (map reverse (after n es b)) back (o .memory .rows .backward)) (sym d)
+              (subst (λ x. Unworse n ls (map reverse es) (map reverse x) back ((out v) .memory .rows .backward)) (sym f) backward);
+        };
+      }
+
+  -- ---- refused
+
+  unworse : (xs : List ℕ) (ds hs : List Edge) → Unworse n ls ds hs xs xs
+  unworse xs ds hs r t h q a = (property-laws (suc (r % properties))) .irreflexive _
+
+  refused-step : (k i : ℕ) → turnedBack n es b ≡ refuse k i → Step n ls w b
+  unfolding replied choose reported
+  refused-step k i e = stepped (refuse k i) e (judged ∙ refuse-then _ _ e) g refl (unworse ahead es es) (unworse back (map reverse es) (map reverse es))
+
+  -- ---- accepted
+
+  module _ (e : turnedBack n es b ≡ accept) where
+    new-good : Sound n fs × (length fs ≤ maxEdges)
+    unfolding turnedBack
+    new-good =
+        let z = then-accept (refuseIf (ltb maxBatch (length b)) 1 0) (items n 0 es b) e in
+        let y = table-accept n (w .memory .table) (w .count) (g .sound) in
+        items-good n 0 es b (z .1) (y .1) (rw (good-count n ls w g) (y .0))
+
+    old-in : Within n es
+    old-in = good-within n ls w g
+
+    new-in : Within n fs
+    new-in = within n fs (new-good .0)
+
+    old-back : Within n (map reverse es)
+    old-back = within-reverse n es old-in
+
+    new-back : Within n (map reverse fs)
+    new-back = within-reverse n fs new-in
+
+    rests : (unsettled (newForward n ls w b) || unsettled (newBackward n ls w b)) ≡ false
+    rests = or-false (batch-rests n ls (g .chosen) es fs old-in new-in ahead (g .forward))
+        (batch-rests n ls (g .chosen) (map reverse es) (map reverse fs) old-back new-back back (g .backward))
+
+    abbrev next : Network
+    next = record { memory = batchMemory n ls w b; count = length fs }
+
+    read : edgesIn next ≡ fs
+    read = rewritten-edges fs (w .memory .table)
+
+    next-good : Good n ls next
+    next-good = record {
+      sized = g .sized;
+      roomy = rewritten-long fs (new-good .1) (w .memory .table) (g .roomy);
+      long = rows-long n ls (batchRow n ls es fs ahead) (batchRow n ls (map reverse es) (map reverse fs) back) (batch-sized n ls es fs ahead)
+          (batch-sized n ls (map reverse es) (map reverse fs) back) (w .memory .rows) (g .long);
+      chosen = g .chosen;
+      sound = accept-table n (next .memory .table) (length fs) (new-good .1) (subst (Sound n) (sym read) (new-good .0));
+      forward = subst (λ x. RowsBest n ls x (over (flat (newForward n ls w b)) ahead)) (sym read)
+          (batch-best n ls (g .chosen) es fs old-in new-in ahead (g .forward));
+      backward = subst (λ x. RowsBest n ls (map reverse x) (over (flat (newBackward n ls w b)) back)) (sym read)
+          (batch-best n ls (g .chosen) (map reverse es) (map reverse fs) old-back new-back back (g .backward));
+    }
+
+    accepted-step : Step n ls w b
+    unfolding replied choose reported
+    accepted-step = stepped accept e (judged ∙ accept-then e ∙ accept-if 13 0 rests) next-good read
+        (batch-unworse n ls (g .chosen) es fs old-in new-in ahead (g .forward))
+        (batch-unworse n ls (g .chosen) (map reverse es) (map reverse fs) old-back new-back back (g .backward))
+
+  -- A batch keeps the invariant. As it holds before, the call refuses for nothing but what document 01 has for a batch on these edges, or
+  -- for 13. Refused, all stays as it was. Accepted, the new edges keep the table's rules, and they are read back from the lists that were
+  -- written. In no row anything waits after n rounds, so 13 does not come. From best words of the old edges come best words of the new,
+  -- and none is worse that is not affected.
+  pub steps : Step n ls w b
+  steps = pick (turnedBack n es b) refl
+    where
+      pick : (v : Verdict) → turnedBack n es b ≡ v → Step n ls w b
+      pick accept e = accepted-step e
+      pick (refuse k i) e = refused-step k i e
+
+-- ---- a list of batches
+
+lived-good : (n : ℕ) (ls : List ℕ) (bs : List (List Change)) (w : Network) (es : List Edge) → Good n ls w → edgesIn w ≡ es
+    → Good n ls (lived n ls w bs) × (edgesIn (lived n ls w bs) ≡ current n es bs)
+lived-good n ls [] w es g e = (g, e)
+lived-good n ls (b ∷ bs) w es g e =
+    let z = steps n ls w b g in
+    lived-good n ls bs (handOn w (batchCall n ls w b)) (after n es b) (z .kept) (z .moved ∙ ap (λ x. after n x b) e)
+
+-- At any moment after an accepted opening the invariant holds, and the edges in the table are the network as it is now. Both go by
+-- induction along the batches: what a call reads from the table before a batch is the network as it then is, so it judges and changes
+-- the same list of edges as `current` does.
+pub moment-good : (n : ℕ) (ls : List ℕ) (w : Network) → verdictOf ((openCall n ls w) .reply) ≡ accept → (bs : List (List Change))
+    → Good n ls (moment n ls w bs) × (edgesIn (moment n ls w bs) ≡ now n w bs)
+moment-good n ls w h bs = let z = opens n ls w h in lived-good n ls bs (opened n ls w) (edgesIn w) (z .0) (z .1)

@@ -1,0 +1,173 @@
+-- Number 13 never comes on a network of these calls, and which numbers do. Assumes nothing.
+--
+--   Only Q v              == v accepts, or refuses with a number that passes the test Q
+--   openNumber k          == k is 1 to 4
+--   batchNumber k         == k is 1, or 6 to 12
+--   queryNumber k         == k is 1, 2, 5 or 6
+--   queryBack n q out     == what "Turned back" says of a query, but for the network: 1, 2, 5 and 6 (for a batch it is `turnedBack`)
+--   Never r               == the reply r is not number 13
+use mathlib.Core.Path.{_≡_, refl, sym, _∙_}
+use mathlib.Core.Bool.{Bool, true, false, not, _&&_, _||_, true≢false}
+use mathlib.Core.List.{List, [], _∷_, map}
+use Prim.Native.Nat.{ℕ, suc, _<_}
+use lib.ListN.{length}
+use lib.Dec.{ltb, leb, eqb}
+use borrow.Author.Tests.{ltb-true, leb-true, not-false}
+use Rattle.property.specs.Property.{properties, isProperty}
+use Rattle.property.proofs.Instances.{property-laws}
+use Rattle.frontier.specs.Waiting.{anyOf}
+use Rattle.graph.specs.Limits.{maxSchedule}
+use Rattle.graph.specs.Refusal.{Verdict, accept, refuse, _▷_, refuseIf, Reply, refused, verdictOf}
+use Rattle.graph.specs.Edge.{Edge, reverse}
+use Rattle.graph.specs.Table.{follow, rules, size, shortTable, table}
+use Rattle.graph.proofs.Tests.{both, or-false}
+use Rattle.graph.proofs.Verdicts.{accept-then, if-accept, accept-if}
+use Rattle.graph.proofs.Order.{within}
+use Rattle.theory.proofs.Rest.{settle-rests}
+use Rattle.theory.proofs.Reverse.{within-reverse}
+use Rattle.network.specs.Network.{Network, edgesIn, shortRows, landmarks}
+use Rattle.network.specs.Open.{openVerdict, openCall}
+use Rattle.network.specs.Query.{Query, Words, scheduled, atRounds, atEnd, queryVerdict, queryCall}
+use Rattle.network.specs.Change.{Change, edit, item, items}
+use Rattle.network.specs.Batch.{batchCall}
+use Rattle.network.specs.Current.{turnedBack}
+use Rattle.network.specs.History.{moment}
+use Rattle.network.proofs.Items.{table-accept}
+use Rattle.network.proofs.Rows.{open-rests}
+use Rattle.network.proofs.Moment.{then-same, then-last, verdict-replied, Good, good-within, steps, moment-good}
+use Rattle.network.proofs.Query.{rounds-good}
+
+-- ---- what turns each call back
+
+-- An opening, on whatever lists, is turned back by numbers 1 to 4 alone. Where these accept, its landmarks are vertices and its edges lie
+-- within the n vertices. So each opened row keeps the invariant of runs, on the edges and on the reversed ones, and from such a state
+-- nothing waits after n rounds.
+pub open-judged : (n : ℕ) (ls : List ℕ) (w : Network) → verdictOf ((openCall n ls w) .reply)
+    ≡ (size n ▷ shortTable (w .memory .table) ▷ shortRows n ls (w .memory .rows) ▷ landmarks n ls ▷ table n (w .memory .table) (w .count))
+unfolding openCall
+open-judged n ls w = verdict-replied (openVerdict n ls w) tt
+    ∙ then-same (size n) (λ _. then-same (shortTable (w .memory .table)) (λ _. then-same (shortRows n ls (w .memory .rows)) (λ _.
+    then-same (landmarks n ls) (λ c. then-last (table n (w .memory .table) (w .count)) (λ d.
+    let i = within n (edgesIn w) ((table-accept n (w .memory .table) (w .count) d) .1) in
+    accept-if 13 0 (or-false (open-rests n ls c (edgesIn w) i) (open-rests n ls c (map reverse (edgesIn w)) (within-reverse n (edgesIn w) i))))))))
+
+-- a batch on a network that keeps the invariant, by what document 01 has for a batch on its edges alone
+pub batch-judged : (n : ℕ) (ls : List ℕ) (w : Network) (b : List Change) → Good n ls w
+    → verdictOf ((batchCall n ls w b) .reply) ≡ turnedBack n (edgesIn w) b
+batch-judged n ls w b g = (steps n ls w b g) .applied .judged
+
+abbrev pub queryBack : ℕ → Query → Words → Verdict
+queryBack n q out =
+    refuseIf (ltb maxSchedule (length (q .schedule))) 1 0
+    ▷ refuseIf (ltb (length (out .starts)) n || ltb (length (out .settled)) n) 2 0
+    ▷ refuseIf (not (isProperty (q .property))) 5 0
+    ▷ refuseIf (not (ltb (q .source) n)) 6 0
+    ▷ scheduled n 0 (q .schedule)
+
+-- A query on a network that keeps the invariant is turned back by its own numbers alone. The network's size, lists, landmarks and table
+-- are as they must be. Where property and source are too, its start keeps the invariant of runs, and the schedule keeps it: so nothing
+-- waits after n rounds.
+pub query-judged : (n : ℕ) (ls : List ℕ) (w : Network) (q : Query) (out : Words) → Good n ls w
+    → verdictOf ((queryCall n ls w q out) .reply) ≡ queryBack n q out
+unfolding queryCall
+query-judged n ls w q out g = verdict-replied (queryVerdict n ls w q out) _
+    ∙ accept-then (g .sized)
+    ∙ then-same (refuseIf (ltb maxSchedule (length (q .schedule))) 1 0) (λ _. accept-then (g .roomy) ∙ accept-then (g .long)
+    ∙ then-same (refuseIf (ltb (length (out .starts)) n || ltb (length (out .settled)) n) 2 0) (λ _. accept-then (g .chosen) ∙ accept-then (g .sound)
+    ∙ then-same (refuseIf (not (isProperty (q .property))) 5 0) (λ a. then-same (refuseIf (not (ltb (q .source) n)) 6 0) (λ b.
+    then-last (scheduled n 0 (q .schedule)) (λ _. accept-if 13 0 (rests a b))))))
+  where
+    rests : refuseIf (not (isProperty (q .property))) 5 0 ≡ accept → refuseIf (not (ltb (q .source) n)) 6 0 ≡ accept
+        → anyOf ((atEnd n ls w q) .waiting) ≡ false
+    rests a b =
+        let p = both (ltb 0 (q .property)) (leb (q .property) properties) (not-false _ (if-accept _ _ _ a)) in
+        let s : q .source < n = ltb-true _ _ (not-false _ (if-accept _ _ _ b)) in
+        settle-rests (property-laws (q .property)) (edgesIn w) (q .source) n (good-within n ls w g) s (atRounds n ls w q)
+        (rounds-good n ls w g q (ltb-true _ _ (p .0)) (leb-true _ _ (p .1)) s)
+
+-- ---- which numbers come
+
+abbrev between : ℕ → ℕ → ℕ → Bool
+between a b k = leb a k && leb k b
+
+abbrev pub openNumber : ℕ → Bool
+openNumber k = between 1 4 k
+
+abbrev pub batchNumber : ℕ → Bool
+batchNumber k = eqb k 1 || between 6 12 k
+
+abbrev pub queryNumber : ℕ → Bool
+queryNumber k = between 1 2 k || between 5 6 k
+
+pub data Only (Q : ℕ → Bool) : Verdict → Type 0 where
+  accepts : Only Q accept
+  refuses : {k i : ℕ} → Q k ≡ true → Only Q (refuse k i)
+
+only-if : {Q : ℕ → Bool} (t : Bool) (k i : ℕ) → Q k ≡ true → Only Q (refuseIf t k i)
+unfolding refuseIf
+only-if true k i h = refuses h
+only-if false k i h = accepts
+
+only-then : {Q : ℕ → Bool} {a b : Verdict} → Only Q a → Only Q b → Only Q (a ▷ b)
+unfolding _▷_
+only-then accepts k = k
+only-then (refuses h) k = refuses h
+
+only-follow : {Q : ℕ → Bool} → Q 4 ≡ true → (n i : ℕ) (p : Edge) (es : List Edge) → Only Q (follow n i p es)
+unfolding follow
+only-follow h n i p [] = accepts
+only-follow h n i p (e ∷ es) = only-then (only-if _ 4 i h) (only-follow h n (suc i) e es)
+
+only-rules : {Q : ℕ → Bool} → Q 4 ≡ true → (n : ℕ) (es : List Edge) → Only Q (rules n es)
+unfolding rules
+only-rules h n [] = accepts
+only-rules h n (e ∷ es) = only-then (only-if _ 4 0 h) (only-follow h n 1 e es)
+
+only-scheduled : {Q : ℕ → Bool} → Q 6 ≡ true → (n i : ℕ) (vs : List ℕ) → Only Q (scheduled n i vs)
+unfolding scheduled
+only-scheduled h n i [] = accepts
+only-scheduled h n i (v ∷ vs) = only-then (only-if _ 6 i h) (only-scheduled h n (suc i) vs)
+
+only-items : (n i : ℕ) (es : List Edge) (cs : List Change) → Only batchNumber (items n i es cs)
+unfolding items item
+only-items n i es [] = accepts
+only-items n i es (c ∷ cs) = only-then (only-then (only-if _ 6 i refl) (only-then (only-if _ 7 i refl) (only-then (only-if _ 8 i refl)
+    (only-then (only-if _ 9 i refl) (only-then (only-if _ 10 i refl) (only-then (only-if _ 11 i refl) (only-if _ 12 i refl)))))))
+    (only-items n (suc i) (edit es c) cs)
+
+pub open-numbers : (n : ℕ) (ls : List ℕ) (w : Network) → Only openNumber (verdictOf ((openCall n ls w) .reply))
+open-numbers n ls w = rw (open-judged n ls w) (only-then (only-if _ 1 0 refl) (only-then (only-if _ 2 0 refl) (only-then (only-if _ 2 0 refl)
+    (only-then (only-if _ 3 0 refl) (only-then (only-if _ 4 0 refl) (only-rules refl n (edgesIn w)))))))
+
+pub batch-numbers : (n : ℕ) (ls : List ℕ) (w : Network) (b : List Change) → Good n ls w → Only batchNumber (verdictOf ((batchCall n ls w b) .reply))
+unfolding turnedBack
+batch-numbers n ls w b g = rw (batch-judged n ls w b g) (only-then (only-if _ 1 0 refl) (only-items n 0 (edgesIn w) b))
+
+pub query-numbers : (n : ℕ) (ls : List ℕ) (w : Network) (q : Query) (out : Words) → Good n ls w
+    → Only queryNumber (verdictOf ((queryCall n ls w q out) .reply))
+query-numbers n ls w q out g = rw (query-judged n ls w q out g) (only-then (only-if _ 1 0 refl) (only-then (only-if _ 2 0 refl)
+    (only-then (only-if _ 5 0 refl) (only-then (only-if _ 6 0 refl) (only-scheduled refl n 0 (q .schedule))))))
+
+-- ---- number 13 does not
+
+abbrev pub Never : {A : Type 0} → Reply A → Type 0
+Never r = (i : ℕ) → r ≡ refused 13 i → ⊥
+
+-- 13 is none of those numbers
+others : {A : Type 0} {Q : ℕ → Bool} (r : Reply A) → Q 13 ≡ false → Only Q (verdictOf r) → Never r
+unfolding verdictOf
+others {Q = Q} r d h i e = pick (rw e at h)
+  where
+    pick : Only Q (refuse 13 i) → ⊥
+    pick (refuses k) = true≢false (sym k ∙ d)
+
+pub open-never : (n : ℕ) (ls : List ℕ) (w : Network) → Never ((openCall n ls w) .reply)
+open-never n ls w = others _ refl (open-numbers n ls w)
+
+-- after an accepted opening, at any moment
+module _ (n : ℕ) (ls : List ℕ) (w : Network) (h : verdictOf ((openCall n ls w) .reply) ≡ accept) (bs : List (List Change)) where
+  pub batch-never : (b : List Change) → Never ((batchCall n ls (moment n ls w bs) b) .reply)
+  batch-never b = others _ refl (batch-numbers n ls (moment n ls w bs) b ((moment-good n ls w h bs) .0))
+
+  pub query-never : (q : Query) (out : Words) → Never ((queryCall n ls (moment n ls w bs) q out) .reply)
+  query-never q out = others _ refl (query-numbers n ls (moment n ls w bs) q out ((moment-good n ls w h bs) .0))

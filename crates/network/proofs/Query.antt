@@ -1,0 +1,215 @@
+-- An accepted query on a network that keeps the invariant: its start words are the triangle bounds, it takes at most n rounds, and its
+-- settled words are settled and best. Assumes nothing.
+use mathlib.Core.Path.{_≡_, refl, sym, ap, _∙_, subst}
+use mathlib.Core.Logic.{_⊎_, inl, inr, _≢_}
+use mathlib.Core.Bool.{not, _||_, false}
+use mathlib.Core.List.{List, [], _∷_, map, List·Memᴰ, List·Memᴰ·head, List·Memᴰ·tail, Memᴰ·map, Memᴰ·of-map}
+use Prim.Native.Nat.{ℕ, zero, suc, _-_, _/_, _%_, _≤_, _<_}
+use native.Mathlib.Nat.{mul-add-div-right, mul-add-mod-self-right, mod-eq-of-lt, div-eq-of-lt}
+use native.Mathlib.Omega.{arith}
+use lib.ListN.{length, getD, drop, List·getD-append}
+use lib.Dec.{ltb, leb, eqb}
+use borrow.Author.Tests.{ltb-true, leb-true, eqb-false, not-false}
+use Rattle.property.specs.Property.{Property, property, properties, isProperty}
+use Rattle.property.specs.Laws.{Laws, Joins}
+use Rattle.property.proofs.Instances.{property-laws, property-joins}
+use Rattle.frontier.specs.Waiting.{anyOf}
+use Rattle.graph.specs.Limits.{maxSchedule}
+use Rattle.graph.specs.Refusal.{Verdict, accept, refuse, refuseIf, accepted, replied, verdictOf, over}
+use Rattle.graph.specs.Edge.{Edge, reverse, range}
+use Rattle.graph.specs.Route.{Route, Best}
+use Rattle.graph.specs.Table.{size, shortTable, table}
+use Rattle.graph.proofs.Tests.{both, neither}
+use Rattle.graph.proofs.Lists.{mem-range-0, range-below}
+use Rattle.graph.proofs.Verdicts.{not-accept, then-accept, if-accept}
+use Rattle.graph.proofs.Order.{Within}
+use Rattle.run.specs.Run.{Tally, word, relaxable}
+use Rattle.run.specs.Start.{Landmark, bound, asked}
+use Rattle.theory.proofs.Settle.{Inv, pass-good, pass-rounds, settle-good, settle-rounds, settled}
+use Rattle.theory.proofs.Value.{value-before, settled-best}
+use Rattle.theory.proofs.Exists.{best-unique}
+use Rattle.theory.proofs.Reverse.{reversed-best}
+use Rattle.theory.proofs.Query.{by, Bounded, bound-under, bound-is, via, asked-source, asked-other, asked-good}
+use Rattle.network.specs.Network.{Network, edgesIn, rowCount, shortRows, landmarks, row, propertyOf, landmarkOf}
+use Rattle.network.specs.Query.{Query, Words, rowAt, scheduled, known, atStart, atRounds, atEnd, queryVerdict, answered, queryCall}
+use Rattle.network.specs.History.{Triangle, Answered}
+use Rattle.network.proofs.Moment.{choose-accept, Good, good-within}
+
+-- ---- lists and rows
+
+-- an element and its index
+index-of : {l : ℕ} {ls : List ℕ} → List·Memᴰ l ls → (i : ℕ) × (i < length ls) × (getD ls i 0 ≡ l)
+index-of (List·Memᴰ·head p) = (0, omega arith, sym p)
+index-of (List·Memᴰ·tail m) = let (i, h, e) = index-of m in (suc i, omega arith, e)
+
+at-index : (ls : List ℕ) (i : ℕ) → i < length ls → List·Memᴰ (getD ls i 0) ls
+at-index [] i h = absurd (omega arith)
+at-index (l ∷ ls) zero h = List·Memᴰ·head refl
+at-index (l ∷ ls) (suc i) h = List·Memᴰ·tail (at-index ls i (omega arith))
+
+-- the row of landmark i for property p is of that property and that landmark
+row-at : (ls : List ℕ) (p i : ℕ) → 0 < p → p ≤ properties → (Q : Property → ℕ → Type 0)
+    → Q (propertyOf (rowAt i p)) (landmarkOf ls (rowAt i p)) → Q (property p) (getD ls i 0)
+row-at ls p i h k Q q =
+    let a : rowAt i p % properties ≡ p - 1 = mul-add-mod-self-right i properties (p - 1) ∙ mod-eq-of-lt (omega arith) in
+    let z : (p - 1) / properties ≡ 0 = div-eq-of-lt (omega arith) in
+    let b : rowAt i p / properties ≡ i = mul-add-div-right {m = properties} (omega arith) i (p - 1) ∙ omega arith in
+    let c : suc (rowAt i p % properties) ≡ p = omega arith in
+    subst (λ x. Q (property p) (getD ls x 0)) b (subst (λ x. Q (property x) (landmarkOf ls (rowAt i p))) c q)
+
+-- an accepted reply
+reply-accepted : {A : Type 0} (v : Verdict) (a b : A) → replied v a ≡ accepted b → (v ≡ accept) × (a ≡ b)
+unfolding replied verdictOf
+reply-accepted accept a b e = (refl, cc)
+reply-accepted (refuse k i) a b e = absurd (not-accept (ap verdictOf e))
+
+module _ (n : ℕ) (ls : List ℕ) (w : Network) (g : Good n ls w) (q : Query) where
+  abbrev P : Property
+  P = property (q .property)
+
+  abbrev es : List Edge
+  es = edgesIn w
+
+  abbrev s : ℕ
+  s = q .source
+
+  abbrev L : Laws (property (q .property))
+  L = property-laws (q .property)
+
+  abbrev J : Joins (property (q .property))
+  J = property-joins (q .property)
+
+  -- what is known of the landmark of index i
+  abbrev know : ℕ → Landmark
+  know i = record {
+    vertex = getD ls i 0;
+    into = word P (row n (rowAt i (q .property)) (w .memory .rows .backward)) s;
+    row = row n (rowAt i (q .property)) (w .memory .rows .forward);
+  }
+
+  abbrev knowns : List Landmark
+  knowns = known n ls w q
+
+  inside : Within n es
+  inside = good-within n ls w g
+
+  module _ (low : 0 < q .property) (high : q .property ≤ properties) (source : s < n) where
+    -- ---- what the rows tell is best
+
+    index : (i : ℕ) → i < length ls → rowAt i (q .property) < rowCount ls
+    index i h = omega arith
+
+    ahead : (i : ℕ) → i < length ls → (t : ℕ) → Best P es ((know i) .vertex) t (word P ((know i) .row) t)
+    ahead i h t = row-at ls (q .property) i low high (λ R l. Best R es l t (word R ((know i) .row) t)) (g .forward _ (index i h) t)
+
+    back : (i : ℕ) → i < length ls → Best P es s ((know i) .vertex) ((know i) .into)
+    back i h = reversed-best J (row-at ls (q .property) i low high
+        (λ R l. Best R (map reverse es) l s (word R (row n (rowAt i (q .property)) (w .memory .rows .backward)) s)) (g .backward _ (index i h) s))
+
+    known-at : (l : Landmark) → List·Memᴰ l knowns → (i : ℕ) × (i < length ls) × (know i ≡ l)
+    known-at l m = let (i, k, e) = Memᴰ·of-map know (range 0 (length ls)) m in let z = range-below 0 (length ls) i k in (i, omega arith, e)
+
+    known-in : (i : ℕ) → i < length ls → List·Memᴰ (know i) knowns
+    known-in i h = Memᴰ·map know (mem-range-0 (length ls) i h)
+
+    ways : (l : Landmark) → List·Memᴰ l knowns → Best P es s (l .vertex) (l .into)
+    ways l m = let (i, h, e) = known-at l m in subst (λ x. Best P es s (x .vertex) (x .into)) e (back i h)
+
+    rows : (l : Landmark) → List·Memᴰ l knowns → (t : ℕ) → Best P es (l .vertex) t (word P (l .row) t)
+    rows l m t = let (i, h, e) = known-at l m in subst (λ x. Best P es (x .vertex) t (word P (x .row) t)) e (ahead i h t)
+
+    -- ---- start words are triangle bounds
+
+    abbrev top : ℕ → ℕ
+    top t = bound P knowns t
+
+    -- there is a landmark
+    some : 0 < length ls
+    some = let d : length ls ≢ 0 = eqb-false _ _ ((neither (eqb (length ls) 0) _ (if-accept _ _ _ (g .chosen))) .0) in omega arith
+
+    -- the bound by way of landmark i
+    abbrev Found : ℕ → Type 0
+    Found t = (l a b : ℕ) × List·Memᴰ l ls × Best P es s l a × Best P es l t b × (top t ≡ P .join a b)
+
+    found : (t i : ℕ) → i < length ls → top t ≡ by P (know i) t → Found t
+    found t i h e = (getD ls i 0, (know i) .into, word P ((know i) .row) t, at-index ls i h, back i h, ahead i h t, e)
+
+    -- Where the bound is none, the word by way of the first landmark is none too: it is not better than the bound, and it is none or the
+    -- value of a route, which is no worse than none.
+    attained : (t : ℕ) → Bounded P knowns t (top t) → Route P es s t (by P (know 0) t) ⊎ (by P (know 0) t ≡ P .none)
+        → P .better (by P (know 0) t) (top t) ≡ false → Found t
+    attained t (inr (l, m, e)) v u = let (i, h, d) = known-at l m in found t i h (e ∙ ap (λ x. by P x t) (sym d))
+    attained t (inl e) (inr z) u = found t 0 some (e ∙ sym z)
+    attained t (inl e) (inl r) u = found t 0 some (L .antisymmetric _ _ (rw e (value-before L es s n inside r)) u)
+
+    -- The bound is, of the words by way of each landmark, the best. Such a word joins what the landmark's two rows tell: the backward word
+    -- of the source and the forward word of t. These are best values to the landmark and on from it, and there is one best value only. So
+    -- no landmark joins best values to a better one, and one of them joins them to the bound.
+    triangle : (t : ℕ) → Triangle P es ls s t (top t)
+    triangle t = record {
+      unbettered = λ l a b m x y.
+          let (i, h, e) = index-of m in
+          let x′ = subst (λ z. Best P es s z ((know i) .into)) e (back i h) in
+          let y′ = subst (λ z. Best P es z t (word P ((know i) .row) t)) e (ahead i h t) in
+          rw (best-unique L x x′, best-unique L y y′) (bound-under L knowns t (know i) (known-in i h));
+      attained = attained t (bound-is P knowns t) (via L J es s n inside source knowns ways rows (know 0) (known-in 0 some) t)
+          (bound-under L knowns t (know 0) (known-in 0 some));
+    }
+
+    -- ---- the run
+
+    start-good : Inv P es s n (atStart n ls w q)
+    start-good = asked-good L J es s n inside source knowns ways rows
+
+    pub rounds-good : Inv P es s n (atRounds n ls w q)
+    rounds-good = pass-good L es s n inside (q .schedule) (atStart n ls w q) start-good
+
+    end-good : Inv P es s n (atEnd n ls w q)
+    end-good = settle-good L es s n inside n (atRounds n ls w q) rounds-good
+
+    quick : (atEnd n ls w q) .tally .rounds ≤ n
+    unfolding asked
+    quick = omega (arith, settle-rounds P es n n (atRounds n ls w q), pass-rounds P es (q .schedule) (atStart n ls w q))
+
+    -- the words that are written
+    read : (ws xs : List ℕ) (t : ℕ) → length ws ≡ n → t < n → word P (over ws xs) t ≡ word P ws t
+    read ws xs t e h = List·getD-append ws (drop (length ws) xs) (P .none) t (omega arith)
+
+    start-word : (xs : List ℕ) (t : ℕ) → t < n → t ≢ s → word P (over ((atStart n ls w q) .words) xs) t ≡ top t
+    start-word xs t h d = read ((atStart n ls w q) .words) xs t (start-good .words-n) h ∙ asked-other L J es s n inside source knowns ways rows t h d
+
+    end-word : (xs : List ℕ) (t : ℕ) → t < n → word P (over ((atEnd n ls w q) .words) xs) t ≡ word P ((atEnd n ls w q) .words) t
+    end-word xs t h = read ((atEnd n ls w q) .words) xs t (end-good .words-n) h
+
+    well : (out : Words) → anyOf ((atEnd n ls w q) .waiting) ≡ false → Answered P n ls es s ((atEnd n ls w q) .tally) (answered n ls w q out)
+    well out rests = record {
+      bounds = λ t h d. subst (Triangle P es ls s t) (sym (start-word (out .starts) t h d)) (triangle t);
+      source = read ((atStart n ls w q) .words) (out .starts) s (start-good .words-n) source ∙ asked-source L J es s n inside source knowns ways rows s source refl;
+      quick = quick;
+      settled = λ e m. rw (relaxable, end-word (out .settled) (e .tail) (inside .tails e m), end-word (out .settled) (e .head) (inside .heads e m))
+          (settled L es s n inside (atEnd n ls w q) end-good rests e m);
+      best = λ t h. rw (end-word (out .settled) t h) (settled-best L es s n inside (atEnd n ls w q) end-good rests t);
+    }
+
+  -- What an accepted query gives. As it was accepted, its property and its source are as they must be, and nothing waits at its end. Its
+  -- start words are triangle bounds of best words: they keep the invariant of runs, and the schedule and the rounds go on keeping it. So
+  -- its settled words are settled and best. A schedule counts no round, and there are at most n.
+  pub query-good : (out : Words) (tally : Tally) → (queryCall n ls w q out) .reply ≡ accepted tally
+      → Answered P n ls es s tally ((queryCall n ls w q out) .memory)
+  unfolding queryCall
+  query-good out tally h =
+      let z = reply-accepted (queryVerdict n ls w q out) ((atEnd n ls w q) .tally) tally h in
+      let a1 = then-accept (size n) _ (z .0) in
+      let a2 = then-accept (refuseIf (ltb maxSchedule (length (q .schedule))) 1 0) _ (a1 .1) in
+      let a3 = then-accept (shortTable (w .memory .table)) _ (a2 .1) in
+      let a4 = then-accept (shortRows n ls (w .memory .rows)) _ (a3 .1) in
+      let a5 = then-accept (refuseIf (ltb (length (out .starts)) n || ltb (length (out .settled)) n) 2 0) _ (a4 .1) in
+      let a6 = then-accept (landmarks n ls) _ (a5 .1) in
+      let a7 = then-accept (table n (w .memory .table) (w .count)) _ (a6 .1) in
+      let a8 = then-accept (refuseIf (not (isProperty (q .property))) 5 0) _ (a7 .1) in
+      let a9 = then-accept (refuseIf (not (ltb (q .source) n)) 6 0) _ (a8 .1) in
+      let a10 = then-accept (scheduled n 0 (q .schedule)) (refuseIf (anyOf ((atEnd n ls w q) .waiting)) 13 0) (a9 .1) in
+      let p = both (ltb 0 (q .property)) (leb (q .property) properties) (not-false _ (if-accept _ _ _ (a8 .0))) in
+      let y = well (ltb-true _ _ (p .0)) (leb-true _ _ (p .1)) (ltb-true _ _ (not-false _ (if-accept _ _ _ (a9 .0)))) out (if-accept _ _ _ (a10 .1)) in
+      subst (Answered P n ls es s tally) (sym (choose-accept (answered n ls w q out) out (z .0)))
+      (subst (λ x. Answered P n ls es s x (answered n ls w q out)) (z .1) y)

@@ -1,0 +1,107 @@
+-- A batch: document 01, "Batch". Assumes nothing.
+--
+-- es is the list of edges before the batch, fs the list after it, xs a row list before it.
+--
+--   affectedIn n ls es fs xs r   == the affected vertices of row r, as marks
+--   batchRow n ls es fs xs r     == the state in which the run of row r ends: rounds from the prepared row, at most n
+--   batchRows n ls es fs xs      == those of all rows
+--   affectedOf n ls es fs xs     == how many vertices are affected, over all rows
+--   Report                       == the new count; affected vertices ("suspects") and stores, over all rows of both lists
+--   newEdges w b                 == the edges after the batch
+--   column f fs                  == a table list after the batch: the new words, then zeros up to 2,048
+--   rewritten fs cs              == the table lists after the batch; words from 2,048 on stay
+--   batchVerdict                 == when the call is refused: 1 to 4 first, then its items, then 13
+--   batchCall n ls w b           == reply (the report) and every lent list at exit
+use mathlib.Core.Bool.{Bool, _||_}
+use mathlib.Core.List.{List, [], _∷_, _++_, map}
+use Prim.Native.Nat.{ℕ, _+_, _-_}
+use lib.ListN.{length, replicate}
+use lib.Dec.{ltb}
+use Rattle.frontier.specs.Waiting.{countOf}
+use Rattle.graph.specs.Limits.{maxEdges, maxBatch}
+use Rattle.graph.specs.Refusal.{Verdict, _▷_, refuseIf, Outcome, outcome, over}
+use Rattle.graph.specs.Edge.{Edge, reverse}
+use Rattle.graph.specs.Table.{Columns, size, shortTable, table}
+use Rattle.run.specs.Run.{State, settle}
+use Rattle.affected.specs.Affected.{affected}
+use Rattle.affected.specs.Prepared.{prepared}
+use Rattle.network.specs.Network.{Memory, Network, edgesIn, shortRows, landmarks, row, propertyOf, landmarkOf, rowsOf, flat, unsettled, storesOf}
+use Rattle.network.specs.Change.{Change, edits, items}
+
+-- ---- the rows of one list
+
+module _ (n : ℕ) (ls : List ℕ) (es fs : List Edge) (xs : List ℕ) where
+  abbrev pub affectedIn : ℕ → List Bool
+  affectedIn r = affected (propertyOf r) es fs (landmarkOf ls r) (row n r xs) n
+
+  abbrev pub batchRow : ℕ → State
+  batchRow r = settle (propertyOf r) fs n n (prepared (propertyOf r) es fs (landmarkOf ls r) (row n r xs) n)
+
+  abbrev pub batchRows : List State
+  batchRows = map batchRow (rowsOf ls)
+
+  unfoldable pub affectedOver : List ℕ → ℕ
+  affectedOver [] = 0
+  affectedOver (r ∷ rs) = countOf (affectedIn r) + affectedOver rs
+
+  abbrev pub affectedOf : ℕ
+  affectedOf = affectedOver (rowsOf ls)
+
+-- ---- the call
+
+pub record Report : Type 0 where
+  pub count : ℕ
+  pub affected : ℕ
+  pub stores : ℕ
+
+abbrev pub column : (Edge → ℕ) → List Edge → List ℕ
+column f fs = map f fs ++ replicate (maxEdges - length fs) 0
+
+abbrev pub rewritten : List Edge → Columns → Columns
+rewritten fs cs = record {
+  tails = over (column (λ e. e .tail) fs) (cs .tails);
+  heads = over (column (λ e. e .head) fs) (cs .heads);
+  weights = over (column (λ e. e .weight) fs) (cs .weights);
+}
+
+module _ (n : ℕ) (ls : List ℕ) (w : Network) (b : List Change) where
+  abbrev pub newEdges : List Edge
+  newEdges = edits (edgesIn w) b
+
+  abbrev pub newForward : List State
+  newForward = batchRows n ls (edgesIn w) newEdges (w .memory .rows .forward)
+
+  abbrev pub newBackward : List State
+  newBackward = batchRows n ls (map reverse (edgesIn w)) (map reverse newEdges) (w .memory .rows .backward)
+
+  abbrev pub batchVerdict : Verdict
+  batchVerdict =
+      size n
+      ▷ refuseIf (ltb maxBatch (length b)) 1 0
+      ▷ shortTable (w .memory .table)
+      ▷ shortRows n ls (w .memory .rows)
+      ▷ landmarks n ls
+      ▷ table n (w .memory .table) (w .count)
+      ▷ items n 0 (edgesIn w) b
+      ▷ refuseIf (unsettled newForward || unsettled newBackward) 13 0
+
+  abbrev pub batchMemory : Memory
+  batchMemory = record {
+    table = rewritten newEdges (w .memory .table);
+    rows = record {
+      forward = over (flat newForward) (w .memory .rows .forward);
+      backward = over (flat newBackward) (w .memory .rows .backward);
+    };
+  }
+
+  abbrev pub report : Report
+  report = record {
+    count = length newEdges;
+    affected =
+        affectedOf n ls (edgesIn w) newEdges (w .memory .rows .forward)
+        + affectedOf n ls (map reverse (edgesIn w)) (map reverse newEdges) (w .memory .rows .backward);
+    stores = storesOf newForward + storesOf newBackward;
+  }
+
+  unfoldable pub batchCall : Outcome Report Memory
+  batchCall = outcome batchVerdict report batchMemory (w .memory)

@@ -1,0 +1,50 @@
+-- The changes of a batch: document 01, "Batch" and numbers 6 to 12. Assumes nothing.
+--
+--   Change              == a change record: kind (1 add, 2 take), tail, head, weight; an add inserts, a take deletes
+--   named c             == the edge that a change names
+--   inserts c           == c is of kind 1
+--   edit es c           == the edges after a change: an insert puts in its edge, a delete strikes the one it names
+--   edits es cs         == the edges after changes, in order
+--   item n i es c       == numbers 6 to 12 of the change c, at place i, against the edges es
+--   items n i es cs     == the first change, from place i, with any of them: each against the edges as earlier ones left them
+use mathlib.Core.Bool.{Bool, not, _&&_, _||_, cond}
+use mathlib.Core.List.{List, [], _∷_, foldl}
+use Prim.Native.Nat.{ℕ, suc}
+use lib.ListN.{length}
+use lib.Dec.{ltb, eqb}
+use Rattle.graph.specs.Limits.{maxEdges}
+use Rattle.graph.specs.Refusal.{Verdict, accept, _▷_, refuseIf}
+use Rattle.graph.specs.Edge.{Edge, edge, present}
+use Rattle.graph.specs.Table.{isWeight, insert, delete}
+
+pub record Change : Type 0 where
+  pub kind : ℕ
+  pub tail : ℕ
+  pub head : ℕ
+  pub weight : ℕ
+
+abbrev pub named : Change → Edge
+named c = edge (c .tail) (c .head) (c .weight)
+
+abbrev pub inserts : Change → Bool
+inserts c = eqb (c .kind) 1
+
+unfoldable pub edit : List Edge → Change → List Edge
+edit es c = cond (inserts c) (insert (named c) es) (delete (named c) es)
+
+abbrev pub edits : List Edge → List Change → List Edge
+edits es cs = foldl edit es cs
+
+unfoldable pub item : ℕ → ℕ → List Edge → Change → Verdict
+item n i es c =
+    refuseIf (not (ltb (c .tail) n && ltb (c .head) n)) 6 i
+    ▷ refuseIf (not (inserts c || eqb (c .kind) 2)) 7 i
+    ▷ refuseIf (eqb (c .tail) (c .head)) 8 i
+    ▷ refuseIf (not (cond (inserts c) (isWeight (c .weight)) (eqb (c .weight) 0))) 9 i
+    ▷ refuseIf (inserts c && present es (named c)) 10 i
+    ▷ refuseIf (not (inserts c) && not (present es (named c))) 11 i
+    ▷ refuseIf (inserts c && not (ltb (length es) maxEdges)) 12 i
+
+unfoldable pub items : ℕ → ℕ → List Edge → List Change → Verdict
+items n i es [] = accept
+items n i es (c ∷ cs) = item n i es c ▷ items n (suc i) (edit es c) cs

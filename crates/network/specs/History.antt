@@ -1,0 +1,103 @@
+-- The claim over histories, demand 3: any list of batches after an accepted opening, at every moment of it, and any query there.
+-- It speaks of routes, of best values and of the network as it is now (`current`), which is reckoned from the opening's edges and
+-- the change records alone; the program's words appear only as what is compared. Assumes nothing.
+--
+--   Triangle P es ls s t v   == v is the triangle bound from s to t: the best, over the landmarks, of the best value to the landmark
+--                               joined with the best value on from it
+--   Answered ..              == what an accepted query gives: bounds and the source's value, rounds, settled, best values
+--   Holds n ls es w       == what holds of a network w whose edges are es: its records and count, its rows, every query
+--   Unworse ..               == rows xs that become ys: a vertex that is not affected keeps its word or gets a better one
+--   Applied n ls es w b      == what the batch b does to w: it is turned back as document 01 says, and then hands on words and
+--                               count as it found them; no word gets worse that is not affected
+--   History                  == the claim. A query returns no table and no rows, so queries may stand anywhere between batches
+--   BestOverRoutes           == demand 2, by itself: after any list of batches each standing word, and each settled word of an
+--                               accepted query, is the best value of its property
+use mathlib.Core.Path.{_≡_}
+use mathlib.Core.Logic.{_≢_}
+use mathlib.Core.Bool.{false}
+use mathlib.Core.List.{List, _∷_, _++_, map, List·Memᴰ}
+use Prim.Native.Nat.{ℕ, _≤_, _<_}
+use lib.ListN.{length}
+use Rattle.property.specs.Property.{Property, property}
+use Rattle.graph.specs.Refusal.{accept, accepted, refused, verdictOf, Outcome}
+use Rattle.graph.specs.Edge.{Edge, reverse}
+use Rattle.graph.specs.Route.{Best}
+use Rattle.run.specs.Run.{Tally, word, relaxable}
+use Rattle.affected.specs.Affected.{Affected}
+use Rattle.network.specs.Network.{Memory, Network, edgesIn, rowCount, row, propertyOf, landmarkOf}
+use Rattle.network.specs.Open.{openCall}
+use Rattle.network.specs.Query.{Query, Words, queryCall}
+use Rattle.network.specs.Change.{Change}
+use Rattle.network.specs.Batch.{batchCall}
+use Rattle.network.specs.Caller.{opened, handOn, lived}
+use Rattle.network.specs.Current.{turnedBack, after, current}
+
+-- ---- an accepted query
+
+pub record Triangle (P : Property) (es : List Edge) (ls : List ℕ) (s t v : ℕ) : Type 0 where
+  pub unbettered : (l a b : ℕ) → List·Memᴰ l ls → Best P es s l a → Best P es l t b → P .better (P .join a b) v ≡ false
+  pub attained : (l a b : ℕ) × List·Memᴰ l ls × Best P es s l a × Best P es l t b × (v ≡ P .join a b)
+
+pub record Answered (P : Property) (n : ℕ) (ls : List ℕ) (es : List Edge) (s : ℕ) (tally : Tally) (out : Words) : Type 0 where
+  pub bounds : (t : ℕ) → t < n → t ≢ s → Triangle P es ls s t (word P (out .starts) t)
+  pub source : word P (out .starts) s ≡ P .start
+  pub quick : tally .rounds ≤ n
+  pub settled : (e : Edge) → List·Memᴰ e es → relaxable P (out .settled) e ≡ false
+  pub best : (t : ℕ) → t < n → Best P es s t (word P (out .settled) t)
+
+-- ---- any moment
+
+pub record Holds (n : ℕ) (ls : List ℕ) (es : List Edge) (w : Network) : Type 0 where
+  pub records : edgesIn w ≡ es
+  pub count : w .count ≡ length es
+  pub forward : (r t : ℕ) → r < rowCount ls → t < n
+      → Best (propertyOf r) es (landmarkOf ls r) t (word (propertyOf r) (row n r (w .memory .rows .forward)) t)
+  pub backward : (r t : ℕ) → r < rowCount ls → t < n
+      → Best (propertyOf r) es t (landmarkOf ls r) (word (propertyOf r) (row n r (w .memory .rows .backward)) t)
+  pub query : (q : Query) (out : Words) (tally : Tally) → (queryCall n ls w q out) .reply ≡ accepted tally
+      → Answered (property (q .property)) n ls es (q .source) tally ((queryCall n ls w q out) .memory)
+
+-- ---- one batch of the list
+
+abbrev pub Unworse : ℕ → List ℕ → List Edge → List Edge → List ℕ → List ℕ → Type 0
+Unworse n ls es fs xs ys = (r t : ℕ) → r < rowCount ls → t < n
+    → (Affected (propertyOf r) es fs (landmarkOf ls r) (row n r xs) t → ⊥)
+    → (propertyOf r) .better (word (propertyOf r) (row n r xs) t) (word (propertyOf r) (row n r ys) t) ≡ false
+
+pub record Applied (n : ℕ) (ls : List ℕ) (es : List Edge) (w : Network) (b : List Change) : Type 0 where
+  pub judged : verdictOf ((batchCall n ls w b) .reply) ≡ turnedBack n es b
+  pub kept : (k i : ℕ) → (batchCall n ls w b) .reply ≡ refused k i → handOn w (batchCall n ls w b) ≡ w
+  pub forward : Unworse n ls es (after n es b) (w .memory .rows .forward) ((batchCall n ls w b) .memory .rows .forward)
+  pub backward : Unworse n ls (map reverse es) (map reverse (after n es b)) (w .memory .rows .backward) ((batchCall n ls w b) .memory .rows .backward)
+
+-- ---- the whole list
+
+-- the network after an accepted opening on w and the batches bs
+abbrev pub moment : ℕ → List ℕ → Network → List (List Change) → Network
+moment n ls w bs = lived n ls (opened n ls w) bs
+
+-- the network as it is now at that moment
+abbrev pub now : ℕ → Network → List (List Change) → List Edge
+now n w bs = current n (edgesIn w) bs
+
+pub record Past (n : ℕ) (ls : List ℕ) (w : Network) (bs : List (List Change)) : Type 0 where
+  pub holds : (past rest : List (List Change)) → bs ≡ past ++ rest → Holds n ls (now n w past) (moment n ls w past)
+  pub applied : (past rest : List (List Change)) (b : List Change) → bs ≡ past ++ b ∷ rest
+      → Applied n ls (now n w past) (moment n ls w past) b
+
+abbrev pub History : Type 0
+History = (n : ℕ) (ls : List ℕ) (w : Network) → verdictOf ((openCall n ls w) .reply) ≡ accept → (bs : List (List Change)) → Past n ls w bs
+
+-- ---- demand 2
+
+pub record RoutesBest (n : ℕ) (ls : List ℕ) (es : List Edge) (w : Network) : Type 0 where
+  pub forward : (r t : ℕ) → r < rowCount ls → t < n
+      → Best (propertyOf r) es (landmarkOf ls r) t (word (propertyOf r) (row n r (w .memory .rows .forward)) t)
+  pub backward : (r t : ℕ) → r < rowCount ls → t < n
+      → Best (propertyOf r) es t (landmarkOf ls r) (word (propertyOf r) (row n r (w .memory .rows .backward)) t)
+  pub query : (q : Query) (out : Words) (tally : Tally) → (queryCall n ls w q out) .reply ≡ accepted tally → (t : ℕ) → t < n
+      → Best (property (q .property)) es (q .source) t (word (property (q .property)) ((queryCall n ls w q out) .memory .settled) t)
+
+abbrev pub BestOverRoutes : Type 0
+BestOverRoutes = (n : ℕ) (ls : List ℕ) (w : Network) → verdictOf ((openCall n ls w) .reply) ≡ accept → (bs : List (List Change))
+    → RoutesBest n ls (now n w bs) (moment n ls w bs)

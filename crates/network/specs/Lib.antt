@@ -1,0 +1,12 @@
+pub mod Network
+pub mod Open
+pub mod Query
+pub mod Change
+pub mod Batch
+pub mod Settled
+pub mod Choice
+pub mod Lookup
+pub mod Caller
+pub mod Current
+pub mod Starred
+pub mod History

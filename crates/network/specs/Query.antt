@@ -1,0 +1,82 @@
+-- A query: document 01, "Query". It returns no table and no rows: it writes none of that memory. Assumes nothing.
+--
+--   Query               == what is asked: property, source, schedule
+--   Words               == the two lists lent for the answer: start words and settled words
+--   known n ls w q      == what the rows of the property tell of each landmark: the backward word of the source, the forward row
+--   atStart n ls w q    == the state at the start: triangle bounds, and the source's value; only the source waits
+--   atRounds n ls w q   == the state after the schedule
+--   atEnd n ls w q      == the state after the rounds, at most n
+--   scheduled n i vs        == number 6 at the first entry of the schedule, from index i, that is no vertex
+--   queryVerdict        == when the call is refused
+--   queryCall           == reply (the tally) and both lists at exit: words past n stay
+use mathlib.Core.Bool.{not, _||_}
+use mathlib.Core.List.{List, [], _∷_, map}
+use Prim.Native.Nat.{ℕ, suc, _+_, _*_, _-_}
+use lib.ListN.{length, getD}
+use lib.Dec.{ltb}
+use Rattle.property.specs.Property.{Property, property, properties, isProperty}
+use Rattle.frontier.specs.Waiting.{anyOf}
+use Rattle.graph.specs.Limits.{maxSchedule}
+use Rattle.graph.specs.Refusal.{Verdict, accept, _▷_, refuseIf, Outcome, outcome, over}
+use Rattle.graph.specs.Edge.{range}
+use Rattle.graph.specs.Table.{size, shortTable, table}
+use Rattle.run.specs.Run.{State, Tally, word, pass, settle}
+use Rattle.run.specs.Start.{Landmark, asked}
+use Rattle.network.specs.Network.{Network, edgesIn, shortRows, landmarks, row}
+
+pub record Query : Type 0 where
+  pub property : ℕ
+  pub source : ℕ
+  pub schedule : List ℕ
+
+pub record Words : Type 0 where
+  pub starts : List ℕ
+  pub settled : List ℕ
+
+unfoldable pub scheduled : ℕ → ℕ → List ℕ → Verdict
+scheduled n i [] = accept
+scheduled n i (v ∷ vs) = refuseIf (not (ltb v n)) 6 i ▷ scheduled n (suc i) vs
+
+-- the row of landmark i (an index of the list) for property p
+abbrev pub rowAt : ℕ → ℕ → ℕ
+rowAt i p = i * properties + (p - 1)
+
+module _ (n : ℕ) (ls : List ℕ) (w : Network) (q : Query) where
+  abbrev pub asks : Property
+  asks = property (q .property)
+
+  abbrev pub known : List Landmark
+  known = map (λ i. record {
+    vertex = getD ls i 0;
+    into = word asks (row n (rowAt i (q .property)) (w .memory .rows .backward)) (q .source);
+    row = row n (rowAt i (q .property)) (w .memory .rows .forward);
+  }) (range 0 (length ls))
+
+  abbrev pub atStart : State
+  atStart = asked asks known n (q .source)
+
+  abbrev pub atRounds : State
+  atRounds = pass asks (edgesIn w) (q .schedule) atStart
+
+  abbrev pub atEnd : State
+  atEnd = settle asks (edgesIn w) n n atRounds
+
+  abbrev pub queryVerdict : Words → Verdict
+  queryVerdict out =
+      size n
+      ▷ refuseIf (ltb maxSchedule (length (q .schedule))) 1 0
+      ▷ shortTable (w .memory .table)
+      ▷ shortRows n ls (w .memory .rows)
+      ▷ refuseIf (ltb (length (out .starts)) n || ltb (length (out .settled)) n) 2 0
+      ▷ landmarks n ls
+      ▷ table n (w .memory .table) (w .count)
+      ▷ refuseIf (not (isProperty (q .property))) 5 0
+      ▷ refuseIf (not (ltb (q .source) n)) 6 0
+      ▷ scheduled n 0 (q .schedule)
+      ▷ refuseIf (anyOf (atEnd .waiting)) 13 0
+
+  abbrev pub answered : Words → Words
+  answered out = record { starts = over (atStart .words) (out .starts); settled = over (atEnd .words) (out .settled) }
+
+  unfoldable pub queryCall : Words → Outcome Tally Words
+  queryCall out = outcome (queryVerdict out) (atEnd .tally) (answered out) out

@@ -1,0 +1,1 @@
+// Runs: definitions that the contracts of the calls cite.

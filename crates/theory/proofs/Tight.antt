@@ -1,0 +1,146 @@
+-- Where words are best, tight edges reach every vertex that has a route; and words that no removed tight edge upholds stay attained.
+-- Assumes nothing.
+--
+--   Finest L rank Q q? l   == an edge of l that has Q, and whose rank none of those betters
+--   tights                 == the tight edges
+--   Crossing u             == an edge from a vertex that tight edges reach to one that they do not, no worse than u at its end
+--   Stray e                == the head of e has a walk, but none of tight edges
+use mathlib.Core.Path.{_≡_, refl, sym, ap, _∙_}
+use mathlib.Core.Logic.{_⊎_, inl, inr, ⊎-elim, _≢_}
+use mathlib.Core.Bool.{Bool, true, false}
+use mathlib.Core.List.{List, [], _∷_, List·Memᴰ, List·Memᴰ·head, List·Memᴰ·tail, List·Memᴰ·cases-cons, List·Memᴰ·not-nil}
+use Prim.Native.Nat.{ℕ}
+use native.Mathlib.Decide.{ℕ-discrete}
+use borrow.Author.Tests.{eqb-true, eq-eqb}
+use Rattle.property.specs.Property.{Property}
+use Rattle.property.specs.Laws.{Laws}
+use Rattle.graph.specs.Edge.{Edge, keep}
+use Rattle.graph.specs.Route.{Route, here, step, Best}
+use Rattle.graph.proofs.Edges.{keep-in, in-keep}
+use Rattle.graph.proofs.Order.{Within}
+use Rattle.run.specs.Run.{word, tight}
+use Rattle.theory.proofs.Walk.{Walk, stay, go, walk?, walk-map, walk-of, route-of}
+use Rattle.theory.proofs.Settle.{Backed}
+use Rattle.theory.proofs.Value.{Attained, value-fits, value-after}
+
+-- ---- the best of those that have a property
+
+module _ {P : Property} (L : Laws P) (rank : Edge → ℕ) (Q : Edge → Type 0) (q? : (e : Edge) → Dec (Q e)) where
+  abbrev Finest : List Edge → Type 0
+  Finest l = (e : Edge) × List·Memᴰ e l × Q e × ((x : Edge) → List·Memᴰ x l → Q x → P .better (rank x) (rank e) ≡ false)
+
+  finest : (l : List Edge) → ((e : Edge) → List·Memᴰ e l → Q e → ⊥) ⊎ Finest l
+  finest [] = inl (λ e m q. List·Memᴰ·not-nil m)
+  finest (o ∷ l) = pick (q? o) (finest l)
+    where
+      against : Q o → Finest l → Finest (o ∷ l)
+      against qo (e, m, q, f) = choose (P .better (rank o) (rank e)) refl
+        where
+          choose : (b : Bool) → P .better (rank o) (rank e) ≡ b → Finest (o ∷ l)
+          choose true h = (
+            o,
+            List·Memᴰ·head refl,
+            qo,
+            λ x k qx. ⊎-elim (λ p. rw p (L .irreflexive _)) (λ k′. L .transitive _ _ _ (L .asymmetric _ _ h) (f x k′ qx)) (List·Memᴰ·cases-cons k),
+          )
+          choose false h = (e, List·Memᴰ·tail m, q, λ x k qx. ⊎-elim (λ p. rw p h) (λ k′. f x k′ qx) (List·Memᴰ·cases-cons k))
+
+      pick : Dec (Q o) → ((e : Edge) → List·Memᴰ e l → Q e → ⊥) ⊎ Finest l → ((e : Edge) → List·Memᴰ e (o ∷ l) → Q e → ⊥) ⊎ Finest (o ∷ l)
+      pick (yes qo) (inl f) = inr (o, List·Memᴰ·head refl, qo, λ x k qx. ⊎-elim (λ p. rw p (L .irreflexive _)) (λ k′. absurd (f x k′ qx)) (List·Memᴰ·cases-cons k))
+      pick (yes qo) (inr z) = inr (against qo z)
+      pick (no d) (inl f) = inl (λ x k qx. ⊎-elim (λ p. d (rw p at qx)) (λ k′. f x k′ qx) (List·Memᴰ·cases-cons k))
+      pick (no d) (inr (e, m, q, f)) = inr (e, List·Memᴰ·tail m, q, λ x k qx. ⊎-elim (λ p. absurd (d (rw p at qx))) (λ k′. f x k′ qx) (List·Memᴰ·cases-cons k))
+
+module _ {P : Property} (L : Laws P) (es : List Edge) (s n : ℕ) (inside : Within n es) (ws : List ℕ) (best : (t : ℕ) → Best P es s t (word P ws t)) where
+  open Property P using (start, none, along, better)
+
+  abbrev tights : List Edge
+  tights = keep (tight P ws) es
+
+  -- ---- the tight-route lemma
+
+  -- where there is a walk, the word is the value of a route
+  walk-value : {t : ℕ} → Walk es s t → Route P es s t (word P ws t)
+  walk-value {t} w = ⊎-elim (λ r. r) (λ c. let (u, r) = route-of P w in absurd (c .0 u r)) ((best t) .attained)
+
+  widen : {t : ℕ} → Walk tights s t → Walk es s t
+  widen w = walk-map (λ e m. (keep-in (tight P ws) es e m) .0) w
+
+  abbrev Crossing : ℕ → Type 0
+  Crossing u = (e : Edge) × List·Memᴰ e es × Walk tights s (e .tail) × (Walk tights s (e .head) → ⊥) × (better u (along (word P ws (e .tail)) (e .weight)) ≡ false)
+
+  -- a route to a vertex that tight edges do not reach leaves those that they reach, for a last time
+  crossing : {t u : ℕ} → Route P es s t u → (Walk tights s t → ⊥) → Crossing u
+  crossing here d = absurd (d stay)
+  crossing (step {e = e} {v = v} r m) d = pick (λ k. crossing r k) (walk? tights s (e .tail))
+    where
+      pick : ((Walk tights s (e .tail) → ⊥) → Crossing v) → Dec (Walk tights s (e .tail)) → Crossing (along v (e .weight))
+      pick below (yes w) = (e, m, w, d, L .along-monotone _ _ (e .weight) ((best (e .tail)) .unbettered v r))
+      pick below (no k) =
+          let (x, mx, wx, nx, h) = below k in
+          (x, mx, wx, nx, L .transitive _ _ _ h (L .along-no-better v (e .weight) (value-fits L es s n inside r)))
+
+  abbrev Stray : Edge → Type 0
+  Stray e = Walk es s (e .head) × (Walk tights s (e .head) → ⊥)
+
+  stray? : (e : Edge) → Dec (Stray e)
+  stray? e = pick (walk? es s (e .head)) (walk? tights s (e .head))
+    where
+      pick : Dec (Walk es s (e .head)) → Dec (Walk tights s (e .head)) → Dec (Stray e)
+      pick (yes w) (no d) = yes (w, d)
+      pick (yes w) (yes k) = no (λ q. q .1 k)
+      pick (no d) k = no (λ q. d (q .0))
+
+  no-finest : Finest L (λ e. word P ws (e .head)) Stray stray? es → ⊥
+  no-finest (v, mv, (wv, nv), first) =
+      let (x, mx, wx, nx, h) = crossing (walk-value wv) nv in
+      let t = L .antisymmetric (along (word P ws (x .tail)) (x .weight)) (word P ws (x .head))
+      ((best (x .head)) .unbettered _ (step (walk-value (widen wx)) mx)) (L .transitive _ _ _ h (first x mx (go (widen wx) mx, nx))) in
+      nx (go wx (in-keep (tight P ws) mx (eq-eqb _ _ t)))
+
+  -- A vertex that has a walk has a walk of tight edges. Otherwise take, of the vertices that have walks but none of tight edges, one whose
+  -- word is best. Its best route crosses on an edge x → y from the vertices that tight edges reach to those that they do not. Going
+  -- along never betters, so the word of x gone along that edge is no worse than the word that was chosen; and that is no worse than the
+  -- word of y, by the choice. No route betters the word of y either. So the two are equal, the edge is tight, and tight edges reach y.
+  -- Nothing here asks that an edge makes a value worse: so it holds for SSWP, SSNP and SSR too, where whole rings have one word.
+  pub tight-walk : {t : ℕ} → Walk es s t → Walk tights s t
+  tight-walk stay = stay
+  tight-walk (go {e = e} w m) = pick (walk? tights s (e .head))
+    where
+      pick : Dec (Walk tights s (e .head)) → Walk tights s (e .head)
+      pick (yes k) = k
+      pick (no d) = absurd (⊎-elim (λ f. f e m (go w m, d)) no-finest (finest L (λ e. word P ws (e .head)) Stray stray? es))
+
+  pub source-word : word P ws s ≡ start
+  source-word = L .antisymmetric (word P ws s) start
+      (⊎-elim (λ r. value-after L es s n inside r) (λ c. absurd (c .0 start here)) ((best s) .attained)) ((best s) .unbettered start here)
+
+  -- ---- other edges: words that stay attained
+
+  -- fs is the list of edges after a batch, and `out` any set of vertices that is closed: it has the head of each tight edge that is removed or
+  -- whose tail it has, unless that head is the source or has no route
+  module _ (fs : List Edge) (out : ℕ → Bool)
+      (closed : (e : Edge) → List·Memᴰ e es → tight P ws e ≡ true → e .head ≢ s → word P ws (e .head) ≢ none → out (e .head) ≡ false
+      → List·Memᴰ e fs × (out (e .tail) ≡ false)) where
+    upheld : {t : ℕ} → Walk tights s t → word P ws t ≢ none → out t ≡ false → Route P fs s t (word P ws t)
+    upheld stay d q = rw source-word here
+    upheld (go {e = e} w m) d q = pick (λ a b. upheld w a b) (ℕ-discrete (e .head) s)
+      where
+        pick : (word P ws (e .tail) ≢ none → out (e .tail) ≡ false → Route P fs s (e .tail) (word P ws (e .tail))) → Dec (e .head ≡ s)
+            → Route P fs s (e .head) (word P ws (e .head))
+        pick below (yes p) = rw (p, source-word) here
+        pick below (no k) =
+            let (mo, t) = keep-in (tight P ws) es e m in
+            let (mf, q′) = closed e mo t k d q in
+            let z : along (word P ws (e .tail)) (e .weight) ≡ word P ws (e .head) = eqb-true _ _ t in
+            rw (← z) (step (below (λ c. d (sym z ∙ ap (λ x. along x (e .weight)) c ∙ L .along-none _ (inside .weights e mo))) q′) mf)
+
+    -- A word outside the set is none, or the value of a route. Then tight edges reach its vertex. Back along them to the source, each head is
+    -- outside the set, so its edge is not removed and its tail is outside too. So they are a route of the new edges, and of the same value.
+    pub still-sound : (t : ℕ) → out t ≡ false → Backed P fs s t (word P ws t)
+    still-sound t q = pick (ℕ-discrete (word P ws t) none) ((best t) .attained)
+      where
+        pick : Dec (word P ws t ≡ none) → Attained P es s t (word P ws t) → Backed P fs s t (word P ws t)
+        pick (yes p) a = inr p
+        pick (no d) (inl r) = inl (upheld (tight-walk (walk-of r)) d q)
+        pick (no d) (inr c) = inr (c .1)
