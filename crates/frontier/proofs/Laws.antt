@@ -1,11 +1,11 @@
 -- What a caller uses of the answers: laws on any list of Bool, and on the list that any number of words holds. Assumes nothing.
 use mathlib.Core.Path.{_≡_, refl, sym, ap, ap₂, _∙_}
 use mathlib.Core.Bool.{Bool, true, false}
-use mathlib.Core.List.{List, [], _∷_, _++_}
+use mathlib.Core.List.{List, [], _∷_, _++_, append-nil}
 use Prim.Native.Nat.{ℕ, zero, suc, _+_, _-_, _*_, _≤_, _<_}
 use native.Mathlib.Nat.{not-suc-le-zero, le-of-suc-le-suc, suc-mul, zero-mul}
 use native.Mathlib.Omega.{arith}
-use lib.ListN.{length, getD, set, drop, replicate, length-drop, length-set, replicate-append-replicate}
+use lib.ListN.{length, getD, set, drop, replicate, length-drop, length-set, replicate-append-replicate, drop-of-length-le}
 use lib.Seq.{getD-drop}
 use Rattle.frontier.specs.Waiting.{bitsOf, bitsOfAll, waitingOf, seek, nextFrom, anyOf, countOf}
 use Rattle.frontier.specs.declared.Next.the-variants.{At, None}
@@ -140,3 +140,9 @@ bits-all-zero n (suc k) =
 -- in words that are all 0 nobody waits
 pub waiting-zero : (k : ℕ) → waitingOf (replicate k 0) ≡ replicate (k * 64) false
 waiting-zero k = bits-all-zero 64 k
+
+-- words that were made 0 one after the other, up to the last
+pub waiting-cleared : (vs ws : List ℕ) (k : ℕ) → vs ≡ replicate k 0 ++ drop k ws → k ≡ length ws → waitingOf vs ≡ replicate (64 * length ws) false
+waiting-cleared vs ws k e h =
+    let m : k * 64 ≡ 64 * length ws = omega arith in
+    rw (e, drop-of-length-le ws {i = k} (omega arith), append-nil {A = ℕ} (replicate k 0), waiting-zero k, m)

@@ -26,6 +26,13 @@ pub fn empty() -> Words
     [0u64; WORDS]
 }
 
+// Nobody waits any more.
+pub fn clear(ws: &mut Words)
+    ensures { λ _. ⌜ waitingOf (now (ws .exit)) ≡ replicate capacity false ⌝ }
+{
+    slices::clear(ws);
+}
+
 // Vertex `i` waits.
 pub fn insert(ws: &mut Words, i: usize)
     requires { ⌜ i < capacity ⌝ }

@@ -4,8 +4,19 @@ use super::Next;
 ghost use mathlib.Core.Path.{_≡_};
 ghost use mathlib.Core.Bool.{true, false};
 ghost use Prim.Native.Nat.{_*_, _^_, _<_};
-ghost use lib.ListN.{length, getD, set};
+ghost use lib.ListN.{length, getD, set, replicate};
 ghost use Rattle.frontier.specs.Waiting.{waitingOf, nextFrom, anyOf, countOf};
+
+// Nobody waits any more.
+pub fn clear(ws: &mut [u64])
+    ensures { λ _. ⌜ waitingOf (now (ws .exit)) ≡ replicate (64 * length (now (ws .entry))) false ⌝ }
+{
+    let mut k = 0;
+    while k < ws.len() {
+        ws[k] = 0;
+        k += 1;
+    }
+}
 
 // Vertex `i` waits.
 pub fn insert(ws: &mut [u64], i: usize)

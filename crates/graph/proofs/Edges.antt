@@ -2,7 +2,7 @@
 use mathlib.Core.Path.{_≡_, refl, sym, ap, _∙_}
 use mathlib.Core.Logic.{_⊎_, inl, inr, ⊎-elim}
 use mathlib.Core.Bool.{Bool, true, false, _||_, false≢true}
-use mathlib.Core.List.{List, [], _∷_, map, List·Memᴰ, List·Memᴰ·head, List·Memᴰ·tail, List·Memᴰ·cases-cons, List·Memᴰ·not-nil}
+use mathlib.Core.List.{List, [], _∷_, _++_, map, List·Memᴰ, List·Memᴰ·head, List·Memᴰ·tail, List·Memᴰ·cases-cons, List·Memᴰ·not-nil}
 use Prim.Native.Nat.{ℕ}
 use lib.Dec.{eqb}
 use Rattle.graph.specs.Edge.{Edge, reverse, same, keepIf, keep, exists, among, leaving}
@@ -85,3 +85,23 @@ reverse-mem (o ∷ es) e m = pick (λ k. reverse-mem es e k) (List·Memᴰ·case
     pick : (List·Memᴰ e (map reverse es) → List·Memᴰ (reverse e) es) → (e ≡ reverse o) ⊎ List·Memᴰ e (map reverse es) → List·Memᴰ (reverse e) (o ∷ es)
     pick below (inl p) = List·Memᴰ·head (ap reverse p)
     pick below (inr k) = List·Memᴰ·tail (below k)
+
+-- ---- keep, of lists put together and of reversed lists
+
+pub keep-append : (f : Edge → Bool) (xs ys : List Edge) → keep f (xs ++ ys) ≡ keep f xs ++ keep f ys
+unfolding keep keepIf
+keep-append f [] ys = refl
+keep-append f (x ∷ xs) ys = pick (f x) (keep-append f xs ys)
+  where
+    pick : (b : Bool) → keep f (xs ++ ys) ≡ keep f xs ++ keep f ys → keepIf b x (keep f (xs ++ ys)) ≡ keepIf b x (keep f xs) ++ keep f ys
+    pick true h = ap (λ (l : List Edge). x ∷ l) h
+    pick false h = h
+
+pub keep-reverse : (f : Edge → Bool) (es : List Edge) → keep f (map reverse es) ≡ map reverse (keep (λ e. f (reverse e)) es)
+unfolding keep keepIf
+keep-reverse f [] = refl
+keep-reverse f (e ∷ es) = pick (f (reverse e)) (keep-reverse f es)
+  where
+    pick : (b : Bool) → keep f (map reverse es) ≡ map reverse (keep (λ x. f (reverse x)) es) → keepIf b (reverse e) (keep f (map reverse es)) ≡ map reverse (keepIf b e (keep (λ x. f (reverse x)) es))
+    pick true h = ap (λ (l : List Edge). reverse e ∷ l) h
+    pick false h = h

@@ -106,37 +106,46 @@ edges-below = refl
 abbrev pair : List Edge
 pair = edge 1 0 7 ∷ edge 1 2 7 ∷ []
 
--- "an add puts in its record .. the list stays in table order": front by tail, front by head, middle, end by head, end by tail, into none
-inserted : map (λ e. insert e pair) (edge 0 3 5 ∷ edge 1 1 5 ∷ edge 1 3 5 ∷ edge 2 0 5 ∷ [])
-    ≡ (edge 0 3 5 ∷ edge 1 0 7 ∷ edge 1 2 7 ∷ [])
-    ∷ (edge 1 0 7 ∷ edge 1 1 5 ∷ edge 1 2 7 ∷ [])
-    ∷ (edge 1 0 7 ∷ edge 1 2 7 ∷ edge 1 3 5 ∷ [])
-    ∷ (edge 1 0 7 ∷ edge 1 2 7 ∷ edge 2 0 5 ∷ [])
+-- "an add puts in its record .. the list stays in table order": an edge, a list, and the list with the edge put in
+abbrev insertions : List (Edge × List Edge × List Edge)
+insertions =
+    (edge 1 0 5, [], edge 1 0 5 ∷ [])
+    -- in front, by its tail and by its head
+    ∷ (edge 0 3 5, pair, edge 0 3 5 ∷ edge 1 0 7 ∷ edge 1 2 7 ∷ [])
+    ∷ (edge 1 0 5, edge 1 2 7 ∷ [], edge 1 0 5 ∷ edge 1 2 7 ∷ [])
+    -- between two of its tail
+    ∷ (edge 1 1 5, pair, edge 1 0 7 ∷ edge 1 1 5 ∷ edge 1 2 7 ∷ [])
+    -- at the end, by its head and by its tail
+    ∷ (edge 1 3 5, pair, edge 1 0 7 ∷ edge 1 2 7 ∷ edge 1 3 5 ∷ [])
+    ∷ (edge 2 0 5, pair, edge 1 0 7 ∷ edge 1 2 7 ∷ edge 2 0 5 ∷ [])
     ∷ []
-unfolding insert
-inserted = refl
 
-inserted-front : insert (edge 1 0 5) (edge 1 2 7 ∷ []) ≡ edge 1 0 5 ∷ edge 1 2 7 ∷ []
+insertions-said : map (λ c. insert (c .0) (c .1)) insertions ≡ map (λ c. c .2) insertions
 unfolding insert
-inserted-front = refl
+insertions-said = refl
 
-inserted-first : insert (edge 1 0 5) [] ≡ edge 1 0 5 ∷ []
-unfolding insert
-inserted-first = refl
+-- "a take strikes the one it names": an edge, and what is left of the two
+abbrev deletions : List (Edge × List Edge)
+deletions =
+    -- by tail and head, whatever the figure: a take's is 0
+    (edge 1 0 0, edge 1 2 7 ∷ [])
+    ∷ (edge 1 2 9, edge 1 0 7 ∷ [])
+    -- the reversed pair is another, and one that is absent strikes nothing
+    ∷ (edge 0 1 7, pair)
+    ∷ []
 
--- "a take strikes the one it names": by tail and head, whatever the figure (a take's is 0); the reversed pair is another, and one that is absent strikes nothing
-deleted : map (λ e. delete e pair) (edge 1 0 0 ∷ edge 1 2 9 ∷ edge 0 1 7 ∷ [])
-    ≡ (edge 1 2 7 ∷ []) ∷ (edge 1 0 7 ∷ []) ∷ pair ∷ []
+deletions-said : map (λ c. delete (c .0) pair) deletions ≡ map (λ c. c .1) deletions
 unfolding delete
-deleted = refl
+deletions-said = refl
 
 -- ---- tests and views of edges
 
--- absence is by "same three words", presence by the pair: an edge with another weight is there and yet not among them
+-- absence from a table is by "same three words": an edge with another weight is not among them ..
 among-pair : map (among pair) (edge 1 0 7 ∷ edge 1 0 8 ∷ edge 0 1 7 ∷ []) ≡ true ∷ false ∷ false ∷ []
 unfolding exists
 among-pair = refl
 
+-- .. while number 10 and 11 go by the pair, which is there
 present-pair : map (present pair) (edge 1 0 7 ∷ edge 1 0 8 ∷ edge 0 1 7 ∷ []) ≡ true ∷ true ∷ false ∷ []
 unfolding exists
 present-pair = refl

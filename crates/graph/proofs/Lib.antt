@@ -4,3 +4,12 @@ pub mod Edges
 pub mod Verdicts
 pub mod Order
 pub mod Examples
+pub mod Flags
+pub mod Copies
+pub mod Records
+pub mod Judging
+pub mod Shifts
+pub mod Lookup
+pub mod Counts
+pub mod Places
+pub mod Own

@@ -1,13 +1,13 @@
 -- Lists: ranges, tables over them, stored places, folds. Assumes nothing.
 use mathlib.Core.Path.{_≡_, refl, ap, _∙_}
 use mathlib.Core.Logic.{_⊎_, inl, inr, _≢_}
-use mathlib.Core.List.{List, [], _∷_, map, foldl, List·Memᴰ, List·Memᴰ·head, List·Memᴰ·tail, List·Memᴰ·cases-cons, List·Memᴰ·not-nil}
-use Prim.Native.Nat.{ℕ, zero, suc, _+_, _<_}
+use mathlib.Core.List.{List, [], _∷_, _++_, map, foldl, List·Memᴰ, List·Memᴰ·head, List·Memᴰ·tail, List·Memᴰ·cases-cons, List·Memᴰ·not-nil}
+use Prim.Native.Nat.{ℕ, zero, suc, _+_, _-_, _<_, _≤_}
 use native.Mathlib.Nat.{add-zero, zero-add}
 use native.Mathlib.Decide.{ℕ-discrete}
 use native.Mathlib.Omega.{arith}
-use lib.ListN.{getD, set, length, length-map}
-use lib.Seq.{getD-set-same, getD-set-other}
+use lib.ListN.{getD, set, length, take, drop, replicate, length-map, length-drop, List·getD-append}
+use lib.Seq.{getD-set-same, getD-set-other, getD-take, length-take-le, drop-set-lt, drop-set-add, take-set-le, take-suc-set, paste}
 use Rattle.graph.specs.Edge.{range}
 
 -- ---- ranges and tables over them
@@ -66,3 +66,32 @@ at-set l h v t d b = go (ℕ-discrete t h)
 pub fold-keeps : {A B : Type 0} (Q : B → Type 0) (f : B → A → B) → ((b : B) (a : A) → Q b → Q (f b a)) → (l : List A) (b : B) → Q b → Q (foldl f b l)
 fold-keeps Q f k [] b q = q
 fold-keeps Q f k (a ∷ l) b q = fold-keeps Q f k l (f b a) (k b a q)
+
+-- ---- parts of a list after a store: past the part, before it, at its end
+
+module _ {A : Type 0} (l : List A) (j m p : ℕ) (a : A) where
+  pub part-after : j + m ≤ p → take m (drop j (set l p a)) ≡ take m (drop j l)
+  part-after h =
+      let e : p ≡ j + (p - j) = omega arith in
+      rw (e, drop-set-add j l (p - j) a) (take-set-le m (drop j l) (p - j) a (omega arith))
+
+  pub part-before : p < j → take m (drop j (set l p a)) ≡ take m (drop j l)
+  part-before h = rw (drop-set-lt j l p a h)
+
+  pub part-end : p ≡ j + m → p < length l → take (suc m) (drop j (set l p a)) ≡ take m (drop j l) ++ (a ∷ [])
+  part-end e h =
+      let k : m < length (drop j l) = omega (arith, length-drop j l) in
+      rw (e, drop-set-add j l m a) (take-suc-set (drop j l) m a k)
+
+-- ---- zeros, and the words that a copy to the front brings
+
+zero-at : (n u : ℕ) → getD {A = ℕ} (replicate n 0) u 0 ≡ 0
+zero-at zero u = refl
+zero-at (suc n) zero = refl
+zero-at (suc n) (suc u) = zero-at n u
+
+pub zeros-at : (l : List ℕ) (n : ℕ) → l ≡ replicate n 0 → (u : ℕ) → getD l u 0 ≡ 0
+zeros-at l n e u = rw e (zero-at n u)
+
+pub paste-at : (d s e : List ℕ) (n : ℕ) → e ≡ paste d 0 s n → n ≤ length s → (u : ℕ) → u < n → getD e u 0 ≡ getD s u 0
+paste-at d s e n p h u l = let k = length-take-le n s h in rw p (List·getD-append (take n s) (drop (0 + n) d) 0 u (omega arith) ∙ getD-take n s u 0 l)

@@ -6,15 +6,15 @@ use mathlib.Core.List.{List, [], _∷_, List·Memᴰ, List·Memᴰ·head, List·
 use Prim.Native.Nat.{ℕ, zero, suc, _≤_, _<_}
 use native.Mathlib.Decide.{ℕ-discrete, decLt}
 use native.Mathlib.Omega.{arith}
-use lib.ListN.{length}
+use lib.ListN.{length, getD}
 use lib.Dec.{ltb, leb, eqb}
 use Rattle.property.specs.Property.{M}
 use Rattle.graph.specs.Limits.{maxWeight}
 use Rattle.graph.specs.Refusal.{Verdict, accept, refuse, _▷_, refuseIf}
-use Rattle.graph.specs.Edge.{Edge, samePair, precedes, exists, present}
+use Rattle.graph.specs.Edge.{Edge, edge, samePair, precedes, exists, present}
 use Rattle.graph.specs.Table.{isWeight, isEdge, follow, rules, insert, delete}
 use borrow.Author.Tests.{ltb-true, leb-true, eqb-true, not-false, lt-ltb, eq-eqb}
-use Rattle.graph.proofs.Tests.{both, and-true, neither}
+use Rattle.graph.proofs.Tests.{both, and-true, neither, or-false}
 use Rattle.graph.proofs.Verdicts.{then-accept, accept-then, if-accept, accept-if}
 
 -- ---- the order of edges
@@ -196,3 +196,99 @@ length-delete e (x ∷ es) = pick (samePair e x) (length-delete e es)
     pick : (c : Bool) → length (delete e es) ≤ length es → length (cond c es (x ∷ delete e es)) ≤ suc (length es)
     pick true k = omega arith
     pick false k = omega arith
+
+-- ---- what look-up needs of the order
+
+pub precedes-asym : (e f : Edge) → precedes e f ≡ true → precedes f e ≡ false
+precedes-asym e f h = pick (precedes f e) refl
+  where
+    never : Less e f → Less f e → ⊥
+    never (inl a) (inl b) = omega arith
+    never (inl a) (inr b) = let p = b .0 in omega arith
+    never (inr a) (inl b) = let p = a .0 in omega arith
+    never (inr a) (inr b) = let p = a .1 in let q = b .1 in omega arith
+
+    pick : (b : Bool) → precedes f e ≡ b → precedes f e ≡ false
+    pick true q = absurd (never (less-of e f h) (less-of f e q))
+    pick false q = q
+
+-- an edge that precedes another is of another pair, whichever is asked first
+pub precedes-apart : (e f : Edge) → precedes e f ≡ true → (samePair e f ≡ false) × (samePair f e ≡ false)
+precedes-apart e f h = (one (samePair e f) refl, other (samePair f e) refl)
+  where
+    never : e .tail ≡ f .tail → e .head ≡ f .head → Less e f → ⊥
+    never p q (inl a) = omega arith
+    never p q (inr a) = let z = a .1 in omega arith
+
+    one : (b : Bool) → samePair e f ≡ b → samePair e f ≡ false
+    one true q = let z = both (eqb (e .tail) (f .tail)) _ q in absurd (never (eqb-true _ _ (z .0)) (eqb-true _ _ (z .1)) (less-of e f h))
+    one false q = q
+
+    other : (b : Bool) → samePair f e ≡ b → samePair f e ≡ false
+    other true q = let z = both (eqb (f .tail) (e .tail)) _ q in absurd (never (sym (eqb-true _ _ (z .0))) (sym (eqb-true _ _ (z .1))) (less-of e f h))
+    other false q = q
+
+-- an edge that does not precede another, of another pair, comes after it
+pub precedes-after : (x e : Edge) → precedes x e ≡ false → samePair e x ≡ false → precedes e x ≡ true
+precedes-after x e h k = precedes-else x e h (flip (samePair x e) refl)
+  where
+    flip : (b : Bool) → samePair x e ≡ b → samePair x e ≡ false
+    flip true q =
+        let z = both (eqb (x .tail) (e .tail)) (eqb (x .head) (e .head)) q in
+        let a = eq-eqb (e .tail) (x .tail) (sym (eqb-true (x .tail) (e .tail) (z .0))) in
+        let b = eq-eqb (e .head) (x .head) (sym (eqb-true (x .head) (e .head) (z .1))) in
+        absurd (true≢false (sym (and-true a b) ∙ k))
+    flip false q = q
+
+pub follows-sound : (n : ℕ) (p : Edge) (es : List Edge) → Follows n p es → Sound n es
+follows-sound n p [] h = tt
+follows-sound n p (e ∷ es) h = (h .1, h .2)
+
+follows-before : (n : ℕ) (p : Edge) (es : List Edge) → Follows n p es → (j : ℕ) → j < length es → precedes p (getD es j (edge 0 0 0)) ≡ true
+follows-before n p [] h j l = absurd (omega arith)
+follows-before n p (x ∷ es) h zero l = h .0
+follows-before n p (x ∷ es) h (suc j) l = precedes-trans p x (getD es j (edge 0 0 0)) (h .0) (follows-before n x es (h .2) j (omega arith))
+
+pub sound-before : (n : ℕ) (es : List Edge) → Sound n es → (i j : ℕ) → i < j → j < length es → precedes (getD es i (edge 0 0 0)) (getD es j (edge 0 0 0)) ≡ true
+sound-before n [] h i j k l = absurd (omega arith)
+sound-before n (x ∷ es) h i zero k l = absurd (omega arith)
+sound-before n (x ∷ es) h zero (suc j) k l = follows-before n x es (h .1) j (omega arith)
+sound-before n (x ∷ es) h (suc i) (suc j) k l = sound-before n es (follows-sound n x es (h .1)) i j (omega arith) (omega arith)
+
+-- what precedes the first of the edges is of no pair among them
+pub precedes-absent : (n : ℕ) (e x : Edge) (es : List Edge) → precedes e x ≡ true → Follows n x es → present (x ∷ es) e ≡ false
+unfolding exists
+precedes-absent n e x [] b h = or-false (precedes-apart e x b .0) refl
+precedes-absent n e x (y ∷ es) b h = or-false (precedes-apart e x b .0) (precedes-absent n e y es (precedes-trans e x y b (h .0)) (h .2))
+
+-- of the edges at and before one that precedes x, each does; of those at and after one that does not, none does
+module _ (n : ℕ) (es : List Edge) (s : Sound n es) (x : Edge) (m : ℕ) (l : m < length es) where
+  pub sound-upto : precedes (getD es m (edge 0 0 0)) x ≡ true → (k : ℕ) → k < suc m → precedes (getD es k (edge 0 0 0)) x ≡ true
+  sound-upto h k i = pick (ℕ-discrete k m)
+    where
+      pick : Dec (k ≡ m) → precedes (getD es k (edge 0 0 0)) x ≡ true
+      pick (yes p) = rw p h
+      pick (no p) = precedes-trans (getD es k (edge 0 0 0)) (getD es m (edge 0 0 0)) x (sound-before n es s k m (omega arith) l) h
+
+  pub sound-onward : precedes (getD es m (edge 0 0 0)) x ≡ false → (k : ℕ) → m ≤ k → k < length es → precedes (getD es k (edge 0 0 0)) x ≡ false
+  sound-onward h k i j = pick (ℕ-discrete k m) (precedes (getD es k (edge 0 0 0)) x) refl
+    where
+      pick : Dec (k ≡ m) → (b : Bool) → precedes (getD es k (edge 0 0 0)) x ≡ b → precedes (getD es k (edge 0 0 0)) x ≡ false
+      pick d false q = q
+      pick (yes p) true q = rw p h
+      pick (no p) true q = absurd (true≢false (sym (precedes-trans (getD es m (edge 0 0 0)) (getD es k (edge 0 0 0)) x (sound-before n es s m k (omega arith) j) q) ∙ h))
+
+pub precedes-tail : (e f : Edge) → precedes e f ≡ true → e .tail ≤ f .tail
+precedes-tail e f h = pick (less-of e f h)
+  where
+    pick : Less e f → e .tail ≤ f .tail
+    pick (inl a) = omega arith
+    pick (inr a) = let p = a .0 in omega arith
+
+-- ---- insert and delete keep the rules
+
+pub insert-rules : (n : ℕ) (e : Edge) (es : List Edge) → rules n es ≡ accept → isEdge n e ≡ true → present es e ≡ false → rules n (insert e es) ≡ accept
+insert-rules n e es h f a = accept-rules n (insert e es) (insert-sound n e es (rules-accept n es h) f a)
+
+pub delete-rules : (n : ℕ) (e : Edge) (es : List Edge) → rules n es ≡ accept → rules n (delete e es) ≡ accept
+delete-rules n e es h = accept-rules n (delete e es) (delete-sound n e es (rules-accept n es h))

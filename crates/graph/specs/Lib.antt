@@ -3,3 +3,5 @@ pub mod Refusal
 pub mod Edge
 pub mod Table
 pub mod Route
+pub mod Code
+pub mod Own

@@ -156,7 +156,7 @@ refusals =
     ∷ []
 
 refusals-said : map (λ c. c .0) refusals ≡ map (λ c. c .1) refusals
-unfolding openCall queryCall batchCall settledCall choiceCall lookupNumber replied verdictOf choose _▷_ refuseIf isIn areLandmarks scheduled item items edges zip rules follow unsettled anyOf range property start.opened bound asked run.take takeIf pass settle round visit visitIf handle clear relax storeIf keep keepIf exists insert delete edit mark sweep sweeps affected cleared reopened prepared inRecords inRows place ranked
+unfolding openCall queryCall batchCall settledCall choiceCall lookupNumber replied verdictOf _▷_ refuseIf isIn areLandmarks scheduled item items edges zip rules follow unsettled anyOf range property start.opened bound asked run.take takeIf pass settle round visit visitIf handle clear keep sweep sweeps affected cleared reopened prepared exists
 refusals-said = refl
 
 -- "a lent list .. is too short": each of the five lists counts in each call that takes a network
@@ -274,7 +274,7 @@ opening = refl
 -- "rows go by post in list order, then property": landmark 2 comes first where it is listed first
 opening-two : (openCall 4 (2 ∷ 0 ∷ []) (dusty (replicate 40 5) (replicate 40 6))) .memory .rows
     ≡ record { forward = forwardOf2 ++ forwardOf0 ++ (99 ∷ 99 ∷ []); backward = backwardOf2 ++ backwardOf0 ++ (99 ∷ 99 ∷ []) }
-unfolding openCall replied choose _▷_ refuseIf isIn areLandmarks edges zip rules follow unsettled flat anyOf range property start.opened settle round visit visitIf handle clear relax storeIf keep keepIf
+unfolding openCall choose _▷_ refuseIf isIn areLandmarks edges zip rules follow unsettled flat anyOf range property start.opened settle round visit visitIf handle clear relax storeIf keep keepIf
 opening-two = refl
 
 -- a refused opening leaves every list: here a landmark is named twice
@@ -434,7 +434,7 @@ queries =
     ∷ []
 
 queries-said : map (λ c. c .0) queries ≡ map (λ c. c .1) queries
-unfolding queryCall replied choose _▷_ refuseIf isIn areLandmarks scheduled edges zip rules follow unsettled flat anyOf range property bound asked run.take takeIf pass settle round visit visitIf handle clear relax storeIf keep keepIf
+unfolding queryCall replied choose _▷_ refuseIf isIn areLandmarks scheduled edges zip rules follow anyOf range property bound asked run.take takeIf pass settle round visit visitIf handle clear relax storeIf keep keepIf
 queries-said = refl
 
 -- ---- the settled check
@@ -570,7 +570,7 @@ abbrev held : Network → List Edge × ℕ × List ℕ × List ℕ
 held w = (edgesIn w, w .count, list.take 4 (w .memory .rows .forward), list.take 4 (w .memory .rows .backward))
 
 lived-now : held (lived 4 (0 ∷ []) (withLandmark 0) history) ≡ (edgesNow, 6, 0 ∷ 3 ∷ 7 ∷ 9 ∷ [], 0 ∷ 2 ∷ 6 ∷ 8 ∷ [])
-unfolding openCall start.opened batchCall reported replied choose _▷_ refuseIf isIn areLandmarks edges zip rules follow item items edit insert delete exists unsettled flat storesOf affectedOver anyOf countOf range property settle round visit visitIf handle clear relax storeIf keep keepIf mark sweep sweeps affected cleared reopened prepared
+unfolding openCall start.opened batchCall reported replied choose _▷_ refuseIf isIn areLandmarks edges zip rules follow item items edit insert delete exists unsettled flat anyOf range property settle round visit visitIf handle clear relax storeIf keep keepIf mark sweep sweeps affected cleared reopened prepared
 lived-now = refl
 
 -- "whether "Turned back" accepts the batch": reckoned from the edges alone it is what the call says, number and place
@@ -588,5 +588,5 @@ unfolding turnedBack item items edit insert delete exists _▷_ refuseIf
 turnedBack-said = refl
 
 batchCall-said : map (λ c. changes 4 (0 ∷ []) (withLandmark 0) (c .0)) judgedBatches ≡ map (λ c. c .1) judgedBatches
-unfolding openCall start.opened batchCall verdictOf replied choose _▷_ refuseIf isIn areLandmarks edges zip rules follow item items edit insert delete exists unsettled flat storesOf affectedOver anyOf countOf range property settle round visit visitIf handle clear relax storeIf keep keepIf mark sweep sweeps affected cleared reopened prepared
+unfolding openCall start.opened batchCall verdictOf replied choose _▷_ refuseIf isIn areLandmarks edges zip rules follow item items edit insert delete exists unsettled flat anyOf range property settle round visit visitIf handle clear relax storeIf keep keepIf mark sweep sweeps affected cleared reopened prepared
 batchCall-said = refl

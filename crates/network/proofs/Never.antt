@@ -4,7 +4,6 @@
 --   openNumber k          == k is 1 to 4
 --   batchNumber k         == k is 1, or 6 to 12
 --   queryNumber k         == k is 1, 2, 5 or 6
---   queryBack n q out     == what "Turned back" says of a query, but for the network: 1, 2, 5 and 6 (for a batch it is `turnedBack`)
 --   Never r               == the reply r is not number 13
 use mathlib.Core.Path.{_≡_, refl, sym, _∙_}
 use mathlib.Core.Bool.{Bool, true, false, not, _&&_, _||_, true≢false}
@@ -30,7 +29,7 @@ use Rattle.network.specs.Open.{openVerdict, openCall}
 use Rattle.network.specs.Query.{Query, Words, scheduled, atRounds, atEnd, queryVerdict, queryCall}
 use Rattle.network.specs.Change.{Change, edit, item, items}
 use Rattle.network.specs.Batch.{batchCall}
-use Rattle.network.specs.Current.{turnedBack}
+use Rattle.network.specs.Current.{turnedBack, openBack, queryBack}
 use Rattle.network.specs.History.{moment}
 use Rattle.network.proofs.Items.{table-accept}
 use Rattle.network.proofs.Rows.{open-rests}
@@ -42,8 +41,7 @@ use Rattle.network.proofs.Query.{rounds-good}
 -- An opening, on whatever lists, is turned back by numbers 1 to 4 alone. Where these accept, its landmarks are vertices and its edges lie
 -- within the n vertices. So each opened row keeps the invariant of runs, on the edges and on the reversed ones, and from such a state
 -- nothing waits after n rounds.
-pub open-judged : (n : ℕ) (ls : List ℕ) (w : Network) → verdictOf ((openCall n ls w) .reply)
-    ≡ (size n ▷ shortTable (w .memory .table) ▷ shortRows n ls (w .memory .rows) ▷ landmarks n ls ▷ table n (w .memory .table) (w .count))
+pub open-judged : (n : ℕ) (ls : List ℕ) (w : Network) → verdictOf ((openCall n ls w) .reply) ≡ openBack n ls w
 unfolding openCall
 open-judged n ls w = verdict-replied (openVerdict n ls w) tt
     ∙ then-same (size n) (λ _. then-same (shortTable (w .memory .table)) (λ _. then-same (shortRows n ls (w .memory .rows)) (λ _.
@@ -55,14 +53,6 @@ open-judged n ls w = verdict-replied (openVerdict n ls w) tt
 pub batch-judged : (n : ℕ) (ls : List ℕ) (w : Network) (b : List Change) → Good n ls w
     → verdictOf ((batchCall n ls w b) .reply) ≡ turnedBack n (edgesIn w) b
 batch-judged n ls w b g = (steps n ls w b g) .applied .judged
-
-abbrev pub queryBack : ℕ → Query → Words → Verdict
-queryBack n q out =
-    refuseIf (ltb maxSchedule (length (q .schedule))) 1 0
-    ▷ refuseIf (ltb (length (out .starts)) n || ltb (length (out .settled)) n) 2 0
-    ▷ refuseIf (not (isProperty (q .property))) 5 0
-    ▷ refuseIf (not (ltb (q .source) n)) 6 0
-    ▷ scheduled n 0 (q .schedule)
 
 -- A query on a network that keeps the invariant is turned back by its own numbers alone. The network's size, lists, landmarks and table
 -- are as they must be. Where property and source are too, its start keeps the invariant of runs, and the schedule keeps it: so nothing

@@ -5,13 +5,18 @@
 --   Triangle P es ls s t v   == v is the triangle bound from s to t: the best, over the landmarks, of the best value to the landmark
 --                               joined with the best value on from it
 --   Answered ..              == what an accepted query gives: bounds and the source's value, rounds, settled, best values
---   Holds n ls es w       == what holds of a network w whose edges are es: its records and count, its rows, every query
+--   Holds n ls es w          == what holds of a network w whose edges are es: its records and count, its rows, and every query,
+--                               which is turned back as document 01 says and never for 13
 --   Unworse ..               == rows xs that become ys: a vertex that is not affected keeps its word or gets a better one
 --   Applied n ls es w b      == what the batch b does to w: it is turned back as document 01 says, and then hands on words and
 --                               count as it found them; no word gets worse that is not affected
+--   moment n ls w bs         == the network after the opening on w and the batches bs
+--   now n w bs               == the network as it is now, at that moment
+--   Past n ls w bs           == what holds at every moment of the list bs, and of every batch of it
+--   Lifetime n ls w          == the opening on w is turned back for 1 to 4 alone; accepted, any list of batches has such a past
 --   History                  == the claim. A query returns no table and no rows, so queries may stand anywhere between batches
---   BestOverRoutes           == demand 2, by itself: after any list of batches each standing word, and each settled word of an
---                               accepted query, is the best value of its property
+--   RoutesBest ..            == the words of the rows and of accepted queries are best values
+--   BestOverRoutes           == demand 2, by itself: they are after any list of batches
 use mathlib.Core.Path.{_≡_}
 use mathlib.Core.Logic.{_≢_}
 use mathlib.Core.Bool.{false}
@@ -30,7 +35,7 @@ use Rattle.network.specs.Query.{Query, Words, queryCall}
 use Rattle.network.specs.Change.{Change}
 use Rattle.network.specs.Batch.{batchCall}
 use Rattle.network.specs.Caller.{opened, handOn, lived}
-use Rattle.network.specs.Current.{turnedBack, after, current}
+use Rattle.network.specs.Current.{turnedBack, openBack, queryBack, after, current}
 
 -- ---- an accepted query
 
@@ -54,6 +59,7 @@ pub record Holds (n : ℕ) (ls : List ℕ) (es : List Edge) (w : Network) : Type
       → Best (propertyOf r) es (landmarkOf ls r) t (word (propertyOf r) (row n r (w .memory .rows .forward)) t)
   pub backward : (r t : ℕ) → r < rowCount ls → t < n
       → Best (propertyOf r) es t (landmarkOf ls r) (word (propertyOf r) (row n r (w .memory .rows .backward)) t)
+  pub judged : (q : Query) (out : Words) → verdictOf ((queryCall n ls w q out) .reply) ≡ queryBack n q out
   pub query : (q : Query) (out : Words) (tally : Tally) → (queryCall n ls w q out) .reply ≡ accepted tally
       → Answered (property (q .property)) n ls es (q .source) tally ((queryCall n ls w q out) .memory)
 
@@ -85,8 +91,12 @@ pub record Past (n : ℕ) (ls : List ℕ) (w : Network) (bs : List (List Change)
   pub applied : (past rest : List (List Change)) (b : List Change) → bs ≡ past ++ b ∷ rest
       → Applied n ls (now n w past) (moment n ls w past) b
 
+pub record Lifetime (n : ℕ) (ls : List ℕ) (w : Network) : Type 0 where
+  pub judged : verdictOf ((openCall n ls w) .reply) ≡ openBack n ls w
+  pub later : openBack n ls w ≡ accept → (bs : List (List Change)) → Past n ls w bs
+
 abbrev pub History : Type 0
-History = (n : ℕ) (ls : List ℕ) (w : Network) → verdictOf ((openCall n ls w) .reply) ≡ accept → (bs : List (List Change)) → Past n ls w bs
+History = (n : ℕ) (ls : List ℕ) (w : Network) → Lifetime n ls w
 
 -- ---- demand 2
 
@@ -99,5 +109,5 @@ pub record RoutesBest (n : ℕ) (ls : List ℕ) (es : List Edge) (w : Network) :
       → Best (property (q .property)) es (q .source) t (word (property (q .property)) ((queryCall n ls w q out) .memory .settled) t)
 
 abbrev pub BestOverRoutes : Type 0
-BestOverRoutes = (n : ℕ) (ls : List ℕ) (w : Network) → verdictOf ((openCall n ls w) .reply) ≡ accept → (bs : List (List Change))
+BestOverRoutes = (n : ℕ) (ls : List ℕ) (w : Network) → openBack n ls w ≡ accept → (bs : List (List Change))
     → RoutesBest n ls (now n w bs) (moment n ls w bs)

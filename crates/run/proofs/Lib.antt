@@ -1,1 +1,5 @@
+pub mod Folds
+pub mod States
+pub mod Rounds
+pub mod Starts
 pub mod Examples

@@ -1,1 +1,219 @@
-// Runs: definitions that the contracts of the calls cite.
+// Runs: handling a vertex, the schedule, rounds, and where a run starts. The tally goes in by value and comes back.
+use frontier::Next;
+use frontier::Words;
+ghost use mathlib.Core.Path.{_≡_};
+ghost use mathlib.Core.List.{List};
+ghost use mathlib.Core.Bool.{true, false};
+ghost use Prim.Native.Nat.{_<_, _≤_};
+ghost use lib.ListN.{length, set, replicate};
+ghost use Rattle.property.specs.Property.{property};
+ghost use Rattle.frontier.specs.Waiting.{capacity};
+ghost use Rattle.graph.specs.Edge.{Edge};
+ghost use Rattle.graph.specs.Own.{Own};
+ghost use Rattle.run.specs.Run as spec;
+ghost use Rattle.run.specs.Start.{opened};
+ghost use Rattle.run.specs.Code.{bits, noCounts, state, Held, Sized, Low, Ready, Ran, Scheduled};
+
+pub struct Tally {
+    pub taken: u64,
+    pub rounds: u64,
+    pub stores: u64,
+}
+
+// The value `a` reaches vertex `h`: stored, set waiting and counted where it is better.
+pub fn relax(
+    p: u32,
+    n: usize,
+    h: usize,
+    a: u32,
+    words: &mut [u32],
+    waiting: &mut Words,
+    t: Tally,
+) -> Tally
+    requires { ⌜ (h < n) × Sized n (now words) (now waiting) × Low 40 t ⌝ }
+    ensures { λ r. ⌜ ((e : Edge) → e .head ≡ h → property p .along (spec.word (property p) (now (words .entry)) (e .tail)) (e .weight) ≡ a → state n (now (words .exit)) (now (waiting .exit)) r ≡ spec.relax (property p) (state n (now (words .entry)) (now (waiting .entry)) t) e) ⌝ }
+    ensures { λ r. ⌜ Ran n (now (words .exit)) (now (waiting .exit)) t r 0 0 1 ⌝ }
+{
+    if property::better(p, a, words[h]) {
+        words[h] = a;
+        frontier::insert(waiting, h);
+        Tally {
+            taken: t.taken,
+            rounds: t.rounds,
+            stores: t.stores + 1,
+        }
+    } else {
+        t
+    }
+}
+
+// Vertex `u` is handled: its bit is cleared, then its edges are gone along in table order.
+pub fn handle(
+    p: u32,
+    n: usize,
+    count: usize,
+    u: usize,
+    firsts: &[u32],
+    heads: &[u32],
+    weights: &[u32],
+    words: &mut [u32],
+    waiting: &mut Words,
+    tally: Tally,
+) -> Tally
+    requires { ⌜ u < n ⌝ }
+    requires { ⌜ Ready 39 n count (now firsts) (now heads) (now weights) (now words) (now waiting) tally ⌝ }
+    ensures { λ r. ⌜ ((es : List Edge) → Own n (now (firsts .entry)) (now (heads .entry)) (now (weights .entry)) es → state n (now (words .exit)) (now (waiting .exit)) r ≡ spec.handle (property p) es (state n (now (words .entry)) (now (waiting .entry)) tally) u) ⌝ }
+    ensures { λ r. ⌜ Ran n (now (words .exit)) (now (waiting .exit)) tally r 0 0 2048 ⌝ }
+{
+    frontier::remove(waiting, u);
+    let hi = firsts[u + 1] as usize;
+    let mut j = firsts[u] as usize;
+    let mut t = tally;
+    while j < hi {
+        let h = heads[j] as usize;
+        let a = property::along(p, words[u], weights[j]);
+        t = relax(p, n, h, a, words, waiting, t);
+        j += 1;
+    }
+    t
+}
+
+// One round: each waiting vertex is handled when its turn comes, ascending.
+pub fn round(
+    p: u32,
+    n: usize,
+    count: usize,
+    firsts: &[u32],
+    heads: &[u32],
+    weights: &[u32],
+    words: &mut [u32],
+    waiting: &mut Words,
+    tally: Tally,
+) -> Tally
+    requires { ⌜ Ready 38 n count (now firsts) (now heads) (now weights) (now words) (now waiting) tally ⌝ }
+    ensures { λ r. ⌜ ((es : List Edge) → Own n (now (firsts .entry)) (now (heads .entry)) (now (weights .entry)) es → state n (now (words .exit)) (now (waiting .exit)) r ≡ spec.round (property p) es n (state n (now (words .entry)) (now (waiting .entry)) tally)) ⌝ }
+    ensures { λ r. ⌜ Ran n (now (words .exit)) (now (waiting .exit)) tally r 0 1 524288 ⌝ }
+{
+    let mut t = Tally {
+        taken: tally.taken,
+        rounds: tally.rounds + 1,
+        stores: tally.stores,
+    };
+    let mut i = 0;
+    while i < n {
+        let next = frontier::next_from(waiting, i);
+        let Next::At(v) = next else {
+            return t;
+        };
+        t = handle(p, n, count, v, firsts, heads, weights, words, waiting, t);
+        i = v + 1;
+    }
+    t
+}
+
+// Rounds while any vertex waits, at most `n`.
+pub fn settle(
+    p: u32,
+    n: usize,
+    count: usize,
+    firsts: &[u32],
+    heads: &[u32],
+    weights: &[u32],
+    words: &mut [u32],
+    waiting: &mut Words,
+    tally: Tally,
+) -> Tally
+    requires { ⌜ Ready 32 n count (now firsts) (now heads) (now weights) (now words) (now waiting) tally ⌝ }
+    ensures { λ r. ⌜ ((es : List Edge) → Own n (now (firsts .entry)) (now (heads .entry)) (now (weights .entry)) es → state n (now (words .exit)) (now (waiting .exit)) r ≡ spec.settle (property p) es n n (state n (now (words .entry)) (now (waiting .entry)) tally)) ⌝ }
+    ensures { λ r. ⌜ Ran n (now (words .exit)) (now (waiting .exit)) tally r 0 n 134217728 ⌝ }
+{
+    let mut t = tally;
+    let mut k = 0;
+    while k < n {
+        if !frontier::any(waiting) {
+            return t;
+        }
+        t = round(p, n, count, firsts, heads, weights, words, waiting, t);
+        k += 1;
+    }
+    t
+}
+
+// One entry of the schedule: handled and counted if it waits, else skipped.
+pub fn take(
+    p: u32,
+    n: usize,
+    count: usize,
+    u: usize,
+    firsts: &[u32],
+    heads: &[u32],
+    weights: &[u32],
+    words: &mut [u32],
+    waiting: &mut Words,
+    tally: Tally,
+) -> Tally
+    requires { ⌜ u < n ⌝ }
+    requires { ⌜ Ready 38 n count (now firsts) (now heads) (now weights) (now words) (now waiting) tally ⌝ }
+    ensures { λ r. ⌜ ((es : List Edge) → Own n (now (firsts .entry)) (now (heads .entry)) (now (weights .entry)) es → state n (now (words .exit)) (now (waiting .exit)) r ≡ spec.take (property p) es (state n (now (words .entry)) (now (waiting .entry)) tally) u) ⌝ }
+    ensures { λ r. ⌜ Ran n (now (words .exit)) (now (waiting .exit)) tally r 1 0 2048 ⌝ }
+{
+    if frontier::contains(waiting, u) {
+        let t = Tally {
+            taken: tally.taken + 1,
+            rounds: tally.rounds,
+            stores: tally.stores,
+        };
+        handle(p, n, count, u, firsts, heads, weights, words, waiting, t)
+    } else {
+        tally
+    }
+}
+
+// The schedule is gone through.
+pub fn pass(
+    p: u32,
+    n: usize,
+    count: usize,
+    firsts: &[u32],
+    heads: &[u32],
+    weights: &[u32],
+    schedule: &[u32],
+    words: &mut [u32],
+    waiting: &mut Words,
+    tally: Tally,
+) -> Tally
+    requires { ⌜ Ready 32 n count (now firsts) (now heads) (now weights) (now words) (now waiting) tally ⌝ }
+    requires { ⌜ Scheduled n (now schedule) ⌝ }
+    ensures { λ r. ⌜ ((es : List Edge) → Own n (now (firsts .entry)) (now (heads .entry)) (now (weights .entry)) es → state n (now (words .exit)) (now (waiting .exit)) r ≡ spec.pass (property p) es (now (schedule .entry)) (state n (now (words .entry)) (now (waiting .entry)) tally)) ⌝ }
+    ensures { λ r. ⌜ Ran n (now (words .exit)) (now (waiting .exit)) tally r 4096 0 8388608 ⌝ }
+{
+    let mut t = tally;
+    let mut entry = 0;
+    while entry < schedule.len() {
+        let u = schedule[entry] as usize;
+        t = take(p, n, count, u, firsts, heads, weights, words, waiting, t);
+        entry += 1;
+    }
+    t
+}
+
+// Vertex `s` alone waits.
+pub fn start_at(n: usize, s: usize, waiting: &mut Words)
+    requires { ⌜ (s < n) × (n ≤ capacity) ⌝ }
+    ensures { λ _. ⌜ bits n (now (waiting .exit)) ≡ set (replicate n false) s true ⌝ }
+    ensures { λ _. ⌜ Held n (now (waiting .exit)) ⌝ }
+{
+    *waiting = frontier::empty();
+    frontier::insert(waiting, s);
+}
+
+// A row of landmark `s` is opened: no route but for `s`, which has its value and waits.
+pub fn open_row(p: u32, n: usize, s: usize, words: &mut [u32], waiting: &mut Words)
+    requires { ⌜ (s < n) × (n ≤ capacity) × (length (now words) ≡ n) ⌝ }
+    ensures { λ _. ⌜ state n (now (words .exit)) (now (waiting .exit)) noCounts ≡ opened (property p) n s ⌝ }
+    ensures { λ _. ⌜ Sized n (now (words .exit)) (now (waiting .exit)) ⌝ }
+{
+    graph::words::fill(words, property::none(p));
+    words[s] = property::start(p);
+    start_at(n, s, waiting);
+}

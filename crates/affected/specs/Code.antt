@@ -1,0 +1,67 @@
+-- What the functions on affected vertices are told and answer. Assumes nothing.
+--
+--   flag b                    == a byte as a test: 1 is true
+--   flags bs                  == bytes as tests
+--   Absent m es fs bs         == byte j of bs says whether edge j of es is absent from fs, by its three words
+--   holds P s v w h x         == the test `held` of an edge's words: v at its tail, weight w, head h with x
+--   Marks n bs                == bs has a bit for each vertex that may be, and none past the n vertices is set
+--   Ends n m ts hs            == the tails and heads of m edges are vertices below n
+--   Before n m ts hs ws gs vs == the table before a batch, a byte for each of its edges, and a row of n words
+--   After n m ts hs gs        == the table after a batch, as far as it is read, and a byte for each of its edges
+--   Spread n bs cs b          == what marking left, from bs to cs: b says whether there are more marks, or the same
+use mathlib.Core.Path.{_≡_}
+use mathlib.Core.Bool.{Bool, true, false, not, _&&_}
+use mathlib.Core.List.{List, map}
+use Prim.Native.Nat.{ℕ, _≤_, _<_}
+use lib.ListN.{length, getD, take}
+use lib.Dec.{eqb}
+use Rattle.property.specs.Property.{Property}
+use Rattle.frontier.specs.Waiting.{waitingOf, capacity, countOf}
+use Rattle.graph.specs.Limits.{maxVertices}
+use Rattle.graph.specs.Edge.{Edge, among}
+use Rattle.graph.specs.Code.{Room}
+use Rattle.run.specs.Code.{bits, Idle}
+
+-- ---- bytes for edges
+
+unfoldable pub flag : ℕ → Bool
+flag b = eqb b 1
+
+abbrev pub flags : List ℕ → List Bool
+flags bs = map flag bs
+
+abbrev pub Absent : ℕ → List Edge → List Edge → List ℕ → Type 0
+Absent m es fs bs = take m (flags bs) ≡ map (λ e. not (among fs e)) es
+
+-- ---- an edge by its words
+
+abbrev pub holds : Property → ℕ → ℕ → ℕ → ℕ → ℕ → Bool
+holds P s v w h x = eqb (P .along v w) x && (not (eqb h s) && not (eqb x (P .none)))
+
+-- ---- what is asked, and what is kept
+
+pub record Marks (n : ℕ) (bs : List ℕ) : Type 0 where
+  pub bits : length (waitingOf bs) ≡ capacity
+  pub idle : Idle n bs
+
+pub record Ends (n m : ℕ) (ts hs : List ℕ) : Type 0 where
+  pub few : n ≤ maxVertices
+  pub from : (k : ℕ) → k < m → getD ts k 0 < n
+  pub into : (k : ℕ) → k < m → getD hs k 0 < n
+
+pub record Before (n m : ℕ) (ts hs ws gs vs : List ℕ) : Type 0 where
+  pub room : Room m ts hs ws
+  pub ends : Ends n m ts hs
+  pub bytes : m ≤ length gs
+  pub words : length vs ≡ n
+
+pub record After (n m : ℕ) (ts hs gs : List ℕ) : Type 0 where
+  pub tails : m ≤ length ts
+  pub heads : m ≤ length hs
+  pub ends : Ends n m ts hs
+  pub bytes : m ≤ length gs
+
+pub record Spread (n : ℕ) (bs cs : List ℕ) (b : Bool) : Type 0 where
+  pub marks : Marks n cs
+  pub still : b ≡ false → bits n cs ≡ bits n bs
+  pub more : b ≡ true → countOf (bits n bs) < countOf (bits n cs)

@@ -1,0 +1,101 @@
+-- Rows written one by one, each behind the rows before it, and a whole list of rows over the front of another. Assumes nothing.
+use mathlib.Core.Path.{_≡_, refl, sym, ap, _∙_}
+use mathlib.Core.Bool.{Bool, true, false, _||_}
+use mathlib.Core.List.{List, [], _∷_, _++_, map, append-assoc, append-nil}
+use Prim.Native.Nat.{ℕ, zero, suc, _+_, _-_, _*_, _≤_, _<_}
+use native.Mathlib.Nat.{zero-add, zero-mul, suc-mul, mul-le-mul-right}
+use native.Mathlib.Numerals.{add-one}
+use native.Mathlib.Omega.{arith}
+use lib.ListN.{length, take, drop, length-append}
+use lib.Seq.{paste, take-at, take-all, length-take-le}
+use borrow.Rule.Slice.PartMut.{putMid, mid-len}
+use Rattle.frontier.specs.Waiting.{anyOf}
+use Rattle.graph.specs.Refusal.{over}
+use Rattle.graph.specs.Edge.{range}
+use Rattle.run.specs.Run.{State}
+use Rattle.network.specs.Network.{flat, unsettled}
+use Rattle.calls.specs.Code.{IsRow, AreRows}
+
+-- row r of k rows ends within them
+pub row-end : (n r k : ℕ) → r < k → r * n + n ≤ k * n
+row-end n r k h =
+    let a = mul-le-mul-right {m = suc r} {n = k} n h in
+    let b = suc-mul r n in
+    omega arith
+
+-- .. so that its part of a list has n words
+pub row-size : (n a : ℕ) (xs : List ℕ) → a + n ≤ length xs → length (take (a + n - a) (drop a xs)) ≡ n
+row-size n a xs h =
+    let e : a + n - a ≡ n = omega arith in
+    mid-len a (a + n) xs h ∙ e
+
+-- ---- one row more
+
+range-snoc : (i k : ℕ) → range i (suc k) ≡ range i k ++ ((i + k) ∷ [])
+unfolding range
+range-snoc i zero =
+    let e : i ≡ i + 0 = omega arith in
+    ap (λ x. x ∷ []) e
+range-snoc i (suc k) =
+    let e : suc i + k ≡ i + suc k = omega arith in
+    ap (λ l. i ∷ l) (range-snoc (suc i) k ∙ ap (λ x. range (suc i) k ++ (x ∷ [])) e)
+
+range-suc : (r : ℕ) → range 0 (r + 1) ≡ range 0 r ++ (r ∷ [])
+range-suc r =
+    let e : 0 + r ≡ r = omega arith in
+    rw (add-one, range-snoc 0 r, e)
+
+-- f r is the state in which the run of row r ends
+module _ (f : ℕ → State) where
+  flat-snoc : (rs : List ℕ) (r : ℕ) → flat (map f (rs ++ (r ∷ []))) ≡ flat (map f rs) ++ (f r) .words
+  unfolding flat
+  flat-snoc [] r = append-nil ((f r) .words)
+  flat-snoc (x ∷ rs) r = ap (λ l. (f x) .words ++ l) (flat-snoc rs r) ∙ sym (append-assoc ((f x) .words) (flat (map f rs)) ((f r) .words))
+
+  restless-snoc : (rs : List ℕ) (r : ℕ) → unsettled (map f (rs ++ (r ∷ []))) ≡ (unsettled (map f rs) || anyOf ((f r) .waiting))
+  unfolding unsettled
+  restless-snoc [] r = pick (anyOf ((f r) .waiting))
+    where
+      pick : (b : Bool) → (b || false) ≡ b
+      pick true = refl
+      pick false = refl
+  restless-snoc (x ∷ rs) r = pick (anyOf ((f x) .waiting)) _ (unsettled (map f rs)) (anyOf ((f r) .waiting)) (restless-snoc rs r)
+    where
+      pick : (b c d e : Bool) → c ≡ (d || e) → (b || c) ≡ ((b || d) || e)
+      pick true c d e p = refl
+      pick false c d e p = p
+
+  -- ---- the loop that writes them: nothing at first, a row more at each turn, all in the end
+
+  pub rows-none : (n : ℕ) (xs : List ℕ) → AreRows (map f (range 0 0)) (take (0 * n) xs) false
+  unfolding flat unsettled range
+  rows-none n xs = record { words = rw zero-mul; waits = refl }
+
+  -- ys is put in the place of the k words from the row's start on
+  pub rows-turn : (n r k : ℕ) (xs ys : List ℕ) (b d : Bool) → r * n ≤ length xs → length ys ≡ n → AreRows (map f (range 0 r)) (take (r * n) xs) b → IsRow (f r) ys d
+      → AreRows (map f (range 0 (r + 1))) (take ((r + 1) * n) (putMid (r * n) k xs ys)) (b || d)
+  rows-turn n r k xs ys b d h l e q = record {
+    words =
+        ap (take ((r + 1) * n)) (sym (append-assoc (take (r * n) xs) ys (drop k (drop (r * n) xs))))
+        ∙ take-at (take (r * n) xs ++ ys) (drop k (drop (r * n) xs)) ((r + 1) * n) size
+        ∙ rw (e .words, q .words, range-suc r) (sym (flat-snoc (range 0 r) r));
+    waits = rw (e .waits, q .waits, range-suc r) (sym (restless-snoc (range 0 r) r));
+  }
+    where
+      size : length (take (r * n) xs ++ ys) ≡ (r + 1) * n
+      size =
+          let a = length-append (take (r * n) xs) ys in
+          let p = length-take-le (r * n) xs h in
+          let c = suc-mul r n in
+          rw add-one (omega arith)
+
+  pub rows-done : (n r k : ℕ) (xs : List ℕ) (b : Bool) → r ≡ k → length xs ≡ k * n → AreRows (map f (range 0 r)) (take (r * n) xs) b → AreRows (map f (range 0 k)) xs b
+  rows-done n r k xs b e l h = record {
+    words = sym (take-all (k * n) xs (omega arith)) ∙ (rw e at (h .words));
+    waits = rw e at (h .waits);
+  }
+
+-- ---- a whole list copied to the front of another
+
+pub paste-over : (d s : List ℕ) (k : ℕ) → length s ≡ k → paste d 0 s k ≡ over s d
+paste-over d s k e = rw (zero-add, take-all k s (omega arith), e)

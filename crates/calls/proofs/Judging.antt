@@ -1,0 +1,191 @@
+-- Refusals 1 to 4 of a network as the code judges them, and what an accepted network tells. Assumes nothing.
+use mathlib.Core.Path.{_≡_, refl, sym, ap, _∙_}
+use mathlib.Core.Logic.{⊎-elim}
+use mathlib.Core.Bool.{Bool, true, false, not, _&&_, _||_}
+use mathlib.Core.List.{List, [], _∷_, List·Memᴰ, List·Memᴰ·head, List·Memᴰ·tail}
+use Prim.Native.Nat.{ℕ, zero, suc, _+_, _*_, _/_, _<_, _≤_}
+use native.Mathlib.Nat.{mul-assoc, mul-zero, div-lt-iff-lt-mul}
+use native.Mathlib.Decide.{decLt}
+use native.Mathlib.Numerals.{add-one}
+use native.Mathlib.Omega.{arith}
+use lib.ListN.{length, getD, drop, drop-of-length-le}
+use lib.Seq.{drop-cons}
+use lib.Dec.{eqb, ltb}
+use borrow.Author.Tests.{eq-eqb, ne-eqb, lt-ltb, le-ltb, ltb-false, eqb-false, not-false}
+use Rattle.graph.specs.declared.Judged.{Judged}
+use Rattle.graph.specs.declared.Judged.the-variants.{Fine, Refused}
+use Rattle.graph.specs.Refusal.{Verdict, accept, refuse, _▷_, refuseIf}
+use Rattle.graph.specs.Limits.{maxVertices, maxEdges, maxLandmarks}
+use Rattle.graph.specs.Edge.{edge, edges}
+use Rattle.graph.specs.Table.{Columns, edgesOf, rules, size, shortTable, table}
+use Rattle.graph.specs.Code.{told, Room, columns, edgeAt}
+use Rattle.graph.proofs.Tests.{neither}
+use Rattle.graph.proofs.Verdicts.{then-accept, if-accept}
+use Rattle.graph.proofs.Order.{rules-accept, within}
+use Rattle.graph.proofs.Records.{room-less, edges-length, edges-at}
+use Rattle.network.specs.Network.{isIn, areLandmarks, landmarks, shortRows, rowCount}
+use Rattle.network.specs.Settled.{settledVerdict}
+use Rattle.calls.specs.Code.{rowLists, network}
+
+-- ---- landmarks, one by one
+
+module _ (v : ℕ) (vs : List ℕ) (i : ℕ) {b : Bool} (h : isIn v (drop i vs) ≡ b) where
+  pub in-found : i < length vs → v ≡ getD vs i 0 → true ≡ b
+  unfolding isIn
+  in-found l e = rw (drop-cons vs i 0 l, eq-eqb v (getD vs i 0) e) at h
+
+  pub in-more : i < length vs → (v ≡ getD vs i 0 → ⊥) → isIn v (drop (i + 1) vs) ≡ b
+  unfolding isIn
+  in-more l e = rw add-one (rw (drop-cons vs i 0 l, ne-eqb v (getD vs i 0) e) at h)
+
+  pub in-none : length vs ≤ i → false ≡ b
+  unfolding isIn
+  in-none l = rw (drop-of-length-le vs {i = i} l) at h
+
+module _ (n : ℕ) (vs : List ℕ) (i : ℕ) {b : Bool} (h : areLandmarks n (drop i vs) ≡ b) where
+  pub landmark-high : i < length vs → n ≤ getD vs i 0 → false ≡ b
+  unfolding areLandmarks
+  landmark-high l e = rw (drop-cons vs i 0 l, le-ltb (getD vs i 0) n e) at h
+
+  pub landmark-twice : i < length vs → getD vs i 0 < n → isIn (getD vs i 0) (drop (i + 1) vs) ≡ true → false ≡ b
+  unfolding areLandmarks
+  landmark-twice l e t = rw (drop-cons vs i 0 l, lt-ltb (getD vs i 0) n e, rw add-one at t) at h
+
+  pub landmark-more : i < length vs → getD vs i 0 < n → isIn (getD vs i 0) (drop (i + 1) vs) ≡ false → areLandmarks n (drop (i + 1) vs) ≡ b
+  unfolding areLandmarks
+  landmark-more l e t = rw add-one (rw (drop-cons vs i 0 l, lt-ltb (getD vs i 0) n e, rw add-one at t) at h)
+
+  pub landmark-none : length vs ≤ i → true ≡ b
+  unfolding areLandmarks
+  landmark-none l = rw (drop-of-length-le vs {i = i} l) at h
+
+-- ---- row lists: the quotient is compared for the product
+
+ltb-iff : (a b c d : ℕ) → (a < b → c < d) → (c < d → a < b) → ltb a b ≡ ltb c d
+ltb-iff a b c d to from = pick (decLt a b)
+  where
+    pick : Dec (a < b) → ltb a b ≡ ltb c d
+    pick (yes l) = lt-ltb a b l ∙ sym (lt-ltb c d (to l))
+    pick (no l) = le-ltb a b (omega arith) ∙ sym (le-ltb c d (high (decLt c d)))
+      where
+        high : Dec (c < d) → d ≤ c
+        high (yes k) = absurd (l (from k))
+        high (no k) = omega arith
+
+pub short-none : (w k n : ℕ) → n ≡ 0 → false ≡ ltb w (k * 5 * n)
+short-none w k n e = rw (e, mul-zero) (sym (le-ltb w 0 (omega arith)))
+
+pub short-some : (w k n : ℕ) → 0 < n → ltb (w / (5 * n)) k ≡ ltb w (k * 5 * n)
+short-some w k n l =
+    let p : 0 < 5 * n = omega arith in
+    let q = div-lt-iff-lt-mul {k = 5 * n} {x = w} {y = k} p in
+    rw mul-assoc (ltb-iff (w / (5 * n)) k w (k * (5 * n)) (q .0) (q .1))
+
+-- ---- chains of refusals: an earlier one is given, a later one only where the earlier is fine
+
+pub then-refused : (a : Judged) (k i : ℕ) (v w : Verdict) → told a ≡ v → a ≡ Refused k i → told a ≡ (v ▷ w)
+unfolding told _▷_
+then-refused a k i v w e q = rw (← e, q)
+
+pub then-judged : (a b : Judged) (v w : Verdict) → told a ≡ v → a ≡ Fine → told b ≡ w → told b ≡ (v ▷ w)
+unfolding told _▷_
+then-judged a b v w e q f = rw (← e, q) f
+
+-- the same for a test in the code
+pub if-refused : (t : Bool) (k i : ℕ) (w : Verdict) → t ≡ true → told (Refused k i) ≡ (refuseIf t k i ▷ w)
+unfolding told refuseIf _▷_
+if-refused t k i w e = rw e
+
+pub if-judged : (t : Bool) (k i : ℕ) (b : Judged) (w : Verdict) → t ≡ false → told b ≡ w → told b ≡ (refuseIf t k i ▷ w)
+unfolding refuseIf _▷_
+if-judged t k i b w e f = rw e f
+
+pub then-assoc : (u v w : Verdict) → ((u ▷ v) ▷ w) ≡ (u ▷ (v ▷ w))
+unfolding _▷_
+then-assoc accept v w = refl
+then-assoc (refuse k i) v w = refl
+
+pub fine-accept : (a : Judged) (v : Verdict) → told a ≡ v → a ≡ Fine → v ≡ accept
+unfolding told
+fine-accept a v e q = sym e ∙ ap told q
+
+-- ---- what each verdict tells where it accepts
+
+pub size-accept : (n : ℕ) → size n ≡ accept → (0 < n) × (n ≤ maxVertices)
+size-accept n e =
+    let z = neither (eqb n 0) (ltb maxVertices n) (if-accept _ _ _ e) in
+    let l : n ≤ maxVertices = ltb-false maxVertices n (z .1) in
+    (some n (eqb-false n 0 (z .0)), l)
+  where
+    some : (k : ℕ) → (k ≡ 0 → ⊥) → 0 < k
+    some zero h = absurd (h refl)
+    some (suc k) h = omega arith
+
+pub lengths-accept : (ts hs ws : List ℕ) → shortTable (columns ts hs ws) ≡ accept → Room maxEdges ts hs ws
+lengths-accept ts hs ws e =
+    let y = neither (ltb (length ts) maxEdges) _ (if-accept _ _ _ e) in
+    let z = neither (ltb (length hs) maxEdges) (ltb (length ws) maxEdges) (y .1) in
+    record { tails = ltb-false _ _ (y .0); heads = ltb-false _ _ (z .0); weights = ltb-false _ _ (z .1) }
+
+pub rows-accept : (n : ℕ) (ls f b : List ℕ) → shortRows n ls (rowLists f b) ≡ accept → (rowCount ls * n ≤ length f) × (rowCount ls * n ≤ length b)
+rows-accept n ls f b e =
+    let z = neither (ltb (length f) (rowCount ls * n)) (ltb (length b) (rowCount ls * n)) (if-accept _ _ _ e) in
+    (ltb-false _ _ (z .0), ltb-false _ _ (z .1))
+
+pub landmarks-accept : (n : ℕ) (ls : List ℕ) → landmarks n ls ≡ accept → (length ls ≤ maxLandmarks) × (areLandmarks n ls ≡ true)
+landmarks-accept n ls e =
+    let y = neither (eqb (length ls) 0) _ (if-accept _ _ _ e) in
+    let z = neither (ltb maxLandmarks (length ls)) (not (areLandmarks n ls)) (y .1) in
+    (ltb-false maxLandmarks _ (z .0), not-false _ (z .1))
+
+pub table-accept : (n : ℕ) (cs : Columns) (m : ℕ) → table n cs m ≡ accept → (m ≤ maxEdges) × (rules n (edgesOf cs m) ≡ accept)
+table-accept n cs m e =
+    let z = then-accept (refuseIf (ltb maxEdges m) 4 0) (rules n (edgesOf cs m)) e in
+    (ltb-false maxEdges m (if-accept _ _ _ (z .0)), z .1)
+
+getD-mem : {A : Type 0} (l : List A) (k : ℕ) (d : A) → k < length l → List·Memᴰ (getD l k d) l
+getD-mem [] k d h = absurd (omega arith)
+getD-mem (x ∷ l) zero d h = List·Memᴰ·head refl
+getD-mem (x ∷ l) (suc k) d h = List·Memᴰ·tail (getD-mem l k d (omega arith))
+
+-- both ends of a record are vertices
+pub ends-within : (n m : ℕ) (ts hs ws : List ℕ) → Room m ts hs ws → rules n (edges ts hs ws m) ≡ accept → (k : ℕ) → k < m → (getD ts k 0 < n) × (getD hs k 0 < n)
+ends-within n m ts hs ws r e k l =
+    let w = within n (edges ts hs ws m) (rules-accept n (edges ts hs ws m) e) in
+    let q = edges-length ts hs ws m r in
+    let i : k < length (edges ts hs ws m) = omega arith in
+    let x : List·Memᴰ (edgeAt ts hs ws k) (edges ts hs ws m) = rw (← edges-at ts hs ws m r k l) (getD-mem (edges ts hs ws m) k (edge 0 0 0) i) in
+    (w .tails (edgeAt ts hs ws k) x, w .heads (edgeAt ts hs ws k) x)
+
+-- ---- what an accepted network tells
+
+pub record Accepted (n : ℕ) (ls ts hs ws : List ℕ) (m : ℕ) (f b : List ℕ) : Type 0 where
+  pub some : 0 < n
+  pub few : n ≤ maxVertices
+  pub landmarks : length ls ≤ maxLandmarks
+  pub count : m ≤ maxEdges
+  pub room : Room maxEdges ts hs ws
+  pub forward : rowCount ls * n ≤ length f
+  pub backward : rowCount ls * n ≤ length b
+  pub ends : (k : ℕ) → k < m → (getD ts k 0 < n) × (getD hs k 0 < n)
+
+pub network-accept : (n : ℕ) (ls ts hs ws : List ℕ) (m : ℕ) (f b : List ℕ) → settledVerdict n ls (network ts hs ws f b m) ≡ accept → Accepted n ls ts hs ws m f b
+network-accept n ls ts hs ws m f b e =
+    let a = then-accept (size n) _ e in
+    let s = then-accept (shortTable (columns ts hs ws)) _ (a .1) in
+    let r = then-accept (shortRows n ls (rowLists f b)) _ (s .1) in
+    let l = then-accept (landmarks n ls) (table n (columns ts hs ws) m) (r .1) in
+    let t = table-accept n (columns ts hs ws) m (l .1) in
+    let q = size-accept n (a .0) in
+    let x = rows-accept n ls f b (r .0) in
+    let y = lengths-accept ts hs ws (s .0) in
+    record {
+      some = q .0;
+      few = q .1;
+      landmarks = landmarks-accept n ls (l .0) .0;
+      count = t .0;
+      room = y;
+      forward = x .0;
+      backward = x .1;
+      ends = ends-within n m ts hs ws (room-less (t .0) y) (t .1);
+    }

@@ -1,0 +1,75 @@
+-- `network::judge::are_landmarks` meets its contract: what is left of the list decides. Assumes nothing.
+use borrow.Author.Needs.{needs}
+use native.Mathlib.Omega.{arith}
+use Prim.Native.Nat.{_-_}
+use mathlib.Core.Path.{_≡_, refl, sym, _∙_}
+use lib.ListN.{length, drop}
+use Rattle.network.specs.Network.{areLandmarks}
+use Rattle.calls.proofs.Judging.{landmark-high, landmark-twice, landmark-more, landmark-none}
+use Rattle.calls.proofs.are_landmarks.Statement.{statement}
+use Rattle.calls.proofs.are_landmarks.Tie as tie
+
+abbrev Inv-loop : tie.InvT-loop
+Inv-loop n vertices i₀ i = areLandmarks n (drop i vertices) ≡ areLandmarks n vertices
+
+abbrev μ-loop : tie.MeasureT-loop
+μ-loop n vertices i₀ i = length vertices - i
+
+loop-holds : tie.Need-loop-holds Inv-loop μ-loop
+loop-holds c = refl
+
+mul-v : tie.Need-mul-v Inv-loop μ-loop
+mul-v c = search needs
+
+shared-slice-read-v : tie.Need-shared-slice-read-v Inv-loop μ-loop
+shared-slice-read-v c = search needs
+
+returns : tie.Need-returns Inv-loop μ-loop
+returns c =
+    let t = c .before .before in
+    landmark-high _ _ (t .before .loop .i) (t .before .loop .inv) (t .loop-test .taken) (c .if1 .taken)
+
+add-is-in : tie.Need-add-is-in Inv-loop μ-loop
+add-is-in c = search needs
+
+is-in-requires : tie.Need-is-in-requires Inv-loop μ-loop
+is-in-requires c κs = search needs
+
+returns-2 : tie.Need-returns-2 Inv-loop μ-loop
+returns-2 c =
+    let e = c .before .before in
+    let t = e .before .before in
+    landmark-twice _ _ (t .before .loop .i) (t .before .loop .inv) (t .loop-test .taken) (e .if1 .left) (sym (c .before .is-in .ensures) ∙ c .if2 .taken)
+
+add-i : tie.Need-add-i Inv-loop μ-loop
+add-i c = search needs
+
+loop-less : tie.Need-loop-less Inv-loop μ-loop
+loop-less c = search needs
+
+loop-again : tie.Need-loop-again Inv-loop μ-loop
+loop-again c =
+    let e = c .before .before in
+    let t = e .before .before in
+    landmark-more _ _ (t .before .loop .i) (t .before .loop .inv) (t .loop-test .taken) (e .if1 .left) (sym (c .before .is-in .ensures) ∙ c .if2 .left)
+
+returns-3 : tie.Need-returns-3 Inv-loop μ-loop
+returns-3 c = landmark-none _ _ (c .before .loop .i) (c .before .loop .inv) (c .loop-test .left)
+
+pub are-landmarks-spec : {M : Type 1} → statement M
+are-landmarks-spec =
+    tie.close
+    (tie.spec
+    Inv-loop
+    μ-loop
+    loop-holds
+    mul-v
+    shared-slice-read-v
+    returns
+    add-is-in
+    is-in-requires
+    returns-2
+    add-i
+    loop-less
+    loop-again
+    returns-3)

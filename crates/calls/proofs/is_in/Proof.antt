@@ -1,0 +1,61 @@
+-- `network::judge::is_in` meets its contract: what is left of the list decides. Assumes nothing.
+use borrow.Author.Needs.{needs}
+use native.Mathlib.Omega.{arith}
+use Prim.Native.Nat.{_-_}
+use mathlib.Core.Path.{_≡_, refl}
+use lib.ListN.{length, drop}
+use Rattle.network.specs.Network.{isIn}
+use Rattle.calls.proofs.Judging.{in-found, in-more, in-none}
+use Rattle.calls.proofs.is_in.Statement.{statement}
+use Rattle.calls.proofs.is_in.Tie as tie
+use Rattle.calls.proofs.is_in.Reads as reads
+use Rattle.calls.proofs.is_in.Lts as lts
+
+abbrev Inv-loop : tie.InvT-loop
+Inv-loop v vertices from i₀ i = isIn v (drop i vertices) ≡ isIn v (drop from vertices)
+
+abbrev μ-loop : tie.MeasureT-loop
+μ-loop v vertices from i₀ i = length vertices - i
+
+loop-holds : tie.Need-loop-holds Inv-loop μ-loop
+loop-holds c = refl
+
+mul-if1 : tie.Need-mul-if1 Inv-loop μ-loop
+mul-if1 c = search needs
+
+shared-slice-read-if1 : tie.Need-shared-slice-read-if1 Inv-loop μ-loop
+shared-slice-read-if1 c = search needs
+
+returns : tie.Need-returns Inv-loop μ-loop
+returns c =
+    let l = c .before .before .before in
+    in-found _ _ (l .loop .i) (l .loop .inv) (c .before .before .loop-test .taken) (c .if1 .taken)
+
+add-i : tie.Need-add-i Inv-loop μ-loop
+add-i c = search needs
+
+loop-less : tie.Need-loop-less Inv-loop μ-loop
+loop-less c = search needs
+
+loop-again : tie.Need-loop-again Inv-loop μ-loop
+loop-again c =
+    let l = c .before .before .before in
+    in-more _ _ (l .loop .i) (l .loop .inv) (c .before .before .loop-test .taken) (c .if1 .left)
+
+returns-2 : tie.Need-returns-2 Inv-loop μ-loop
+returns-2 c = in-none _ _ (c .before .loop .i) (c .before .loop .inv) (c .loop-test .left)
+
+pub is-in-spec : {M : Type 1} → statement M
+is-in-spec =
+    tie.close
+    (tie.spec
+    Inv-loop
+    μ-loop
+    loop-holds
+    mul-if1
+    shared-slice-read-if1
+    returns
+    add-i
+    loop-less
+    loop-again
+    returns-2)

@@ -1,0 +1,62 @@
+-- `network::judge::judge_all` meets its contract. Assumes nothing.
+use borrow.Author.Needs.{needs}
+use mathlib.Core.Path.{_∙_}
+use Rattle.graph.proofs.Verdicts.{then-accept}
+use Rattle.calls.proofs.Judging.{then-refused, then-judged, then-assoc, fine-accept, lengths-accept}
+use Rattle.calls.proofs.judge_all.Statement.{statement}
+use Rattle.calls.proofs.judge_all.Tie as tie
+
+judge-size-requires : tie.Need-judge-size-requires
+judge-size-requires c κs = search needs
+
+enum-told : tie.Need-enum-told
+enum-told c = search needs
+
+enum-told-2 : tie.Need-enum-told-2
+enum-told-2 c = search needs
+
+returns : tie.Need-returns
+returns c = then-refused _ _ _ _ _ (c .before .before .judge-size .ensures) (c .enum-told2 .given .1)
+
+judge-lists-requires : tie.Need-judge-lists-requires
+judge-lists-requires c κs = search needs
+
+enum-told-3 : tie.Need-enum-told-3
+enum-told-3 c = search needs
+
+enum-told-4 : tie.Need-enum-told-4
+enum-told-4 c = search needs
+
+returns-2 : tie.Need-returns-2
+returns-2 c =
+    let l = c .before .before in
+    let s = l .before in
+    then-judged _ _ _ _ (s .before .before .judge-size .ensures) (s .enum-told .given .1)
+    (then-refused _ _ _ _ _ (l .judge-lists .ensures) (c .enum-told4 .given .1) ∙ then-assoc _ _ _)
+
+judge-network-requires : tie.Need-judge-network-requires
+judge-network-requires c κs =
+    let l = c .before .before in
+    lengths-accept _ _ _ (then-accept _ _ (fine-accept _ _ (l .judge-lists .ensures) (c .enum-told3 .given .1)) .0)
+
+returns-3 : tie.Need-returns-3
+returns-3 c =
+    let l = c .before .before .before in
+    let s = l .before in
+    then-judged _ _ _ _ (s .before .before .judge-size .ensures) (s .enum-told .given .1)
+    (then-judged _ _ _ _ (l .judge-lists .ensures) (c .before .enum-told3 .given .1) (c .judge-network .ensures) ∙ then-assoc _ _ _)
+
+pub judge-all-spec : {M : Type 1} → statement M
+judge-all-spec =
+    tie.close
+    (tie.spec
+    judge-size-requires
+    enum-told
+    enum-told-2
+    returns
+    judge-lists-requires
+    enum-told-3
+    enum-told-4
+    returns-2
+    judge-network-requires
+    returns-3)

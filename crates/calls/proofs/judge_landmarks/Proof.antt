@@ -1,0 +1,42 @@
+-- `network::judge::judge_landmarks` meets its contract. Assumes nothing.
+use borrow.Author.Needs.{needs}
+use borrow.Author.Tests.{eq-eqb, ne-eqb}
+use mathlib.Core.Path.{_≡_, sym, ap, _∙_}
+use mathlib.Core.Logic.{⊎-elim}
+use mathlib.Core.Bool.{Bool, not, _||_}
+use lib.Dec.{eqb, ltb}
+use lib.ListN.{length}
+use Rattle.graph.specs.Limits.{maxLandmarks}
+use Rattle.graph.specs.Refusal.{refuseIf}
+use Rattle.graph.proofs.Flags.{or-taken, or-left, or-nest}
+use Rattle.network.specs.Network.{areLandmarks}
+use Rattle.calls.proofs.judge_landmarks.Statement.{statement}
+use Rattle.calls.proofs.judge_landmarks.Tie as tie
+
+-- the flag after two tests, and after three
+two : (c : tie.Joined1) →
+    let a = c .before .before .args in
+    c .if1 .if2 ≡ (eqb (length (a .landmarks .now)) 0 || ltb maxLandmarks (length (a .landmarks .now)))
+two c = ⊎-elim (λ w. w .1 ∙ or-taken _ _ (eq-eqb _ _ (w .0 .taken))) (λ w. w .1 ∙ or-left _ _ (ne-eqb _ _ (w .0 .left))) (c .if1 .came)
+
+three : (c : tie.Joined2) →
+    let a = c .before .before .before .args in
+    c .if2 .refuse-if ≡ ((eqb (length (a .landmarks .now)) 0 || ltb maxLandmarks (length (a .landmarks .now))) || not (areLandmarks (a .n) (a .landmarks .now)))
+three c =
+    let e = two (c .before) in
+    ⊎-elim (λ w. w .1 ∙ (e ∙ or-taken _ _ (sym e ∙ w .0 .taken))) (λ w. w .2 ∙ (ap not (w .1 .ensures) ∙ or-left _ _ (sym e ∙ w .0 .left))) (c .if2 .came)
+
+are-landmarks-requires : tie.Need-are-landmarks-requires
+are-landmarks-requires c κs = search needs
+
+refuse-if-requires : tie.Need-refuse-if-requires
+refuse-if-requires c κs = search needs
+
+returns : tie.Need-returns
+returns c =
+    let a = c .before .before .before .before .args in
+    let e = three (c .before) ∙ or-nest (eqb (length (a .landmarks .now)) 0) (ltb maxLandmarks (length (a .landmarks .now))) (not (areLandmarks (a .n) (a .landmarks .now))) in
+    c .refuse-if .ensures ∙ ap (λ (b : Bool). refuseIf b 3 0) e
+
+pub judge-landmarks-spec : {M : Type 1} → statement M
+judge-landmarks-spec = tie.close (tie.spec are-landmarks-requires refuse-if-requires returns)

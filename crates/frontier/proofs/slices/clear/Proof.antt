@@ -1,0 +1,58 @@
+-- `frontier::slices::clear` meets its contract. The loop's invariant: the words below `k` are 0, and the others as they were. Assumes nothing.
+use mathlib.Core.Path.{_≡_, ap, _∙_}
+use mathlib.Core.List.{List, _++_}
+use Prim.Native.Nat.{ℕ, _-_, _≤_}
+use native.Mathlib.Omega.{arith}
+use borrow.Author.Needs.{needs}
+use borrow.Author.Fill.{fill-none, fill-more}
+use lib.ListN.{length, set, drop, replicate, length-set}
+use Rattle.frontier.proofs.Laws.{waiting-cleared}
+use Rattle.frontier.proofs.slices.clear.Statement.{statement}
+use Rattle.frontier.proofs.slices.clear.Tie as tie
+
+abbrev Inv-loop : tie.InvT-loop
+Inv-loop ws₀ k₀ ws k = (ws ≡ replicate k 0 ++ drop k ws₀) × (k ≤ length ws₀) × (length ws ≡ length ws₀)
+
+abbrev μ-loop : tie.MeasureT-loop
+μ-loop ws₀ k₀ ws k = length ws₀ - k
+
+loop-holds : tie.Need-loop-holds Inv-loop μ-loop
+loop-holds c = (fill-none _ 0, omega arith, omega arith)
+
+mul-ws : tie.Need-mul-ws Inv-loop μ-loop
+mul-ws c = search needs
+
+slice-write-ws : tie.Need-slice-write-ws Inv-loop μ-loop
+slice-write-ws c = search needs
+
+add-k : tie.Need-add-k Inv-loop μ-loop
+add-k c = search needs
+
+loop-less : tie.Need-loop-less Inv-loop μ-loop
+loop-less c = search needs
+
+loop-again : tie.Need-loop-again Inv-loop μ-loop
+loop-again c =
+    let at = c .before .loop in
+    (ap (λ (l : List ℕ). set l (at .k) 0) (at .inv .0) ∙ fill-more (at .k) 0 (c .before .before .args .ws .now) (omega arith), omega arith, simp length-set (at .inv .2))
+
+same-length : tie.Need-same-length Inv-loop μ-loop
+same-length c = search needs
+
+returns : tie.Need-returns Inv-loop μ-loop
+returns c = waiting-cleared (c .before .loop .ws) (c .before .before .args .ws .now) (c .before .loop .k) (c .before .loop .inv .0) (omega arith)
+
+pub clear-spec : {M : Type 1} → statement M
+clear-spec =
+    tie.close
+    (tie.spec
+    Inv-loop
+    μ-loop
+    loop-holds
+    mul-ws
+    slice-write-ws
+    add-k
+    loop-less
+    loop-again
+    same-length
+    returns)

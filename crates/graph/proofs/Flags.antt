@@ -1,0 +1,26 @@
+-- The flags of `&&` and `||` in code: what is known of one where the arms meet. Assumes nothing.
+use mathlib.Core.Path.{_≡_, refl}
+use mathlib.Core.Bool.{Bool, true, false, _&&_, _||_}
+
+module _ (a b : Bool) where
+  pub and-taken : a ≡ true → b ≡ (a && b)
+  and-taken e = rw e
+
+  pub and-left : a ≡ false → a ≡ (a && b)
+  and-left e = rw e
+
+  pub or-taken : a ≡ true → a ≡ (a || b)
+  or-taken e = rw e
+
+  pub or-left : a ≡ false → b ≡ (a || b)
+  or-left e = rw e
+
+-- code nests chains to the left, definitions to the right
+pub and-nest : (a b c d : Bool) → (((a && b) && c) && d) ≡ (a && (b && (c && d)))
+and-nest true true c d = refl
+and-nest true false c d = refl
+and-nest false b c d = refl
+
+pub or-nest : (a b c : Bool) → ((a || b) || c) ≡ (a || (b || c))
+or-nest true b c = refl
+or-nest false b c = refl

@@ -1,0 +1,74 @@
+-- The rules of a table, judged record by record. Assumes nothing.
+use mathlib.Core.Path.{_≡_}
+use mathlib.Core.Bool.{true, false}
+use mathlib.Core.List.{List}
+use Prim.Native.Nat.{ℕ, _+_, _-_, _<_, _≤_}
+use native.Mathlib.Numerals.{add-one}
+use native.Mathlib.Omega.{arith}
+use lib.ListN.{length, drop}
+use lib.Dec.{eqb, ltb}
+use borrow.Author.Tests.{ltb-false, eqb-false, lt-ltb, le-ltb}
+use Rattle.graph.specs.declared.Judged.the-variants.{Fine, Refused}
+use Rattle.graph.specs.Limits.{maxVertices, maxEdges}
+use Rattle.graph.specs.Refusal.{Verdict, accept, _▷_, refuseIf}
+use Rattle.graph.specs.Edge.{edges}
+use Rattle.graph.specs.Table.{isEdge, follow, rules, size, shortTable, table}
+use Rattle.graph.specs.Code.{told, Room, columns, edgeAt, keeps}
+use Rattle.graph.proofs.Tests.{neither}
+use Rattle.graph.proofs.Verdicts.{then-accept, if-accept}
+use Rattle.graph.proofs.Records.{edges-more, edges-none}
+
+module _ (ts hs ws : List ℕ) (m : ℕ) (r : Room m ts hs ws) (n : ℕ) where
+  pub rules-none : m ≡ 0 → told Fine ≡ rules n (edges ts hs ws m)
+  unfolding told rules
+  rules-none e = rw (edges-none ts hs ws m r 0 (omega arith))
+
+  pub rules-broken : 0 < m → isEdge n (edgeAt ts hs ws 0) ≡ false → told (Refused 4 0) ≡ rules n (edges ts hs ws m)
+  unfolding told rules refuseIf _▷_
+  rules-broken l e = rw (edges-more ts hs ws m r 0 l, e)
+
+  pub rules-first : 0 < m → isEdge n (edgeAt ts hs ws 0) ≡ true → follow n 1 (edgeAt ts hs ws (1 - 1)) (drop 1 (edges ts hs ws m)) ≡ rules n (edges ts hs ws m)
+  unfolding rules refuseIf _▷_
+  rules-first l e = rw (edges-more ts hs ws m r 0 l, e)
+
+  module _ (k : ℕ) {v : Verdict} (h : follow n k (edgeAt ts hs ws (k - 1)) (drop k (edges ts hs ws m)) ≡ v) where
+    pub follow-more : k < m → keeps n ts hs ws k ≡ true → follow n (k + 1) (edgeAt ts hs ws (k + 1 - 1)) (drop (k + 1) (edges ts hs ws m)) ≡ v
+    unfolding follow refuseIf _▷_
+    follow-more l e = let x : k + 1 - 1 ≡ k = omega arith in rw (x, add-one) (rw (edges-more ts hs ws m r k l, e, add-one) at h)
+
+    pub follow-broken : k < m → keeps n ts hs ws k ≡ false → told (Refused 4 k) ≡ v
+    unfolding told follow refuseIf _▷_
+    follow-broken l e = rw (edges-more ts hs ws m r k l, e) at h
+
+    pub follow-none : m ≤ k → told Fine ≡ v
+    unfolding told follow
+    follow-none l = rw (edges-none ts hs ws m r k l) at h
+
+-- a count in range, judged by its records
+pub table-judged : (n m : ℕ) (ts hs ws : List ℕ) {v : Verdict} → m ≤ maxEdges → v ≡ rules n (edges ts hs ws m) → v ≡ table n (columns ts hs ws) m
+unfolding refuseIf _▷_
+table-judged n m ts hs ws l e = rw (le-ltb maxEdges m l) e
+
+pub table-crowded : (n m : ℕ) (ts hs ws : List ℕ) → maxEdges < m → told (Refused 4 0) ≡ table n (columns ts hs ws) m
+unfolding told refuseIf _▷_
+table-crowded n m ts hs ws l = rw (lt-ltb maxEdges m l)
+
+-- ---- what acceptance says of each
+
+pub size-few : (n : ℕ) → size n ≡ accept → (0 < n) × (n ≤ maxVertices)
+size-few n h =
+    let z = neither (eqb n 0) (ltb maxVertices n) (if-accept _ 1 0 h) in
+    let a = eqb-false n 0 (z .0) in
+    let b = ltb-false maxVertices n (z .1) in
+    (omega arith, b)
+
+pub short-room : (ts hs ws : List ℕ) → shortTable (columns ts hs ws) ≡ accept → Room maxEdges ts hs ws
+short-room ts hs ws h =
+    let z = neither (ltb (length ts) maxEdges) _ (if-accept _ 2 0 h) in
+    let y = neither (ltb (length hs) maxEdges) (ltb (length ws) maxEdges) (z .1) in
+    record { tails = ltb-false _ _ (z .0); heads = ltb-false _ _ (y .0); weights = ltb-false _ _ (y .1) }
+
+pub table-rules : (n m : ℕ) (ts hs ws : List ℕ) → table n (columns ts hs ws) m ≡ accept → (m ≤ maxEdges) × (rules n (edges ts hs ws m) ≡ accept)
+table-rules n m ts hs ws h =
+    let z = then-accept (refuseIf (ltb maxEdges m) 4 0) (rules n (edges ts hs ws m)) h in
+    (ltb-false maxEdges m (if-accept (ltb maxEdges m) 4 0 (z .0)), z .1)

@@ -1,0 +1,58 @@
+-- `graph::words::fill` meets its contract: the words below i are filled. Assumes nothing.
+use borrow.Author.Needs.{needs}
+use native.Mathlib.Omega.{arith}
+use Prim.Native.Nat.{_-_, _≤_}
+use mathlib.Core.Path.{_≡_, refl}
+use lib.ListN.{length, take, replicate, length-set}
+use Rattle.graph.proofs.Copies.{fill-turn, fill-done}
+use Rattle.graph.proofs.words.fill.Statement.{statement}
+use Rattle.graph.proofs.words.fill.Tie as tie
+
+abbrev Inv-loop : tie.InvT-loop
+Inv-loop dst₀ v i₀ dst i = (take i dst ≡ replicate i v) × (i ≤ length dst₀) × (length dst ≡ length dst₀)
+
+abbrev μ-loop : tie.MeasureT-loop
+μ-loop dst₀ v i₀ dst i = length dst₀ - i
+
+loop-holds : tie.Need-loop-holds Inv-loop μ-loop
+loop-holds c = (refl, omega arith, refl)
+
+mul-dst : tie.Need-mul-dst Inv-loop μ-loop
+mul-dst c = search needs
+
+slice-write-dst : tie.Need-slice-write-dst Inv-loop μ-loop
+slice-write-dst c = search needs
+
+add-i : tie.Need-add-i Inv-loop μ-loop
+add-i c = search needs
+
+loop-less : tie.Need-loop-less Inv-loop μ-loop
+loop-less c = search needs
+
+loop-again : tie.Need-loop-again Inv-loop μ-loop
+loop-again c =
+    let l = c .before in
+    (fill-turn (l .loop .dst) (l .loop .i) _ (omega arith) (l .loop .inv .0), omega arith, simp length-set (l .loop .inv .2))
+
+same-length : tie.Need-same-length Inv-loop μ-loop
+same-length c = search needs
+
+returns : tie.Need-returns Inv-loop μ-loop
+returns c =
+    let l = c .before in
+    fill-done (l .loop .dst) (l .loop .i) (length (l .before .args .dst .now)) _ (omega arith) (omega arith) (l .loop .inv .0)
+
+pub fill-spec : {M : Type 1} → statement M
+fill-spec =
+    tie.close
+    (tie.spec
+    Inv-loop
+    μ-loop
+    loop-holds
+    mul-dst
+    slice-write-dst
+    add-i
+    loop-less
+    loop-again
+    same-length
+    returns)

@@ -1,0 +1,123 @@
+-- The run of a row as its functions leave it, what an accepted network tells an opening, and the opening's outcome. Assumes nothing.
+use mathlib.Core.Path.{_≡_, sym, ap, ap₂, _∙_}
+use mathlib.Core.Bool.{Bool, true, false, not, _||_}
+use mathlib.Core.List.{List, [], _∷_, map}
+use Prim.Native.Nat.{ℕ, zero, suc, _+_, _*_, _/_, _%_, _≤_, _<_}
+use native.Mathlib.Nat.{mul-le-mul}
+use native.Mathlib.Numerals.{add-one}
+use native.Mathlib.Omega.{arith}
+use lib.ListN.{length, getD}
+use lib.Seq.{paste}
+use lib.Dec.{ltb}
+use borrow.Author.Tests.{ltb-true}
+use Rattle.property.specs.Property.{property}
+use Rattle.frontier.specs.Waiting.{waitingOf, anyOf}
+use Rattle.graph.specs.declared.Judged.{Judged}
+use Rattle.graph.specs.declared.Judged.the-variants as judged
+use Rattle.graph.specs.Refusal.{accept, refuse, _▷_, refuseIf, replied, choose}
+use Rattle.graph.specs.Edge.{Edge, reverse}
+use Rattle.graph.specs.Table.{size, shortTable, table}
+use Rattle.graph.specs.Code.{told, columns}
+use Rattle.graph.proofs.Tests.{both}
+use Rattle.graph.proofs.Records.{room-less}
+use Rattle.graph.proofs.Verdicts.{then-accept, accept-then, refuse-then}
+use Rattle.run.specs.declared.Tally.{Tally}
+use Rattle.run.specs.Run.{settle}
+use Rattle.run.specs.Start.{opened}
+use Rattle.run.specs.Code.{Held, noCounts, state}
+use Rattle.run.proofs.States.{bits-any}
+use Rattle.open.specs.declared.Opened.the-variants.{Accepted, Refused}
+use Rattle.network.specs.Network.{Network, edgesIn, rowCount, shortRows, isIn, areLandmarks, landmarks, unsettled}
+use Rattle.network.specs.Open.{openRow, openRows, openVerdict, openCall}
+use Rattle.network.specs.Settled.{settledVerdict}
+use Rattle.open.specs.Code.{opening, openOutcome}
+use Rattle.calls.specs.Code.{rowLists, network, Openable, IsRow, AreRows}
+use Rattle.calls.proofs.Flat.{paste-over}
+use Rattle.calls.proofs.Judging.{then-assoc, size-accept, lengths-accept, rows-accept, landmarks-accept, table-accept}
+
+-- ---- a row
+
+-- row r is opened, and then settled
+module _ (n r : ℕ) (ls : List ℕ) (es : List Edge) (ws bs ws′ bs′ : List ℕ) (t : Tally)
+    (start : state n ws bs noCounts ≡ opened (property (r % 5 + 1)) n (getD ls (r / 5) 0))
+    (run : state n ws′ bs′ t ≡ settle (property (r % 5 + 1)) es n n (state n ws bs noCounts)) where
+  row-run : state n ws′ bs′ t ≡ openRow n ls es r
+  row-run = run ∙ rw (start, add-one)
+
+  pub row-settled : (b : Bool) → Held n bs′ → b ≡ anyOf (waitingOf bs′) → IsRow (openRow n ls es r) ws′ b
+  row-settled b h e = record {
+    words = ap (λ st. st .words) row-run;
+    waits = e ∙ sym (bits-any n bs′ h) ∙ ap (λ st. anyOf (st .waiting)) row-run;
+  }
+
+-- ---- what numbers 1 to 4 leave: a network whose sides may be opened, and row lists that are long enough
+
+landmarks-below : (n : ℕ) (ls : List ℕ) (i : ℕ) → areLandmarks n ls ≡ true → i < length ls → getD ls i 0 < n
+unfolding areLandmarks
+landmarks-below n [] i h k = absurd (omega arith)
+landmarks-below n (l ∷ ls) zero h k = ltb-true _ _ ((both (ltb l n) _ h) .0)
+landmarks-below n (l ∷ ls) (suc i) h k =
+    let z = both (ltb l n) _ h in
+    landmarks-below n ls i ((both (not (isIn l ls)) (areLandmarks n ls) (z .1)) .1) (omega arith)
+
+pub open-accept : (n : ℕ) (ls ts hs ws f b : List ℕ) (m : ℕ) → settledVerdict n ls (network ts hs ws f b m) ≡ accept
+    → Openable n m ls ts hs ws × (rowCount ls * n ≤ length f) × (rowCount ls * n ≤ length b)
+open-accept n ls ts hs ws f b m e =
+    let a = then-accept (size n) _ e in
+    let s = then-accept (shortTable (columns ts hs ws)) _ (a .1) in
+    let r = then-accept (shortRows n ls (rowLists f b)) _ (s .1) in
+    let l = then-accept (landmarks n ls) (table n (columns ts hs ws) m) (r .1) in
+    let t = table-accept n (columns ts hs ws) m (l .1) in
+    let x = rows-accept n ls f b (r .0) in
+    let p = landmarks-accept n ls (l .0) in
+    let o : Openable n m ls ts hs ws = record {
+      few = size-accept n (a .0) .1;
+      records = t .0;
+      room = room-less (t .0) (lengths-accept ts hs ws (s .0));
+      rules = t .1;
+      landmarks = record { few = p .0; vertices = λ i k. landmarks-below n ls i (p .1) k };
+    } in
+    (o, x .0, x .1)
+
+-- .. so that scratch lists of 5,120 words have room for the rows
+pub rows-few : {n m : ℕ} {ls ts hs ws : List ℕ} → Openable n m ls ts hs ws → rowCount ls * n ≤ 5120
+rows-few {n} {m} {ls} o = mul-le-mul {n₁ = rowCount ls} {m₁ = n} {n₂ = 20} {m₂ = 256} (omega (arith, o .landmarks .few)) (o .few)
+
+-- ---- the outcome: numbers 1 to 4, then 13
+
+-- The verdict of an opening is that of numbers 1 to 4 and, where it accepts, 13 by whether some vertex waits in some row. So a refusal
+-- by 1 to 4 is the call's; and where they accept, the rows of both sides say which of the last two outcomes it is.
+module _ (n : ℕ) (ls ts hs ws f b : List ℕ) (m : ℕ) where
+  abbrev w : Network
+  w = network ts hs ws f b m
+
+  abbrev waits : Bool
+  waits = unsettled (openRows n ls (edgesIn w)) || unsettled (openRows n ls (map reverse (edgesIn w)))
+
+  verdict-then : (settledVerdict n ls w ▷ refuseIf waits 13 0) ≡ openVerdict n ls w
+  verdict-then = simp then-assoc
+
+  outcome-refused : {k i : ℕ} → openVerdict n ls w ≡ refuse k i → openOutcome (Refused k i) ts hs ws f b ≡ openCall n ls w
+  unfolding openCall opening replied choose
+  outcome-refused e = rw e
+
+  pub open-refused : {k i : ℕ} (a : Judged) → told a ≡ settledVerdict n ls w → a ≡ judged.Refused k i → openOutcome (Refused k i) ts hs ws f b ≡ openCall n ls w
+  unfolding told
+  open-refused a e q = outcome-refused (sym verdict-then ∙ refuse-then _ _ (sym e ∙ ap told q))
+
+  -- xs and ys are the rows of the two sides, and c and d whether some vertex waits in them
+  module _ (fine : settledVerdict n ls w ≡ accept) (xs ys : List ℕ) (c d : Bool)
+      (fwd : AreRows (openRows n ls (edgesIn w)) xs c) (bwd : AreRows (openRows n ls (map reverse (edgesIn w))) ys d) where
+    last : (e : Bool) → (c || d) ≡ e → openVerdict n ls w ≡ refuseIf e 13 0
+    last e h = sym verdict-then ∙ accept-then fine ∙ ap (λ (x : Bool). refuseIf x 13 0) (sym (ap₂ _||_ (fwd .waits) (bwd .waits)) ∙ h)
+
+    -- some vertex waits still
+    pub open-restless : (c || d) ≡ true → openOutcome (Refused 13 0) ts hs ws f b ≡ openCall n ls w
+    unfolding refuseIf
+    open-restless h = outcome-refused (last true h)
+
+    -- none does: the rows are copied
+    pub open-written : (k : ℕ) (f′ b′ : List ℕ) → (c || d) ≡ false → length xs ≡ k → length ys ≡ k → f′ ≡ paste f 0 xs k → b′ ≡ paste b 0 ys k
+        → openOutcome Accepted ts hs ws f′ b′ ≡ openCall n ls w
+    unfolding openCall opening replied choose refuseIf
+    open-written k f′ b′ h p q ef eb = rw (last false h, ef, eb, paste-over f xs k p, paste-over b ys k q, fwd .words, bwd .words)

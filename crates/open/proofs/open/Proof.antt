@@ -1,0 +1,110 @@
+-- `network::open::open` meets its contract. Assumes nothing.
+use mathlib.Core.Path.{_≡_, sym}
+use Prim.Native.Nat.{ℕ, _*_, _≤_}
+use native.Mathlib.Omega.{arith}
+use lib.ListN.{replicate}
+use lib.Seq.{length-take-le}
+use borrow.Author.Needs.{needs}
+use Rattle.graph.specs.Refusal.{accept}
+use Rattle.network.specs.Network.{rowCount}
+use Rattle.network.specs.Settled.{settledVerdict}
+use Rattle.calls.specs.Code.{network}
+use Rattle.calls.proofs.Judging.{fine-accept}
+use Rattle.open.proofs.Opening.{open-accept, rows-few, open-refused}
+use Rattle.open.proofs.open.Statement.{statement}
+use Rattle.open.proofs.open.Tie as tie
+
+abbrev begin : tie.After-judge-all → tie.Start
+begin j = j .before .before .before .before .before .before .before .before .before
+
+-- numbers 1 to 4 do not apply
+fine : (c : tie.After-enum-told) → let g = begin (c .before .before) .args in
+    settledVerdict (g .n) (g .landmarks .now) (network (g .tails .now) (g .heads .now) (g .weights .now) (g .forward .now) (g .backward .now) (g .count)) ≡ accept
+fine c = fine-accept _ _ (c .before .before .judge-all .ensures) (c .enum-told .given .1)
+
+-- .. so that the rows fit the scratch lists
+few : (c : tie.After-enum-told) → let g = begin (c .before .before) .args in rowCount (g .landmarks .now) * g .n ≤ 5120
+few c =
+    let g = begin (c .before .before) .args in
+    rows-few (open-accept (g .n) (g .landmarks .now) (g .tails .now) (g .heads .now) (g .weights .now) (g .forward .now) (g .backward .now) (g .count) (fine c) .0)
+
+judge-all-requires : tie.Need-judge-all-requires
+judge-all-requires c κs = search needs
+
+enum-known-judged : tie.Need-enum-known-judged
+enum-known-judged c = search needs
+
+same-length : tie.Need-same-length
+same-length c = search needs
+
+same-length-2 : tie.Need-same-length-2
+same-length-2 c = search needs
+
+returns : tie.Need-returns
+returns c =
+    let j = c .before .before .before in
+    let g = begin j .args in
+    open-refused (g .n) (g .landmarks .now) (g .tails .now) (g .heads .now) (g .weights .now) (g .forward .now) (g .backward .now) (g .count)
+    _ (j .judge-all .ensures) (c .before .judged .given .1)
+
+enum-told : tie.Need-enum-told
+enum-told c = search needs
+
+mul-k : tie.Need-mul-k
+mul-k c = search needs
+
+mul-k-2 : tie.Need-mul-k-2
+mul-k-2 c = let e = few c in omega arith
+
+array-borrow-prefix-fwd : tie.Need-array-borrow-prefix-fwd
+array-borrow-prefix-fwd c = few c
+
+slice-aggregate-open-in : tie.Need-slice-aggregate-open-in
+slice-aggregate-open-in c =
+    let g = begin (c .before .before .before) .args in
+    sym (length-take-le (rowCount (g .landmarks .now) * g .n) (replicate 5120 0) (few (c .before)))
+
+array-borrow-prefix-bwd : tie.Need-array-borrow-prefix-bwd
+array-borrow-prefix-bwd c = few (c .before)
+
+slice-aggregate-open-in-2 : tie.Need-slice-aggregate-open-in-2
+slice-aggregate-open-in-2 c =
+    let g = begin (c .before .before .before .before) .args in
+    sym (length-take-le (rowCount (g .landmarks .now) * g .n) (replicate 5120 0) (few (c .before .before)))
+
+open-in-requires : tie.Need-open-in-requires
+open-in-requires c κs =
+    let d = c .before .before .before .before in
+    let g = begin (d .before .before) .args in
+    let e = length-take-le {A = ℕ} (rowCount (g .landmarks .now) * g .n) (replicate 5120 0) (few d) in
+    (fine d, (e, e))
+
+same-length-3 : tie.Need-same-length-3
+same-length-3 c = search needs
+
+same-length-4 : tie.Need-same-length-4
+same-length-4 c = search needs
+
+returns-2 : tie.Need-returns-2
+returns-2 c = search needs
+
+pub open-spec : {M : Type 1} → statement M
+open-spec =
+    tie.close
+    (tie.spec
+    judge-all-requires
+    enum-known-judged
+    same-length
+    same-length-2
+    returns
+    enum-told
+    mul-k
+    mul-k-2
+    array-borrow-prefix-fwd
+    slice-aggregate-open-in
+    array-borrow-prefix-bwd
+    slice-aggregate-open-in-2
+    open-in-requires
+    same-length-3
+    same-length-4
+    returns-2)

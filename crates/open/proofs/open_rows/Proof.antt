@@ -1,0 +1,127 @@
+-- `network::open::open_rows` meets its contract. The loop's invariant: the rows so far stand one after the other in the list, and the answer is whether
+-- some vertex waits in one of them. Assumes nothing.
+use mathlib.Core.Path.{_≡_, refl, _∙_}
+use mathlib.Core.List.{List, map}
+use Prim.Native.Nat.{_+_, _-_, _*_, _≤_}
+use native.Mathlib.Omega.{arith}
+use lib.ListN.{length, take}
+use borrow.Author.Needs.{needs}
+use borrow.Rule.Slice.PartMut.{same-len-mid}
+use Rattle.graph.specs.Edge.{Edge, range}
+use Rattle.graph.specs.Own.{Own}
+use Rattle.network.specs.Network.{rowCount}
+use Rattle.network.specs.Open.{openRow}
+use Rattle.calls.specs.Code.{AreRows}
+use Rattle.calls.proofs.Flat.{row-end, row-size, rows-none, rows-turn, rows-done}
+use Rattle.open.proofs.open_rows.Statement.{statement}
+use Rattle.open.proofs.open_rows.Tie as tie
+
+abbrev Inv-loop : tie.InvT-loop
+Inv-loop n count landmarks firsts heads weights out₀ rows waiting₀ waits₀ r₀ out waiting waits r =
+    ((es : List Edge) → Own n firsts heads weights es → AreRows (map (openRow n landmarks es) (range 0 r)) (take (r * n) out) waits)
+    × (r ≤ rows) × (length out ≡ length out₀)
+
+abbrev μ-loop : tie.MeasureT-loop
+μ-loop n count landmarks firsts heads weights out₀ rows waiting₀ waits₀ r₀ out waiting waits r = rows - r
+
+abbrev begin : tie.At-loop Inv-loop μ-loop → tie.Start Inv-loop μ-loop
+begin l = l .before .before .before .before .before .before .before
+
+-- the row of a turn ends within the list
+within : (c : tie.In-loop Inv-loop μ-loop) → let g = begin (c .before) .args in c .before .loop .r * g .n + g .n ≤ length (c .before .loop .out)
+within c =
+    let l = c .before in
+    let s = begin l in
+    let e = row-end (s .args .n) (l .loop .r) (rowCount (s .args .landmarks .now)) (omega (arith, c .loop-test .taken)) in
+    omega (arith, s .pre .1, l .loop .inv .2)
+
+mul-rows : tie.Need-mul-rows Inv-loop μ-loop
+mul-rows c = search needs
+
+empty-requires : tie.Need-empty-requires Inv-loop μ-loop
+empty-requires c κs = search needs
+
+loop-holds : tie.Need-loop-holds Inv-loop μ-loop
+loop-holds c =
+    let g = c .before .before .before .before .before .before .args in
+    (λ es o. rows-none (openRow (g .n) (g .landmarks .now) es) (g .n) (g .out .now), omega arith, refl)
+
+mul-start : tie.Need-mul-start Inv-loop μ-loop
+mul-start c = omega (arith, within c)
+
+add-end : tie.Need-add-end Inv-loop μ-loop
+add-end c = omega (arith, within c)
+
+mul-open-row : tie.Need-mul-open-row Inv-loop μ-loop
+mul-open-row c = omega (arith, within (c .before))
+
+sub-open-row : tie.Need-sub-open-row Inv-loop μ-loop
+sub-open-row c = omega arith
+
+part-open-row-start : tie.Need-part-open-row-start Inv-loop μ-loop
+part-open-row-start c = omega arith
+
+part-open-row-end : tie.Need-part-open-row-end Inv-loop μ-loop
+part-open-row-end c = omega (arith, within (c .before))
+
+open-row-requires : tie.Need-open-row-requires Inv-loop μ-loop
+open-row-requires c κs =
+    let l = c .before .before .before in
+    let s = begin l in
+    (s .pre .0, (omega arith, row-size (s .args .n) (l .loop .r * s .args .n) (l .loop .out) (within (c .before .before))))
+
+add-r : tie.Need-add-r Inv-loop μ-loop
+add-r c = omega (arith, begin (c .before .before .before .before .before .before) .pre .0 .landmarks .few, c .before .before .before .before .before .loop-test .taken)
+
+loop-less : tie.Need-loop-less Inv-loop μ-loop
+loop-less c = omega (arith, c .before .before .before .before .before .loop-test .taken)
+
+loop-again : tie.Need-loop-again Inv-loop μ-loop
+loop-again c =
+    let t = c .before .before .before .before .before in
+    let l = t .before in
+    let g = begin l .args in
+    let a = l .loop .r * g .n in
+    let call = c .before .before .open-row in
+    let part = call .last .1 .1 .1 .1 .1 .1 .1 .1 .0 in
+    let size = call .kept .1 .1 .1 .1 .1 .1 .1 .1 .0 in (
+      λ es o. rows-turn (openRow (g .n) (g .landmarks .now) es) (g .n) (l .loop .r) (a + g .n - a) (l .loop .out) part (l .loop .waits) (call .result)
+          (omega (arith, within t))
+          (size ∙ row-size (g .n) a (l .loop .out) (within t))
+          (l .loop .inv .0 es o)
+          (call .ensures es o),
+      omega (arith, t .loop-test .taken),
+      same-len-mid a (a + g .n - a) (l .loop .out) part size ∙ l .loop .inv .2,
+    )
+
+same-length : tie.Need-same-length Inv-loop μ-loop
+same-length c = c .before .loop .inv .2
+
+returns : tie.Need-returns Inv-loop μ-loop
+returns c =
+    let l = c .before in
+    let s = begin l in
+    let g = s .args in
+    λ es o. rows-done (openRow (g .n) (g .landmarks .now) es) (g .n) (l .loop .r) (rowCount (g .landmarks .now)) (l .loop .out) (l .loop .waits) (omega arith) (l .loop .inv .2 ∙ s .pre .1) (l .loop .inv .0 es o)
+
+pub open-rows-spec : {M : Type 1} → statement M
+open-rows-spec =
+    tie.close
+    (tie.spec
+    Inv-loop
+    μ-loop
+    mul-rows
+    empty-requires
+    loop-holds
+    mul-start
+    add-end
+    mul-open-row
+    sub-open-row
+    part-open-row-start
+    part-open-row-end
+    open-row-requires
+    add-r
+    loop-less
+    loop-again
+    same-length
+    returns)

@@ -1,0 +1,216 @@
+// Opening a network: every row is run from where only its landmark has a route. The row lists are written where nothing waits.
+use frontier::Words;
+use graph::Judged;
+use graph::index;
+use graph::words;
+use run::Tally;
+ghost use mathlib.Core.Path.{_≡_};
+ghost use mathlib.Core.List.{List, map};
+ghost use Prim.Native.Nat.{_*_, _<_};
+ghost use lib.ListN.{length};
+ghost use Rattle.graph.specs.Edge.{Edge, reverse, edges};
+ghost use Rattle.graph.specs.Own.{Own};
+ghost use Rattle.graph.specs.Refusal.{accept};
+ghost use Rattle.network.specs.Network.{rowCount};
+ghost use Rattle.network.specs.Open.{openRow, openRows, openCall};
+ghost use Rattle.network.specs.Settled.{settledVerdict};
+ghost use Rattle.calls.specs.Code.{network, Openable, IsRow, AreRows};
+ghost use Rattle.open.specs.Code.{Runnable, openOutcome};
+
+// The reply to an opening: only that it was accepted.
+pub enum Opened {
+    Accepted,
+    Refused(u32, usize),
+}
+
+// Row `r` of a side is opened and settled in `part`. Whether some vertex still waits.
+pub fn open_row(
+    r: usize,
+    n: usize,
+    count: usize,
+    landmarks: &[u32],
+    firsts: &[u32],
+    heads: &[u32],
+    weights: &[u32],
+    waiting: &mut Words,
+    part: &mut [u32],
+) -> bool
+    requires { ⌜ Runnable n count (now landmarks) (now firsts) (now heads) (now weights) ⌝ }
+    requires { ⌜ (r < rowCount (now landmarks)) × (length (now part) ≡ n) ⌝ }
+    ensures { λ b. ⌜ ((es : List Edge) → Own n (now (firsts .entry)) (now (heads .entry)) (now (weights .entry)) es → IsRow (openRow n (now (landmarks .entry)) es r) (now (part .exit)) b) ⌝ }
+{
+    let p = (r % 5) as u32 + 1;
+    let i = r / 5;
+    let s = landmarks[i] as usize;
+    run::open_row(p, n, s, part, waiting);
+    let none = Tally {
+        taken: 0,
+        rounds: 0,
+        stores: 0,
+    };
+    run::settle(p, n, count, firsts, heads, weights, part, waiting, none);
+    frontier::any(waiting)
+}
+
+// Every row of a side, one after the other in `out`. Whether some vertex still waits in some row.
+pub fn open_rows(
+    n: usize,
+    count: usize,
+    landmarks: &[u32],
+    firsts: &[u32],
+    heads: &[u32],
+    weights: &[u32],
+    out: &mut [u32],
+) -> bool
+    requires { ⌜ Runnable n count (now landmarks) (now firsts) (now heads) (now weights) ⌝ }
+    requires { ⌜ length (now out) ≡ rowCount (now landmarks) * n ⌝ }
+    ensures { λ b. ⌜ ((es : List Edge) → Own n (now (firsts .entry)) (now (heads .entry)) (now (weights .entry)) es → AreRows (openRows n (now (landmarks .entry)) es) (now (out .exit)) b) ⌝ }
+{
+    let rows = landmarks.len() * 5;
+    let mut waiting = frontier::empty();
+    let mut waits = false;
+    let mut r = 0;
+    while r < rows {
+        let start = r * n;
+        let end = start + n;
+        waits = waits
+            | open_row(
+                r,
+                n,
+                count,
+                landmarks,
+                firsts,
+                heads,
+                weights,
+                &mut waiting,
+                &mut out[start..end],
+            );
+        r += 1;
+    }
+    waits
+}
+
+// The forward rows, by the index of the table. Whether some vertex still waits.
+pub fn open_forward(
+    n: usize,
+    count: usize,
+    landmarks: &[u32],
+    tails: &[u32],
+    heads: &[u32],
+    weights: &[u32],
+    out: &mut [u32],
+) -> bool
+    requires { ⌜ Openable n count (now landmarks) (now tails) (now heads) (now weights) ⌝ }
+    requires { ⌜ length (now out) ≡ rowCount (now landmarks) * n ⌝ }
+    ensures { λ b. ⌜ AreRows (openRows n (now (landmarks .entry)) (edges (now (tails .entry)) (now (heads .entry)) (now (weights .entry)) count)) (now (out .exit)) b ⌝ }
+{
+    let mut firsts = [0u32; 257];
+    index::index(n, count, tails, &mut firsts);
+    open_rows(n, count, landmarks, &firsts, heads, weights, out)
+}
+
+// The backward rows, by the reversed table and its index. Whether some vertex still waits.
+pub fn open_backward(
+    n: usize,
+    count: usize,
+    landmarks: &[u32],
+    tails: &[u32],
+    heads: &[u32],
+    weights: &[u32],
+    out: &mut [u32],
+) -> bool
+    requires { ⌜ Openable n count (now landmarks) (now tails) (now heads) (now weights) ⌝ }
+    requires { ⌜ length (now out) ≡ rowCount (now landmarks) * n ⌝ }
+    ensures { λ b. ⌜ AreRows (openRows n (now (landmarks .entry)) (map reverse (edges (now (tails .entry)) (now (heads .entry)) (now (weights .entry)) count))) (now (out .exit)) b ⌝ }
+{
+    let mut free = [0u32; 257];
+    let mut firsts = [0u32; 257];
+    let mut rtails = [0u32; 2048];
+    let mut rheads = [0u32; 2048];
+    let mut rweights = [0u32; 2048];
+    index::reverse_table(
+        n,
+        count,
+        tails,
+        heads,
+        weights,
+        &mut free,
+        &mut firsts,
+        &mut rtails,
+        &mut rheads,
+        &mut rweights,
+    );
+    open_rows(n, count, landmarks, &firsts, &rheads, &rweights, out)
+}
+
+// An opening that numbers 1 to 4 let pass, in scratch lists: they are copied to the row lists where nothing waits.
+pub fn open_in(
+    n: usize,
+    landmarks: &[u32],
+    tails: &[u32],
+    heads: &[u32],
+    weights: &[u32],
+    count: usize,
+    fwd: &mut [u32],
+    bwd: &mut [u32],
+    forward: &mut [u32],
+    backward: &mut [u32],
+) -> Opened
+    requires { ⌜ settledVerdict n (now landmarks) (network (now tails) (now heads) (now weights) (now forward) (now backward) count) ≡ accept ⌝ }
+    requires { ⌜ (length (now fwd) ≡ rowCount (now landmarks) * n) × (length (now bwd) ≡ rowCount (now landmarks) * n) ⌝ }
+    ensures { λ r. ⌜ openOutcome r (now (tails .entry)) (now (heads .entry)) (now (weights .entry)) (now (forward .exit)) (now (backward .exit)) ≡ openCall n (now (landmarks .entry)) (network (now (tails .entry)) (now (heads .entry)) (now (weights .entry)) (now (forward .entry)) (now (backward .entry)) count) ⌝ }
+{
+    let ahead = open_forward(n, count, landmarks, tails, heads, weights, fwd);
+    let back = open_backward(n, count, landmarks, tails, heads, weights, bwd);
+    if ahead | back {
+        return Opened::Refused(13, 0);
+    }
+    let k = fwd.len();
+    words::copy(k, fwd, forward, 0);
+    words::copy(k, bwd, backward, 0);
+    Opened::Accepted
+}
+
+// Opening a network: refused, or the rows of both sides are written to their lists; words past the rows stay.
+pub fn open(
+    n: u32,
+    landmarks: &[u32],
+    tails: &[u32],
+    heads: &[u32],
+    weights: &[u32],
+    count: u32,
+    forward: &mut [u32],
+    backward: &mut [u32],
+) -> Opened
+    ensures { λ r. ⌜ openOutcome r (now (tails .entry)) (now (heads .entry)) (now (weights .entry)) (now (forward .exit)) (now (backward .exit)) ≡ openCall n (now (landmarks .entry)) (network (now (tails .entry)) (now (heads .entry)) (now (weights .entry)) (now (forward .entry)) (now (backward .entry)) count) ⌝ }
+{
+    let judged = calls::judge_all(
+        n,
+        landmarks,
+        tails,
+        heads,
+        weights,
+        count,
+        forward,
+        backward,
+    );
+    if let Judged::Refused(number, place) = judged {
+        return Opened::Refused(number, place);
+    }
+    let size = n as usize;
+    let k = landmarks.len() * 5 * size;
+    let mut fwd = [0u32; 5120];
+    let mut bwd = [0u32; 5120];
+    open_in(
+        size,
+        landmarks,
+        tails,
+        heads,
+        weights,
+        count as usize,
+        &mut fwd[..k],
+        &mut bwd[..k],
+        forward,
+        backward,
+    )
+}

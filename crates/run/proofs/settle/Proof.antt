@@ -1,0 +1,110 @@
+-- `run::settle` meets its contract. The loop's invariant: the rounds that are left, from the state now, come to what `n` rounds come to from the
+-- state at entry. Assumes nothing.
+use mathlib.Core.Path.{_≡_, sym, _∙_}
+use mathlib.Core.List.{List}
+use Prim.Native.Nat.{_-_, _*_, _≤_}
+use native.Mathlib.Nat.{sub-zero}
+use native.Mathlib.Omega.{arith}
+use borrow.Author.Needs.{needs}
+use borrow.Author.Tests.{not-true, not-false}
+use Rattle.property.specs.Property.{property}
+use Rattle.graph.specs.Edge.{Edge}
+use Rattle.graph.specs.Own.{Own}
+use Rattle.run.specs.Run as spec
+use Rattle.run.specs.Code.{state, Ran}
+use Rattle.run.proofs.States.{bits-any, ran-none, ran-then, ran-within}
+use Rattle.run.proofs.Rounds.{settle-more, settle-stop, settle-none}
+use Rattle.run.proofs.settle.Statement.{statement}
+use Rattle.run.proofs.settle.Tie as tie
+
+abbrev Inv-loop : tie.InvT-loop
+Inv-loop p n count firsts heads weights words₀ waiting₀ t₀ k₀ words waiting t k =
+    ((es : List Edge) → Own n firsts heads weights es
+    → spec.settle (property p) es n (n - k) (state n words waiting t) ≡ spec.settle (property p) es n n (state n words₀ waiting₀ t₀))
+    × (k ≤ n) × Ran n words waiting t₀ t 0 k (524288 * k)
+
+abbrev μ-loop : tie.MeasureT-loop
+μ-loop p n count firsts heads weights words₀ waiting₀ t₀ k₀ words waiting t k = n - k
+
+loop-holds : tie.Need-loop-holds Inv-loop μ-loop
+loop-holds c =
+    let s = c .before .before .before .before in
+    ((λ es o. rw sub-zero), omega arith, ran-none (s .pre .sized) (s .args .tally) 0 0 0)
+
+any-requires : tie.Need-any-requires Inv-loop μ-loop
+any-requires c κs = search needs
+
+same-length : tie.Need-same-length Inv-loop μ-loop
+same-length c = search needs
+
+returns : tie.Need-returns Inv-loop μ-loop
+returns c =
+    let l = c .before .before .before .before in
+    let s = l .before .before .before .before .before in
+    let g = s .args in
+    let at = l .loop in
+    let e = bits-any (g .n) (at .waiting) (at .inv .2 .sized .waiting) ∙ sym (c .before .any .ensures) ∙ not-true _ (c .if1 .taken) in (
+      λ es o. sym (settle-stop (property (g .p)) es (g .n) (at .k) (state (g .n) (at .words) (at .waiting) (at .t)) (c .before .before .before .loop-test .taken) e) ∙ at .inv .0 es o,
+      ran-within (at .inv .2) (omega arith) (omega arith) (omega (arith, s .pre .index .few)),
+    )
+
+round-requires : tie.Need-round-requires Inv-loop μ-loop
+round-requires c κs =
+    let l = c .before .before .before .before .before .before in
+    let s = l .before .before .before .before .before in
+    let f = s .pre .index .few in
+    let r = l .loop .inv .2 in
+    record { index = s .pre .index; sized = r .sized; low = record { taken = omega arith; rounds = omega arith; stores = omega arith } }
+
+add-k : tie.Need-add-k Inv-loop μ-loop
+add-k c = search needs
+
+loop-less : tie.Need-loop-less Inv-loop μ-loop
+loop-less c = search needs
+
+loop-again : tie.Need-loop-again Inv-loop μ-loop
+loop-again c =
+    let r = c .before .before in
+    let b = r .before .before .before in
+    let a = b .before in
+    let l = a .before .before .before in
+    let s = l .before .before .before .before .before in
+    let g = s .args in
+    let at = l .loop in
+    let e = bits-any (g .n) (at .waiting) (at .inv .2 .sized .waiting) ∙ sym (a .any .ensures) ∙ not-false _ (b .if1 .left) in (
+      λ es o.
+          sym (settle-more (property (g .p)) es (g .n) (at .k) (state (g .n) (at .words) (at .waiting) (at .t)) _ (a .before .before .loop-test .taken) e (r .round .ensures .0 es o))
+          ∙ at .inv .0 es o,
+      omega arith,
+      ran-then (at .inv .2) (r .round .ensures .1) (omega arith) (omega arith) (omega arith),
+    )
+
+same-length-2 : tie.Need-same-length-2 Inv-loop μ-loop
+same-length-2 c = search needs
+
+returns-2 : tie.Need-returns-2 Inv-loop μ-loop
+returns-2 c =
+    let l = c .before in
+    let s = l .before .before .before .before .before in
+    let g = s .args in
+    let at = l .loop in (
+      λ es o. sym (settle-none (property (g .p)) es (g .n) (at .k) (state (g .n) (at .words) (at .waiting) (at .t)) (c .loop-test .left)) ∙ at .inv .0 es o,
+      ran-within (at .inv .2) (omega arith) (omega arith) (omega (arith, s .pre .index .few)),
+    )
+
+pub settle-spec : {M : Type 1} → statement M
+settle-spec =
+    tie.close
+    (tie.spec
+    Inv-loop
+    μ-loop
+    loop-holds
+    any-requires
+    same-length
+    returns
+    round-requires
+    add-k
+    loop-less
+    loop-again
+    same-length-2
+    returns-2)

@@ -1,0 +1,23 @@
+-- `run::start_at` meets its contract. Assumes nothing.
+use borrow.Author.Needs.{needs}
+use Rattle.run.proofs.Starts.{started-bits, started-held}
+use Rattle.run.proofs.start_at.Statement.{statement}
+use Rattle.run.proofs.start_at.Tie as tie
+
+empty-requires : tie.Need-empty-requires
+empty-requires c κs = search needs
+
+insert-requires : tie.Need-insert-requires
+insert-requires c κs = search needs
+
+returns : tie.Need-returns
+returns c =
+    let e = c .before .before in
+    let s = e .before in
+    let g = s .args in (
+      started-bits (g .n) (g .s) (e .empty .result) (c .insert .last .0) (s .pre .0) (s .pre .1) (e .empty .ensures) (c .insert .ensures),
+      started-held (g .n) (g .s) (e .empty .result) (c .insert .last .0) (s .pre .0) (s .pre .1) (e .empty .ensures) (c .insert .ensures),
+    )
+
+pub start-at-spec : {M : Type 1} → statement M
+start-at-spec = tie.close (tie.spec empty-requires insert-requires returns)
