@@ -1,0 +1,122 @@
+-- A query's start words and its schedule, landmark by landmark, vertex by vertex and entry by entry. Assumes nothing.
+use mathlib.Core.Path.{_≡_, sym, ap, ap₂, _∙_}
+use mathlib.Core.Logic.{⊎-elim, _≢_}
+use mathlib.Core.Bool.{cond}
+use mathlib.Core.List.{List, map}
+use Prim.Native.Nat.{ℕ, suc, _+_, _-_, _*_, _<_, _≤_}
+use native.Mathlib.Nat.{mul-le-mul, mul-le-mul-right, add-mul, one-mul, sub-zero}
+use native.Mathlib.Numerals.{add-one}
+use native.Mathlib.Omega.{arith}
+use lib.ListN.{length, getD, set, drop, drop-of-length-le}
+use lib.Seq.{getD-take, getD-drop, drop-cons, ext-getD}
+use lib.Dec.{eqb}
+use borrow.Author.Tests.{lt-ltb, le-ltb, eq-eqb, ne-eqb}
+use mir.Syntax.{w64}
+use mir.Val.{Fits}
+use mir.Facts.{fits-le, fits-lit}
+use Rattle.property.specs.Property.{Property, property, properties}
+use Rattle.graph.specs.declared.Judged.the-variants.{Fine, Refused}
+use Rattle.graph.specs.Refusal.{Verdict, _▷_, refuseIf}
+use Rattle.graph.specs.Edge.{range}
+use Rattle.graph.specs.Limits.{maxVertices, maxLandmarks}
+use Rattle.graph.specs.Code.{told}
+use Rattle.graph.proofs.Lists.{at-set, length-table, table-at}
+use Rattle.run.specs.Run.{word}
+use Rattle.run.specs.Start.{Landmark, finer, bound}
+use Rattle.run.proofs.Folds.{getD-within}
+use Rattle.network.specs.Network.{row}
+use Rattle.network.specs.Query.{scheduled, rowAt}
+
+-- ---- the words of a row
+
+-- what one landmark of the list tells
+abbrev pub entry : ℕ → List ℕ → ℕ → ℕ → List ℕ → List ℕ → ℕ → Landmark
+entry n ls p s f b i = record {
+  vertex = getD ls i 0;
+  into = word (property p) (row n (rowAt i p) b) s;
+  row = row n (rowAt i p) f;
+}
+
+-- where a row starts is no great number
+pub row-fits : (r n : ℕ) → r ≤ maxLandmarks * properties → n ≤ maxVertices → Fits w64 (r * n)
+row-fits r n a b = fits-le (mul-le-mul a b) (fits-lit tt)
+
+-- a word of a row is a word of a list that has the row
+pub row-inside : (n k p i t : ℕ) (xs : List ℕ) → 0 < p → p ≤ properties → i < k → t < n → k * properties * n ≤ length xs → rowAt i p * n + t < length xs
+row-inside n k p i t xs a b c d e =
+    let l : rowAt i p + 1 ≤ k * properties = omega arith in
+    let m = mul-le-mul-right {m = rowAt i p + 1} {n = k * properties} n l in
+    let s = add-mul (rowAt i p) 1 n in
+    let o = one-mul n in
+    omega arith
+
+pub row-word : (P : Property) (n r t : ℕ) (xs : List ℕ) → t < n → r * n + t < length xs → getD xs (r * n + t) 0 ≡ word P (row n r xs) t
+row-word P n r t xs h l = getD-within xs (r * n + t) 0 (P .none) l ∙ sym (getD-take n (drop (r * n) xs) t (P .none) h ∙ getD-drop (r * n) xs t (P .none))
+
+-- the words that are read are those that the landmark tells
+pub entry-join : (n : ℕ) (ls : List ℕ) (p s : ℕ) (f b : List ℕ) (i t at v : ℕ) → at ≡ rowAt i p * n → s < n → t < n → at + s < length b → at + t < length f
+    → v ≡ property p .join (getD b (at + s) 0) (getD f (at + t) 0)
+    → v ≡ property p .join (entry n ls p s f b i .into) (word (property p) (entry n ls p s f b i .row) t)
+entry-join n ls p s f b i t at v e hs ht lb lf h =
+    h ∙ ap₂ (property p .join)
+    (ap (λ (a : ℕ). getD b (a + s) 0) e ∙ row-word (property p) n (rowAt i p) s b hs (omega arith))
+    (ap (λ (a : ℕ). getD f (a + t) 0) e ∙ row-word (property p) n (rowAt i p) t f ht (omega arith))
+
+-- ---- bounds
+
+module _ (P : Property) (f : ℕ → Landmark) (k t : ℕ) where
+  -- the best over the landmarks from i on
+  abbrev pub boundFrom : ℕ → ℕ
+  boundFrom i = bound P (map f (range i (k - i))) t
+
+  pub bound-none : boundFrom k ≡ P .none
+  unfolding bound range
+  bound-none = let e : k - k ≡ 0 = omega arith in rw e
+
+  pub bound-turn : (i v w r : ℕ) → 0 < i → i ≤ k → v ≡ P .join (f (i - 1) .into) (word P (f (i - 1) .row) t) → w ≡ boundFrom i → r ≡ finer P v w → r ≡ boundFrom (i - 1)
+  unfolding bound range
+  bound-turn i v w r l m ev ew er =
+      let e : k - (i - 1) ≡ suc (k - i) = omega arith in
+      let g : suc (i - 1) ≡ i = omega arith in
+      rw (e, g, ← ev, ← ew) er
+
+  pub bound-done : (i w : ℕ) → i ≤ 0 → w ≡ boundFrom i → w ≡ bound P (map f (range 0 k)) t
+  bound-done i w l e = let z : i ≡ 0 = omega arith in rw (z, sub-zero k) at e
+
+-- ---- start words
+
+-- the start word of each vertex
+abbrev pub startOf : Property → List Landmark → ℕ → ℕ → ℕ
+startOf P ls s t = cond (eqb t s) (P .start) (bound P ls t)
+
+module _ (P : Property) (ls : List Landmark) (s t : ℕ) {v : ℕ} where
+  pub start-source : t ≡ s → v ≡ P .start → v ≡ startOf P ls s t
+  start-source e h = rw (eq-eqb t s e) h
+
+  pub start-other : (t ≡ s → ⊥) → v ≡ bound P ls t → v ≡ startOf P ls s t
+  start-other d h = rw (ne-eqb t s d) h
+
+module _ (f : ℕ → ℕ) (out : List ℕ) (t : ℕ) (h : (j : ℕ) → j < t → getD out j 0 ≡ f j) where
+  pub words-turn : (v : ℕ) → t < length out → v ≡ f t → (j : ℕ) → j < t + 1 → getD (set out t v) j 0 ≡ f j
+  words-turn v l e j b = ⊎-elim (λ w. w .1 ∙ e ∙ ap f (sym (w .0))) (λ w. w .1 ∙ h j (before (w .0))) (at-set out t v j 0 l)
+    where
+      before : j ≢ t → j < t
+      before d = omega arith
+
+  pub words-done : (n : ℕ) → length out ≡ n → n ≤ t → out ≡ map f (range 0 n)
+  words-done n l m = ext-getD 0 out (map f (range 0 n)) (l ∙ sym (length-table f 0 n)) (λ i b. h i (omega arith) ∙ sym (table-at f n i 0 (omega arith)))
+
+-- ---- the schedule
+
+module _ (n : ℕ) (vs : List ℕ) (i : ℕ) {v : Verdict} (h : scheduled n i (drop i vs) ≡ v) where
+  pub picks-more : i < length vs → getD vs i 0 < n → scheduled n (i + 1) (drop (i + 1) vs) ≡ v
+  unfolding scheduled refuseIf _▷_
+  picks-more l e = rw add-one (rw (drop-cons vs i 0 l, lt-ltb (getD vs i 0) n e) at h)
+
+  pub picks-broken : i < length vs → n ≤ getD vs i 0 → told (Refused 6 i) ≡ v
+  unfolding told scheduled refuseIf _▷_
+  picks-broken l e = rw (drop-cons vs i 0 l, le-ltb (getD vs i 0) n e) at h
+
+  pub picks-none : length vs ≤ i → told Fine ≡ v
+  unfolding told scheduled
+  picks-none l = rw (drop-of-length-le vs {i = i} l) at h

@@ -1,0 +1,26 @@
+-- `network::query::judge_outputs` meets its contract. Assumes nothing.
+use borrow.Author.Needs.{needs}
+use borrow.Author.Tests.{lt-ltb, le-ltb}
+use mathlib.Core.Path.{_≡_, ap, _∙_}
+use mathlib.Core.Logic.{⊎-elim}
+use mathlib.Core.Bool.{Bool, _||_}
+use lib.Dec.{ltb}
+use Rattle.graph.specs.Refusal.{refuseIf}
+use Rattle.graph.proofs.Flags.{or-taken, or-left}
+use Rattle.query.proofs.judge_outputs.Statement.{statement}
+use Rattle.query.proofs.judge_outputs.Tie as tie
+
+flag : (c : tie.Joined1) → let a = c .before .args in c .if1 .refuse-if ≡ (ltb (a .starts) (a .n) || ltb (a .settled) (a .n))
+flag c = ⊎-elim (λ w. w .1 ∙ or-taken _ _ (lt-ltb _ _ (w .0 .taken))) (λ w. w .1 ∙ or-left _ _ (le-ltb _ _ (w .0 .left))) (c .if1 .came)
+
+cast-words : tie.Need-cast-words
+cast-words c = search needs
+
+refuse-if-requires : tie.Need-refuse-if-requires
+refuse-if-requires c κs = search needs
+
+returns : tie.Need-returns
+returns c = c .refuse-if .ensures ∙ ap (λ (b : Bool). refuseIf b 2 0) (flag (c .before))
+
+pub judge-outputs-spec : {M : Type 1} → statement M
+judge-outputs-spec = tie.close (tie.spec cast-words refuse-if-requires returns)
