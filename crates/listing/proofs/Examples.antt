@@ -1,7 +1,7 @@
 -- What the values program prints for small files, computed: document 01, "Text". Each line says which sentence it shows and which nearby
 -- reading it shuts out. Assumes nothing.
 --
--- The table lists deck.gr, deck.ss and the whole output; one equation networkOf for all of its lines. `\n` is the line feed.
+-- The table lists deck.gr, deck.ss and the whole output; one equation holds for all of its lines. `\n` is the line feed.
 use mathlib.Core.Path.{_≡_, refl}
 use mathlib.Core.List.{List, [], _∷_, _++_, map}
 use mathlib.Core.Option.{bind}

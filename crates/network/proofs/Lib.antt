@@ -1,4 +1,5 @@
 pub mod Starred
+pub mod Refusals
 pub mod Examples
 pub mod Items
 pub mod Rows

@@ -7,7 +7,7 @@
 --   batchRows n ls es fs xs      == those of all rows
 --   affectedOf n ls es fs xs     == how many vertices are affected, over all rows
 --   Report                       == the new count; affected vertices ("suspects") and stores, over all rows of both lists
---   newEdges w b                 == the edges after the batch
+--   newEdges n ls w b            == the edges after the batch
 --   column f fs                  == a table list after the batch: the new words, then zeros up to 2,048
 --   rewritten fs cs              == the table lists after the batch; words from 2,048 on stay
 --   batchVerdict                 == when the call is refused: 1 to 4 first, then its items, then 13

@@ -3,7 +3,7 @@ ghost use mathlib.Core.Path.{_≡_};
 ghost use Prim.Native.Nat.{min, max};
 ghost use Rattle.property.specs.Property.{plus, property};
 
-// The word above every sum of a route, 4,294,967,295.
+// The greatest word, 4,294,967,295, at which sums stop.
 pub const GREATEST: u32 = 0xffff_ffff;
 
 // The sum of two words, or the greatest word where it is no less than that.

@@ -1,1 +1,1 @@
-// Theorems about runs and batches, over the definitions of graph, run and affected. No code.
+// Theorems about runs, over the definitions of graph and run. No code.

@@ -1,0 +1,3 @@
+pub mod LookupLaws
+pub mod Checking
+pub mod Choosing

@@ -1,0 +1,136 @@
+-- Row look-up: where a landmark stands in the list, where its row lies, and what is shown. Assumes nothing.
+use mathlib.Core.Path.{_≡_, refl, sym, ap, _∙_}
+use mathlib.Core.Bool.{Bool, true, false, not, _||_, cond, false≢true}
+use mathlib.Core.List.{List, [], _∷_}
+use Prim.Native.Nat.{ℕ, suc, _+_, _*_, _-_, _<_, _≤_}
+use native.Mathlib.Nat.{add-zero, suc-mul, mul-le-mul-right}
+use native.Mathlib.Numerals.{add-one}
+use native.Mathlib.Omega.{arith}
+use lib.ListN.{length, getD, take, drop, drop-of-length-le}
+use lib.Seq.{drop-cons}
+use lib.Dec.{eqb, ltb, leb}
+use borrow.Author.Tests.{eq-eqb, ne-eqb, ltb-true, ltb-false, leb-true, not-false}
+use Rattle.property.specs.Property.{isProperty}
+use Rattle.graph.specs.declared.Judged.{Judged}
+use Rattle.graph.specs.declared.Judged.the-variants.{Fine, Refused}
+use Rattle.graph.specs.Limits.{maxVertices, maxLandmarks}
+use Rattle.graph.specs.Refusal.{Verdict, accept, refuse, refuseIf, verdictOf, replied, choose}
+use Rattle.graph.specs.Table.{size}
+use Rattle.graph.specs.Code.{told}
+use Rattle.graph.proofs.Tests.{both, neither}
+use Rattle.graph.proofs.Verdicts.{then-accept, if-accept}
+use Rattle.network.specs.Network.{isIn, landmarks, shortRows, row}
+use Rattle.network.specs.Query.{rowAt}
+use Rattle.network.specs.Lookup.{indexOf, lookupVerdict, lookupRow, lookupNumber}
+use Rattle.calls.specs.Code.{rowLists}
+use Rattle.calls.proofs.Judging.{size-accept, rows-accept, landmarks-accept}
+
+-- ---- where a landmark stands
+
+module _ (v : ℕ) (vs : List ℕ) (i : ℕ) {x : ℕ} (h : i + indexOf v (drop i vs) ≡ x) where
+  pub index-found : i < length vs → v ≡ getD vs i 0 → i ≡ x
+  unfolding indexOf
+  index-found l e = sym (add-zero i) ∙ (rw (drop-cons vs i 0 l, eq-eqb v (getD vs i 0) e) at h)
+
+  pub index-more : i < length vs → (v ≡ getD vs i 0 → ⊥) → i + 1 + indexOf v (drop (i + 1) vs) ≡ x
+  unfolding indexOf
+  index-more l e =
+      let z : i + suc (indexOf v (drop (suc i) vs)) ≡ x = rw (drop-cons vs i 0 l, ne-eqb v (getD vs i 0) e) at h in
+      let y : indexOf v (drop (i + 1) vs) ≡ indexOf v (drop (suc i) vs) = rw add-one in
+      omega (arith, z, y)
+
+  pub index-none : length vs ≤ i → i ≡ x
+  unfolding indexOf
+  index-none l = sym (add-zero i) ∙ (rw (drop-of-length-le vs {i = i} l) at h)
+
+pub index-below : (v : ℕ) (vs : List ℕ) → isIn v vs ≡ true → indexOf v vs < length vs
+unfolding isIn indexOf
+index-below v [] h = absurd (false≢true h)
+index-below v (x ∷ vs) h = pick (eqb v x) (λ k. index-below v vs k) h
+  where
+    pick : (b : Bool) → (isIn v vs ≡ true → indexOf v vs < length vs) → (b || isIn v vs) ≡ true → cond b 0 (suc (indexOf v vs)) < suc (length vs)
+    pick true below k = omega arith
+    pick false below k = let z = below k in omega arith
+
+-- ---- where its row lies
+
+-- the row of landmark i and property p is among the rows of k landmarks, in a list that has them
+pub row-within : (n i p k l : ℕ) → i < k → 0 < p → p ≤ 5 → k * 5 * n ≤ l → rowAt i p * n + n ≤ l
+row-within n i p k l h a b f =
+    let e : suc (rowAt i p) ≤ k * 5 = omega arith in
+    omega (arith, suc-mul (rowAt i p) n, mul-le-mul-right n e)
+
+pub row-fits : (n i p : ℕ) → n ≤ 256 → i < 4 → 0 < p → p ≤ 5 → rowAt i p * n ≤ 5120
+row-fits n i p a h b c =
+    let e : rowAt i p ≤ 20 = omega arith in
+    omega (arith, mul-le-mul-right n e)
+
+-- ---- the number
+
+module _ (n : ℕ) (ls f b : List ℕ) (side l p : ℕ) where
+  pub number-told : (r : Judged) → told r ≡ lookupVerdict n ls (rowLists f b) side l p → replied (told r) tt ≡ lookupNumber n ls (rowLists f b) side l p
+  unfolding lookupNumber
+  number-told r e = ap (λ (v : Verdict). replied v tt) e
+
+  told-number : (r : Judged) → replied (told r) tt ≡ lookupNumber n ls (rowLists f b) side l p → told r ≡ lookupVerdict n ls (rowLists f b) side l p
+  unfolding lookupNumber verdictOf replied
+  told-number r e = sym (said (told r)) ∙ (ap verdictOf e ∙ said (lookupVerdict n ls (rowLists f b) side l p))
+    where
+      said : (v : Verdict) → verdictOf (replied v (tt {0})) ≡ v
+      said accept = refl
+      said (refuse k i) = refl
+
+  module _ (r : Judged) (e : replied (told r) tt ≡ lookupNumber n ls (rowLists f b) side l p) where
+    pub row-refused : (k i : ℕ) → r ≡ Refused k i → [] ≡ lookupRow n ls (rowLists f b) side l p
+    unfolding lookupRow choose told
+    row-refused k i q = rw (sym (told-number r e) ∙ ap told q)
+
+    row-shown : r ≡ Fine → row n (rowAt (indexOf l ls) p) (cond (eqb side 0) f b) ≡ lookupRow n ls (rowLists f b) side l p
+    unfolding lookupRow choose told
+    row-shown q = rw (sym (told-number r e) ∙ ap told q)
+
+    -- the part from s on, where s is the row's start
+    module _ (q : r ≡ Fine) (s : ℕ) (at : s ≡ rowAt (indexOf l ls) p * n) where
+      part : (xs : List ℕ) → take (s + n - s) (drop s xs) ≡ row n (rowAt (indexOf l ls) p) xs
+      part xs = let z : s + n - s ≡ n = omega arith in rw (z, at)
+
+      pub row-forward : side ≡ 0 → take (s + n - s) (drop s f) ≡ lookupRow n ls (rowLists f b) side l p
+      row-forward h = part f ∙ (ap (λ (t : Bool). row n (rowAt (indexOf l ls) p) (cond t f b)) (sym (eq-eqb side 0 h)) ∙ row-shown q)
+
+      pub row-backward : (side ≡ 0 → ⊥) → take (s + n - s) (drop s b) ≡ lookupRow n ls (rowLists f b) side l p
+      row-backward h = part b ∙ (ap (λ (t : Bool). row n (rowAt (indexOf l ls) p) (cond t f b)) (sym (ne-eqb side 0 h)) ∙ row-shown q)
+
+  -- ---- what an accepted look-up tells
+
+  pub record Shown : Type 0 where
+    pub few : n ≤ maxVertices
+    pub listed : indexOf l ls < maxLandmarks
+    pub first : 0 < p
+    pub last : p ≤ 5
+    pub sides : side ≤ 1
+    pub forward : rowAt (indexOf l ls) p * n + n ≤ length f
+    pub backward : rowAt (indexOf l ls) p * n + n ≤ length b
+
+  pub lookup-accept : (r : Judged) → replied (told r) tt ≡ lookupNumber n ls (rowLists f b) side l p → r ≡ Fine → Shown
+  unfolding told
+  lookup-accept r e q =
+      let v = then-accept (size n) _ (sym (told-number r e) ∙ ap told q) in
+      let s = then-accept (shortRows n ls (rowLists f b)) _ (v .1) in
+      let m = then-accept (landmarks n ls) _ (s .1) in
+      let i = then-accept (refuseIf (not (isIn l ls)) 3 0) _ (m .1) in
+      let y = neither (not (isProperty p)) (ltb 1 side) (if-accept _ _ _ (i .1)) in
+      let z = both (ltb 0 p) (leb p 5) (not-false _ (y .0)) in
+      let a : 0 < p = ltb-true 0 p (z .0) in
+      let c : p ≤ 5 = leb-true p 5 (z .1) in
+      let x = rows-accept n ls f b (s .0) in
+      let j = index-below l ls (not-false _ (if-accept _ _ _ (i .0))) in
+      let h : length ls ≤ maxLandmarks = landmarks-accept n ls (m .0) .0 in
+      record {
+        few = size-accept n (v .0) .1;
+        listed = omega arith;
+        first = a;
+        last = c;
+        sides = ltb-false 1 side (y .1);
+        forward = row-within n (indexOf l ls) p (length ls) (length f) j a c (x .0);
+        backward = row-within n (indexOf l ls) p (length ls) (length b) j a c (x .1);
+      }

@@ -1,0 +1,59 @@
+-- `network::lookup::index_of` meets its contract: what is left of the list decides. Assumes nothing.
+use borrow.Author.Needs.{needs}
+use native.Mathlib.Nat.{zero-add}
+use Prim.Native.Nat.{_+_, _-_}
+use mathlib.Core.Path.{_≡_}
+use lib.ListN.{length, drop}
+use Rattle.network.specs.Lookup.{indexOf}
+use Rattle.inspect.proofs.LookupLaws.{index-found, index-more, index-none}
+use Rattle.inspect.proofs.lookup.index_of.Statement.{statement}
+use Rattle.inspect.proofs.lookup.index_of.Tie as tie
+
+abbrev Inv-loop : tie.InvT-loop
+Inv-loop v vertices i₀ i = i + indexOf v (drop i vertices) ≡ indexOf v vertices
+
+abbrev μ-loop : tie.MeasureT-loop
+μ-loop v vertices i₀ i = length vertices - i
+
+loop-holds : tie.Need-loop-holds Inv-loop μ-loop
+loop-holds c = zero-add _
+
+mul-if1 : tie.Need-mul-if1 Inv-loop μ-loop
+mul-if1 c = search needs
+
+shared-slice-read-if1 : tie.Need-shared-slice-read-if1 Inv-loop μ-loop
+shared-slice-read-if1 c = search needs
+
+returns : tie.Need-returns Inv-loop μ-loop
+returns c =
+    let t = c .before .before in
+    index-found _ _ (t .before .loop .i) (t .before .loop .inv) (t .loop-test .taken) (c .if1 .taken)
+
+add-i : tie.Need-add-i Inv-loop μ-loop
+add-i c = search needs
+
+loop-less : tie.Need-loop-less Inv-loop μ-loop
+loop-less c = search needs
+
+loop-again : tie.Need-loop-again Inv-loop μ-loop
+loop-again c =
+    let t = c .before .before in
+    index-more _ _ (t .before .loop .i) (t .before .loop .inv) (t .loop-test .taken) (c .if1 .left)
+
+returns-2 : tie.Need-returns-2 Inv-loop μ-loop
+returns-2 c = index-none _ _ (c .before .loop .i) (c .before .loop .inv) (c .loop-test .left)
+
+pub index-of-spec : {M : Type 1} → statement M
+index-of-spec =
+    tie.close
+    (tie.spec
+    Inv-loop
+    μ-loop
+    loop-holds
+    mul-if1
+    shared-slice-read-if1
+    returns
+    add-i
+    loop-less
+    loop-again
+    returns-2)

@@ -1,0 +1,127 @@
+-- `network::lookup::row` meets its contract. Assumes nothing.
+use borrow.Author.Needs.{needs}
+use native.Mathlib.Omega.{arith}
+use mathlib.Core.Path.{_≡_, ap, _∙_}
+use Prim.Native.Nat.{ℕ, _+_, _*_, _≤_}
+use lib.ListN.{length}
+use Rattle.network.specs.Query.{rowAt}
+use Rattle.network.specs.Lookup.{indexOf}
+use Rattle.inspect.proofs.LookupLaws.{Shown, lookup-accept, row-refused, row-forward, row-backward}
+use Rattle.inspect.proofs.lookup.row.Statement.{statement}
+use Rattle.inspect.proofs.lookup.row.Tie as tie
+
+abbrev start : tie.After-enum-told → tie.Start
+start c = c .before .before .before .before .before .before
+
+shown : (c : tie.After-enum-told) →
+    let a = start c .args in
+    Shown (a .n) (a .landmarks .now) (a .forward .now) (a .backward .now) (a .side) (a .landmark) (a .property)
+shown c =
+    let a = start c .args in
+    lookup-accept (a .n) (a .landmarks .now) (a .forward .now) (a .backward .now) (a .side) (a .landmark) (a .property) _ (c .before .before .row-number .ensures) (c .enum-told .given .1)
+
+-- where the row lies
+record Lies (c : tie.After-row-start) : Type 0 where
+  at : c .row-start .result ≡ rowAt (indexOf (start (c .before .before) .args .landmark) (start (c .before .before) .args .landmarks .now)) (start (c .before .before) .args .property) * start (c .before .before) .args .n
+  forward : c .row-start .result + start (c .before .before) .args .n ≤ length (start (c .before .before) .args .forward .now)
+  backward : c .row-start .result + start (c .before .before) .args .n ≤ length (start (c .before .before) .args .backward .now)
+
+lies : (c : tie.After-row-start) → Lies c
+lies c =
+    let a = start (c .before .before) .args in
+    let s = shown (c .before .before) in
+    let e = c .row-start .ensures ∙ ap (λ (i : ℕ). rowAt i (a .property) * a .n) (c .before .index-of .ensures) in
+    record { at = e; forward = omega (arith, e, s .forward); backward = omega (arith, e, s .backward) }
+
+row-number-requires : tie.Need-row-number-requires
+row-number-requires c κs = search needs
+
+enum-told : tie.Need-enum-told
+enum-told c = search needs
+
+enum-told-2 : tie.Need-enum-told-2
+enum-told-2 c = search needs
+
+sub-result : tie.Need-sub-result
+sub-result c = search needs
+
+part-result-start : tie.Need-part-result-start
+part-result-start c = search needs
+
+part-result-end : tie.Need-part-result-end
+part-result-end c = search needs
+
+returns : tie.Need-returns
+returns c = row-refused _ _ _ _ _ _ _ _ (c .before .before .before .row-number .ensures) _ _ (c .before .enum-told2 .given .1)
+
+index-of-requires : tie.Need-index-of-requires
+index-of-requires c κs = search needs
+
+row-start-requires : tie.Need-row-start-requires
+row-start-requires c κs =
+    let s = shown (c .before) in
+    (s .few, omega (arith, s .listed, c .index-of .ensures), s .first, s .last)
+
+add-end : tie.Need-add-end
+add-end c = omega (arith, lies c)
+
+mul-result : tie.Need-mul-result
+mul-result c = omega (arith, lies (c .before))
+
+sub-result-2 : tie.Need-sub-result-2
+sub-result-2 c = search needs
+
+part-result-start-2 : tie.Need-part-result-start-2
+part-result-start-2 c = search needs
+
+part-result-end-2 : tie.Need-part-result-end-2
+part-result-end-2 c = lies (c .before) .forward
+
+returns-2 : tie.Need-returns-2
+returns-2 c =
+    let s = c .before .before in
+    let n = s .before .before in
+    row-forward _ _ _ _ _ _ _ _ (n .before .before .row-number .ensures) (n .enum-told .given .1) (s .row-start .result) (lies s .at) (c .before .if1 .taken)
+
+mul-result-2 : tie.Need-mul-result-2
+mul-result-2 c = omega (arith, lies (c .before))
+
+sub-result-3 : tie.Need-sub-result-3
+sub-result-3 c = search needs
+
+part-result-start-3 : tie.Need-part-result-start-3
+part-result-start-3 c = search needs
+
+part-result-end-3 : tie.Need-part-result-end-3
+part-result-end-3 c = lies (c .before) .backward
+
+returns-3 : tie.Need-returns-3
+returns-3 c =
+    let s = c .before .before in
+    let n = s .before .before in
+    row-backward _ _ _ _ _ _ _ _ (n .before .before .row-number .ensures) (n .enum-told .given .1) (s .row-start .result) (lies s .at) (c .before .if1 .left)
+
+pub row-spec : {M : Type 1} → statement M
+row-spec =
+    tie.close
+    (tie.spec
+    row-number-requires
+    enum-told
+    enum-told-2
+    sub-result
+    part-result-start
+    part-result-end
+    returns
+    index-of-requires
+    row-start-requires
+    add-end
+    mul-result
+    sub-result-2
+    part-result-start-2
+    part-result-end-2
+    returns-2
+    mul-result-2
+    sub-result-3
+    part-result-start-3
+    part-result-end-3
+    returns-3)

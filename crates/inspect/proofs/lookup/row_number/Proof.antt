@@ -1,0 +1,126 @@
+-- `network::lookup::row_number` meets its contract: one refusal after the other. Assumes nothing.
+use borrow.Author.Needs.{needs}
+use mathlib.Core.Path.{_≡_, sym, ap, _∙_}
+use mathlib.Core.Logic.{⊎-elim}
+use mathlib.Core.Bool.{Bool, not, _||_}
+use lib.Dec.{ltb}
+use Rattle.property.specs.Property.{isProperty}
+use Rattle.graph.specs.declared.Judged.{Judged}
+use Rattle.graph.specs.Refusal.{Verdict, _▷_, refuseIf}
+use Rattle.graph.specs.Table.{size}
+use Rattle.graph.specs.Code.{told}
+use Rattle.graph.proofs.Flags.{or-taken, or-left}
+use Rattle.network.specs.Network.{shortRows, landmarks}
+use Rattle.calls.specs.Code.{rowLists}
+use Rattle.calls.proofs.Judging.{then-refused, then-judged, if-refused, if-judged}
+use Rattle.inspect.proofs.LookupLaws.{number-told}
+use Rattle.inspect.proofs.lookup.row_number.Statement.{statement}
+use Rattle.inspect.proofs.lookup.row_number.Tie as tie
+
+abbrev start : tie.After-judge-size → tie.Start
+start c = c .before .before .before .before
+
+-- what is judged after the size, and after the rows
+sized : (c : tie.After-enum-told) (r : Judged) (w : Verdict) → told r ≡ w → told r ≡ (size (start (c .before .before) .args .n) ▷ w)
+sized c r w e = then-judged _ r _ w (c .before .before .judge-size .ensures) (c .enum-told .given .1) e
+
+spaced : (c : tie.After-enum-told3) (r : Judged) (w : Verdict) → told r ≡ w →
+    let a = start (c .before .before .before .before .before) .args in
+    told r ≡ (size (a .n) ▷ shortRows (a .n) (a .landmarks .now) (rowLists (a .forward .now) (a .backward .now)) ▷ w)
+spaced c r w e = sized (c .before .before .before) r _ (then-judged _ r _ w (c .before .before .judge-rows .ensures) (c .enum-told3 .given .1) e)
+
+listed : (c : tie.After-enum-told5) (r : Judged) (w : Verdict) → told r ≡ w →
+    let a = start (c .before .before .before .before .before .before .before .before) .args in
+    told r ≡ (size (a .n) ▷ shortRows (a .n) (a .landmarks .now) (rowLists (a .forward .now) (a .backward .now)) ▷ landmarks (a .n) (a .landmarks .now) ▷ w)
+listed c r w e = spaced (c .before .before .before) r _ (then-judged _ r _ w (c .before .before .judge-landmarks .ensures) (c .enum-told5 .given .1) e)
+
+flag : (c : tie.Joined2) →
+    let a = start (c .before .before .before .before .before .before .before .before .before .before .before .before) .args in
+    c .if2 .refuse-if ≡ (not (isProperty (a .property)) || ltb 1 (a .side))
+flag c =
+    let e = ap not (c .before .is-property .ensures) in
+    ⊎-elim (λ w. w .1 ∙ (e ∙ or-taken _ _ (sym e ∙ w .0 .taken))) (λ w. w .1 ∙ or-left _ _ (sym e ∙ w .0 .left)) (c .if2 .came)
+
+judge-size-requires : tie.Need-judge-size-requires
+judge-size-requires c κs = search needs
+
+enum-told : tie.Need-enum-told
+enum-told c = search needs
+
+enum-told-2 : tie.Need-enum-told-2
+enum-told-2 c = search needs
+
+returns : tie.Need-returns
+returns c = number-told _ _ _ _ _ _ _ _ (then-refused _ _ _ _ _ (c .before .before .judge-size .ensures) (c .enum-told2 .given .1))
+
+judge-rows-requires : tie.Need-judge-rows-requires
+judge-rows-requires c κs = search needs
+
+enum-told-3 : tie.Need-enum-told-3
+enum-told-3 c = search needs
+
+enum-told-4 : tie.Need-enum-told-4
+enum-told-4 c = search needs
+
+returns-2 : tie.Need-returns-2
+returns-2 c =
+    let r = c .before .before in
+    number-told _ _ _ _ _ _ _ _ (sized (r .before) _ _ (then-refused _ _ _ _ _ (r .judge-rows .ensures) (c .enum-told4 .given .1)))
+
+judge-landmarks-requires : tie.Need-judge-landmarks-requires
+judge-landmarks-requires c κs = search needs
+
+enum-told-5 : tie.Need-enum-told-5
+enum-told-5 c = search needs
+
+enum-told-6 : tie.Need-enum-told-6
+enum-told-6 c = search needs
+
+returns-3 : tie.Need-returns-3
+returns-3 c =
+    let l = c .before .before in
+    number-told _ _ _ _ _ _ _ _ (spaced (l .before) _ _ (then-refused _ _ _ _ _ (l .judge-landmarks .ensures) (c .enum-told6 .given .1)))
+
+is-in-requires : tie.Need-is-in-requires
+is-in-requires c κs = search needs
+
+returns-4 : tie.Need-returns-4
+returns-4 c =
+    let i = c .before in
+    number-told _ _ _ _ _ _ _ _ (listed (i .before) _ _ (if-refused _ _ _ _ (sym (ap not (i .is-in .ensures)) ∙ c .if1 .taken)))
+
+is-property-requires : tie.Need-is-property-requires
+is-property-requires c κs = search needs
+
+refuse-if-requires : tie.Need-refuse-if-requires
+refuse-if-requires c κs = search needs
+
+returns-5 : tie.Need-returns-5
+returns-5 c =
+    let e = c .before .before .before in
+    let i = e .before in
+    number-told _ _ _ _ _ _ _ _
+    (listed (i .before) _ _
+    (if-judged _ _ _ _ _ (sym (ap not (i .is-in .ensures)) ∙ e .if1 .left) (c .refuse-if .ensures ∙ ap (λ (b : Bool). refuseIf b 5 0) (flag (c .before)))))
+
+pub row-number-spec : {M : Type 1} → statement M
+row-number-spec =
+    tie.close
+    (tie.spec
+    judge-size-requires
+    enum-told
+    enum-told-2
+    returns
+    judge-rows-requires
+    enum-told-3
+    enum-told-4
+    returns-2
+    judge-landmarks-requires
+    enum-told-5
+    enum-told-6
+    returns-3
+    is-in-requires
+    returns-4
+    is-property-requires
+    refuse-if-requires
+    returns-5)

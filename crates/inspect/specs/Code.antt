@@ -1,0 +1,57 @@
+-- The program's replies, as document 01's: for each case of an enum the number and values that it stands for. Assumes nothing.
+--
+--   checking r                                        == the program's reply to a settled check as document 01's
+--   Written                                           == the reply to a landmark choice, written out: verdict, how many vertices, and
+--                                                        four places of which the unused are 0
+--   choosing r                                        == the program's reply to a landmark choice, so written
+--   written x                                         == document 01's reply x, so written; a refusal shows no vertex
+--   padded us                                         == the vertices us in the four places
+--   Holds us k xs                                     == xs are the four places with us in them, and k is how many
+--   Counted es ds                                     == word v of the list ds is the degree of v, for every v: it is 0 past the list
+--   insertAt i v us                                   == us with v put in at index i
+use mathlib.Core.Path.{_≡_}
+use mathlib.Core.List.{List, [], _∷_, _++_}
+use Prim.Native.Nat.{ℕ, _-_}
+use lib.ListN.{length, getD, take, drop, replicate}
+use Rattle.graph.specs.Limits.{maxLandmarks}
+use Rattle.graph.specs.Refusal.{Verdict, accept, refuse, Reply, accepted, refused}
+use Rattle.graph.specs.Edge.{Edge}
+use Rattle.graph.specs.Code.{told}
+use Rattle.inspect.specs.declared.Checked.{Checked}
+use Rattle.inspect.specs.declared.Checked.the-variants as checked
+use Rattle.inspect.specs.declared.Chosen.{Chosen}
+use Rattle.network.specs.Settled.{Check, settled, found}
+use Rattle.network.specs.Choice.{degree}
+
+unfoldable pub checking : Checked → Reply Check
+checking checked.Settled = accepted settled
+checking (checked.Found side r j) = accepted (found side r j)
+checking (checked.Refused k i) = refused k i
+
+-- ---- landmark choice
+
+pub record Written : Type 0 where
+  pub verdict : Verdict
+  pub count : ℕ
+  pub vertices : List ℕ
+
+abbrev pub padded : List ℕ → List ℕ
+padded us = us ++ replicate (maxLandmarks - length us) 0
+
+unfoldable pub written : Reply (List ℕ) → Written
+written (accepted us) = record { verdict = accept; count = length us; vertices = padded us }
+written (refused k i) = record { verdict = refuse k i; count = 0; vertices = padded [] }
+
+abbrev pub choosing : Chosen → Written
+choosing r = record { verdict = told (r .verdict); count = r .choice .count; vertices = r .choice .vertices }
+
+pub record Holds (us : List ℕ) (k : ℕ) (xs : List ℕ) : Type 0 where
+  pub count : k ≡ length us
+  pub words : xs ≡ padded us
+
+abbrev pub Counted : List Edge → List ℕ → Type 0
+Counted es ds = (v : ℕ) → getD ds v 0 ≡ degree es v
+
+abbrev pub insertAt : ℕ → ℕ → List ℕ → List ℕ
+insertAt i v us = take i us ++ v ∷ drop i us
+

@@ -1,0 +1,86 @@
+// Row look-up: one landmark row, shown as a part of the list that it belongs to.
+use graph::Judged;
+use graph::check;
+ghost use mathlib.Core.Path.{_≡_};
+ghost use Prim.Native.Nat.{_*_, _<_, _≤_};
+ghost use Rattle.graph.specs.Refusal.{replied};
+ghost use Rattle.graph.specs.Code.{told};
+ghost use Rattle.network.specs.Query.{rowAt};
+ghost use Rattle.network.specs.Lookup.{indexOf, lookupRow, lookupNumber};
+ghost use Rattle.calls.specs.Code.{rowLists};
+
+// Where `v` stands among the vertices; past them where it does not.
+pub fn index_of(v: u32, vertices: &[u32]) -> usize
+    ensures { λ r. ⌜ r ≡ indexOf v (now (vertices .entry)) ⌝ }
+{
+    let mut i = 0;
+    while i < vertices.len() {
+        if v == vertices[i] {
+            return i;
+        }
+        i += 1;
+    }
+    i
+}
+
+// Where the row of landmark `i` of the list and of a property starts in a row list.
+pub fn row_start(n: u32, i: usize, property: u32) -> usize
+    requires { ⌜ (n ≤ 256) × (i < 4) × (0 < property) × (property ≤ 5) ⌝ }
+    ensures { λ r. ⌜ r ≡ rowAt i property * n ⌝ }
+{
+    (i * 5 + (property as usize - 1)) * (n as usize)
+}
+
+// The number that a look-up is refused with.
+pub fn row_number(
+    n: u32,
+    landmarks: &[u32],
+    forward: &[u32],
+    backward: &[u32],
+    side: u32,
+    landmark: u32,
+    property: u32,
+) -> Judged
+    ensures { λ r. ⌜ replied (told r) tt ≡ lookupNumber n (now (landmarks .entry)) (rowLists (now (forward .entry)) (now (backward .entry))) side landmark property ⌝ }
+{
+    let size = check::judge_size(n);
+    let Judged::Fine = size else {
+        return size;
+    };
+    let rows = calls::judge_rows(n, landmarks, forward, backward);
+    let Judged::Fine = rows else {
+        return rows;
+    };
+    let list = calls::judge_landmarks(n, landmarks);
+    let Judged::Fine = list else {
+        return list;
+    };
+    if !calls::is_in(landmark, landmarks, 0) {
+        return Judged::Refused(3, 0);
+    }
+    check::refuse_if(!calls::is_property(property) || side > 1, 5, 0)
+}
+
+// The row of a side (0 forward, 1 backward), a landmark and a property; a refused look-up shows the empty part.
+pub fn row<'a>(
+    n: u32,
+    landmarks: &[u32],
+    forward: &'a [u32],
+    backward: &'a [u32],
+    side: u32,
+    landmark: u32,
+    property: u32,
+) -> &'a [u32]
+    ensures { λ r. ⌜ now r ≡ lookupRow n (now (landmarks .entry)) (rowLists (now (forward .entry)) (now (backward .entry))) side landmark property ⌝ }
+{
+    let number = row_number(n, landmarks, forward, backward, side, landmark, property);
+    let Judged::Fine = number else {
+        return &forward[0..0];
+    };
+    let start = row_start(n, index_of(landmark, landmarks), property);
+    let end = start + (n as usize);
+    if side == 0 {
+        return &forward[start..end];
+    }
+    &backward[start..end]
+}
