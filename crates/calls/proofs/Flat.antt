@@ -10,9 +10,9 @@ use lib.ListN.{length, take, drop, length-append}
 use lib.Seq.{paste, take-at, take-all, length-take-le}
 use borrow.Rule.Slice.PartMut.{putMid, mid-len}
 use Rattle.frontier.specs.Waiting.{anyOf}
-use Rattle.graph.specs.Refusal.{over}
 use Rattle.graph.specs.Edge.{range}
 use Rattle.run.specs.Run.{State}
+use Rattle.graph.specs.Refusal.{over}
 use Rattle.network.specs.Network.{flat, unsettled}
 use Rattle.calls.specs.Code.{IsRow, AreRows}
 
@@ -52,14 +52,14 @@ module _ (f : ℕ → State) where
   flat-snoc [] r = append-nil ((f r) .words)
   flat-snoc (x ∷ rs) r = ap (λ l. (f x) .words ++ l) (flat-snoc rs r) ∙ sym (append-assoc ((f x) .words) (flat (map f rs)) ((f r) .words))
 
-  restless-snoc : (rs : List ℕ) (r : ℕ) → unsettled (map f (rs ++ (r ∷ []))) ≡ (unsettled (map f rs) || anyOf ((f r) .waiting))
+  unsettled-snoc : (rs : List ℕ) (r : ℕ) → unsettled (map f (rs ++ (r ∷ []))) ≡ (unsettled (map f rs) || anyOf ((f r) .waiting))
   unfolding unsettled
-  restless-snoc [] r = pick (anyOf ((f r) .waiting))
+  unsettled-snoc [] r = pick (anyOf ((f r) .waiting))
     where
       pick : (b : Bool) → (b || false) ≡ b
       pick true = refl
       pick false = refl
-  restless-snoc (x ∷ rs) r = pick (anyOf ((f x) .waiting)) _ (unsettled (map f rs)) (anyOf ((f r) .waiting)) (restless-snoc rs r)
+  unsettled-snoc (x ∷ rs) r = pick (anyOf ((f x) .waiting)) _ (unsettled (map f rs)) (anyOf ((f r) .waiting)) (unsettled-snoc rs r)
     where
       pick : (b c d e : Bool) → c ≡ (d || e) → (b || c) ≡ ((b || d) || e)
       pick true c d e p = refl
@@ -67,33 +67,47 @@ module _ (f : ℕ → State) where
 
   -- ---- the loop that writes them: nothing at first, a row more at each turn, all in the end
 
-  pub rows-none : (n : ℕ) (xs : List ℕ) → AreRows (map f (range 0 0)) (take (0 * n) xs) false
-  unfolding flat unsettled range
-  rows-none n xs = record { words = rw zero-mul; waits = refl }
+  pub flat-none : (n : ℕ) (xs : List ℕ) → take (0 * n) xs ≡ flat (map f (range 0 0))
+  unfolding flat range
+  flat-none n xs = rw zero-mul
 
-  -- ys is put in the place of the k words from the row's start on
-  pub rows-turn : (n r k : ℕ) (xs ys : List ℕ) (b d : Bool) → r * n ≤ length xs → length ys ≡ n → AreRows (map f (range 0 r)) (take (r * n) xs) b → IsRow (f r) ys d
-      → AreRows (map f (range 0 (r + 1))) (take ((r + 1) * n) (putMid (r * n) k xs ys)) (b || d)
-  rows-turn n r k xs ys b d h l e q = record {
-    words =
+  pub unsettled-none : false ≡ unsettled (map f (range 0 0))
+  unfolding unsettled range
+  unsettled-none = refl
+
+  module _ (n r : ℕ) where
+    -- ys is put in the place of the k words from the row's start on
+    pub flat-turn : (k : ℕ) (xs ys : List ℕ) → r * n ≤ length xs → length ys ≡ n → take (r * n) xs ≡ flat (map f (range 0 r)) → ys ≡ (f r) .words
+        → take ((r + 1) * n) (putMid (r * n) k xs ys) ≡ flat (map f (range 0 (r + 1)))
+    flat-turn k xs ys h l e q =
         ap (take ((r + 1) * n)) (sym (append-assoc (take (r * n) xs) ys (drop k (drop (r * n) xs))))
         ∙ take-at (take (r * n) xs ++ ys) (drop k (drop (r * n) xs)) ((r + 1) * n) size
-        ∙ rw (e .words, q .words, range-suc r) (sym (flat-snoc (range 0 r) r));
-    waits = rw (e .waits, q .waits, range-suc r) (sym (restless-snoc (range 0 r) r));
-  }
-    where
-      size : length (take (r * n) xs ++ ys) ≡ (r + 1) * n
-      size =
-          let a = length-append (take (r * n) xs) ys in
-          let p = length-take-le (r * n) xs h in
-          let c = suc-mul r n in
-          rw add-one (omega arith)
+        ∙ rw (e, q, range-suc r) (sym (flat-snoc (range 0 r) r))
+      where
+        size : length (take (r * n) xs ++ ys) ≡ (r + 1) * n
+        size =
+            let a = length-append (take (r * n) xs) ys in
+            let b = length-take-le (r * n) xs h in
+            let c = suc-mul r n in
+            rw add-one (omega arith)
+
+    pub unsettled-turn : (b d : Bool) → b ≡ unsettled (map f (range 0 r)) → d ≡ anyOf ((f r) .waiting) → (b || d) ≡ unsettled (map f (range 0 (r + 1)))
+    unsettled-turn b d e q = rw (e, q, range-suc r) (sym (unsettled-snoc (range 0 r) r))
+
+  pub flat-done : (n r k : ℕ) (xs : List ℕ) → r ≡ k → length xs ≡ k * n → take (r * n) xs ≡ flat (map f (range 0 r)) → xs ≡ flat (map f (range 0 k))
+  flat-done n r k xs e l h = sym (take-all (k * n) xs (omega arith)) ∙ (rw e at h)
+
+  -- ---- the same of the words and of whether some vertex waits, together
+
+  pub rows-none : (n : ℕ) (xs : List ℕ) → AreRows (map f (range 0 0)) (take (0 * n) xs) false
+  rows-none n xs = record { words = flat-none n xs; waits = unsettled-none }
+
+  pub rows-turn : (n r k : ℕ) (xs ys : List ℕ) (b d : Bool) → r * n ≤ length xs → length ys ≡ n → AreRows (map f (range 0 r)) (take (r * n) xs) b → IsRow (f r) ys d
+      → AreRows (map f (range 0 (r + 1))) (take ((r + 1) * n) (putMid (r * n) k xs ys)) (b || d)
+  rows-turn n r k xs ys b d h l e q = record { words = flat-turn n r k xs ys h l (e .words) (q .words); waits = unsettled-turn n r b d (e .waits) (q .waits) }
 
   pub rows-done : (n r k : ℕ) (xs : List ℕ) (b : Bool) → r ≡ k → length xs ≡ k * n → AreRows (map f (range 0 r)) (take (r * n) xs) b → AreRows (map f (range 0 k)) xs b
-  rows-done n r k xs b e l h = record {
-    words = sym (take-all (k * n) xs (omega arith)) ∙ (rw e at (h .words));
-    waits = rw e at (h .waits);
-  }
+  rows-done n r k xs b e l h = record { words = flat-done n r k xs e l (h .words); waits = rw e at (h .waits) }
 
 -- ---- a whole list copied to the front of another
 

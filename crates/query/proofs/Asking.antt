@@ -89,7 +89,7 @@ module _ (P : Property) (f : ℕ → Landmark) (k t : ℕ) where
 abbrev pub startOf : Property → List Landmark → ℕ → ℕ → ℕ
 startOf P ls s t = cond (eqb t s) (P .start) (bound P ls t)
 
-module _ (P : Property) (ls : List Landmark) (s t : ℕ) {v : ℕ} where
+module _ (P : Property) (ls : List Landmark) (t s : ℕ) {v : ℕ} where
   pub start-source : t ≡ s → v ≡ P .start → v ≡ startOf P ls s t
   start-source e h = rw (eq-eqb t s e) h
 

@@ -1,25 +1,25 @@
--- A query's refusals: numbers 5 and 6, the chain with number 13 at its end, and what is known where none applies. Assumes nothing.
+-- A query's refusals: the chain with number 13 at its end, and what is known where none applies. Assumes nothing.
 use mathlib.Core.Path.{_≡_}
-use mathlib.Core.Bool.{not, _||_}
+use mathlib.Core.Bool.{not}
 use mathlib.Core.List.{List, [], _∷_}
-use Prim.Native.Nat.{ℕ, zero, suc, _*_, _<_, _≤_}
+use Prim.Native.Nat.{ℕ, zero, suc, _<_, _≤_}
 use native.Mathlib.Omega.{arith}
 use lib.ListN.{length, getD}
-use lib.Dec.{eqb, ltb, leb}
+use lib.Dec.{ltb, leb}
 use borrow.Author.Tests.{ltb-true, ltb-false, leb-true, not-false}
 use Rattle.property.specs.Property.{properties, isProperty}
 use Rattle.frontier.specs.Waiting.{anyOf}
-use Rattle.graph.specs.Limits.{maxVertices, maxEdges, maxLandmarks, maxSchedule}
+use Rattle.graph.specs.Limits.{maxEdges, maxSchedule}
 use Rattle.graph.specs.Refusal.{accept, _▷_, refuseIf}
 use Rattle.graph.specs.Table.{rules, size, shortTable, table}
-use Rattle.graph.specs.Code.{Room, columns}
+use Rattle.graph.specs.Code.{Room}
 use Rattle.graph.proofs.Tests.{both, neither}
 use Rattle.graph.proofs.Verdicts.{then-accept, if-accept}
 use Rattle.run.specs.Code.{Scheduled}
-use Rattle.network.specs.Network.{Network, edgesIn, areLandmarks, rowCount, shortRows, landmarks}
+use Rattle.network.specs.Network.{Network, edgesIn, shortRows, landmarks}
 use Rattle.network.specs.Query.{Query, Words, scheduled, atEnd, queryVerdict}
 use Rattle.query.specs.Code.{sizes, outputs, requested, faults, Rowed}
-use Rattle.calls.proofs.Judging.{then-assoc}
+use Rattle.calls.proofs.Judging.{then-assoc, size-accept, lengths-accept, rows-accept, landmarks-accept, table-accept}
 
 -- ---- number 13 comes last
 
@@ -28,12 +28,6 @@ pub faults-then : (n : ℕ) (ls : List ℕ) (w : Network) (q : Query) (out : Wor
 faults-then n ls w q out = simp then-assoc
 
 -- ---- what is known where none applies
-
-pub room-accept : (ts hs ws : List ℕ) → shortTable (columns ts hs ws) ≡ accept → Room maxEdges ts hs ws
-room-accept ts hs ws h =
-    let a = neither (ltb (length ts) maxEdges) (ltb (length hs) maxEdges || ltb (length ws) maxEdges) (if-accept _ 2 0 h) in
-    let b = neither (ltb (length hs) maxEdges) (ltb (length ws) maxEdges) (a .1) in
-    record { tails = ltb-false _ _ (a .0); heads = ltb-false _ _ (b .0); weights = ltb-false _ _ (b .1) }
 
 picks-accept : (n i : ℕ) (vs : List ℕ) → scheduled n i vs ≡ accept → (k : ℕ) → k < length vs → getD vs k 0 < n
 unfolding scheduled
@@ -60,32 +54,29 @@ module _ (n : ℕ) (ls : List ℕ) (w : Network) (q : Query) (x y : ℕ) where
       let b = then-accept (shortTable cs ▷ shortRows n ls xs) _ (a .1) in
       let c = then-accept (outputs n x y) _ (b .1) in
       let d = then-accept (landmarks n ls ▷ table n cs (w .count)) (requested n q) (c .1) in
-      let size = then-accept (size n) (refuseIf (ltb maxSchedule (length (q .schedule))) 1 0) (a .0) in
+      let first = then-accept (size n) (refuseIf (ltb maxSchedule (length (q .schedule))) 1 0) (a .0) in
       let short = then-accept (shortTable cs) (shortRows n ls xs) (b .0) in
       let held = then-accept (landmarks n ls) (table n cs (w .count)) (d .0) in
-      let rule = then-accept (refuseIf (ltb maxEdges (w .count)) 4 0) (rules n (edgesIn w)) (held .1) in
       let ask = then-accept (refuseIf (not (isProperty (q .property))) 5 0) _ (d .1) in
       let from = then-accept (refuseIf (not (ltb (q .source) n)) 6 0) (scheduled n 0 (q .schedule)) (ask .1) in
-      let few = neither (eqb n 0) (ltb maxVertices n) (if-accept _ 1 0 (size .0)) in
-      let row = neither (ltb (length (xs .forward)) (rowCount ls * n)) (ltb (length (xs .backward)) (rowCount ls * n)) (if-accept _ 2 0 (short .1)) in
+      let row = rows-accept n ls (xs .forward) (xs .backward) (short .1) in
       let out = neither (ltb x n) (ltb y n) (if-accept _ 2 0 (c .0)) in
-      let none = neither (eqb (length ls) 0) (ltb maxLandmarks (length ls) || not (areLandmarks n ls)) (if-accept _ 3 0 (held .0)) in
-      let many = neither (ltb maxLandmarks (length ls)) (not (areLandmarks n ls)) (none .1) in
+      let kept = table-accept n cs (w .count) (held .1) in
       let number = both (ltb 0 (q .property)) (leb (q .property) properties) (not-false _ (if-accept _ 5 0 (ask .0))) in
       record {
-        room = room-accept (cs .tails) (cs .heads) (cs .weights) (short .0);
-        records = ltb-false _ _ (if-accept _ 4 0 (rule .0));
-        rules = rule .1;
+        room = lengths-accept (cs .tails) (cs .heads) (cs .weights) (short .0);
+        records = kept .0;
+        rules = kept .1;
         rows = record {
-          few = ltb-false _ _ (few .1);
-          landmarks = ltb-false _ _ (many .0);
+          few = size-accept n (first .0) .1;
+          landmarks = landmarks-accept n ls (held .0) .0;
           first = ltb-true _ _ (number .0);
           last = leb-true _ _ (number .1);
           source = ltb-true _ _ (not-false _ (if-accept _ 6 0 (from .0)));
-          forward = ltb-false _ _ (row .0);
-          backward = ltb-false _ _ (row .1);
+          forward = row .0;
+          backward = row .1;
         };
-        schedule = record { few = ltb-false _ _ (if-accept _ 1 0 (size .1)); inside = picks-accept n 0 (q .schedule) (from .1) };
+        schedule = record { few = ltb-false _ _ (if-accept _ 1 0 (first .1)); inside = picks-accept n 0 (q .schedule) (from .1) };
         starts = ltb-false _ _ (out .0);
         settled = ltb-false _ _ (out .1);
       }

@@ -1,7 +1,7 @@
 -- What the functions of a query take and answer. Assumes nothing.
 --
 --   asking p s vs             == numbers and a schedule as a query
---   wordsOf xs ys           == two lists as those lent for the answer
+--   wordsOf xs ys             == two lists as those lent for the answer
 --   answering r               == the program's reply as document 01's
 --   asOutcome r xs ys         == the program's reply r and the two lists at exit, as an outcome
 --   sizes n k                 == number 1: of n vertices, and of a schedule of k entries

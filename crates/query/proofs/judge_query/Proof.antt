@@ -1,7 +1,6 @@
 -- `network::query::judge_query` meets its contract. Assumes nothing.
 use Rattle.graph.proofs.Verdicts.{then-accept}
-use Rattle.calls.proofs.Judging.{then-refused, then-judged, fine-accept}
-use Rattle.query.proofs.AskingFaults.{room-accept}
+use Rattle.calls.proofs.Judging.{then-refused, then-judged, fine-accept, lengths-accept}
 use borrow.Author.Needs.{needs}
 use Rattle.query.proofs.judge_query.Statement.{statement}
 use Rattle.query.proofs.judge_query.Tie as tie
@@ -54,7 +53,7 @@ judge-network-requires : tie.Need-judge-network-requires
 judge-network-requires c κs =
     let l = c .before .before .before in
     let a = l .before .before .before .before .before .before .before .before .before .before .before .before .before .args in
-    room-accept (a .tails .now) (a .heads .now) (a .weights .now) ((then-accept _ _ (fine-accept _ _ (l .before .before .judge-lists .ensures) (l .enum-told3 .given .1))) .0)
+    lengths-accept (a .tails .now) (a .heads .now) (a .weights .now) ((then-accept _ _ (fine-accept _ _ (l .before .before .judge-lists .ensures) (l .enum-told3 .given .1))) .0)
 
 enum-told-7 : tie.Need-enum-told-7
 enum-told-7 c = search needs

@@ -11,10 +11,10 @@ bound-requires : tie.Need-bound-requires
 bound-requires c κs = search needs
 
 returns : tie.Need-returns
-returns c = start-source _ _ _ _ (c .before .if1 .taken) (c .start .ensures)
+returns c = let a = c .before .before .before .before .before .args in start-source _ _ (a .t) (a .source) (c .before .if1 .taken) (c .start .ensures)
 
 returns-2 : tie.Need-returns-2
-returns-2 c = start-other _ _ _ _ (c .before .if1 .left) (c .bound .ensures)
+returns-2 c = let a = c .before .before .before .before .before .args in start-other _ _ (a .t) (a .source) (c .before .if1 .left) (c .bound .ensures)
 
 pub start-word-spec : {M : Type 1} → statement M
 start-word-spec = tie.close (tie.spec start-requires bound-requires returns returns-2)

@@ -1,0 +1,112 @@
+-- One row of a batch as its functions leave it, and a table that is written over another. Assumes nothing.
+use mathlib.Core.Path.{_≡_, refl, sym, ap, _∙_}
+use mathlib.Core.Bool.{Bool}
+use mathlib.Core.List.{List, [], _∷_, _++_, map, append-assoc}
+use Prim.Native.Nat.{ℕ, zero, suc, _+_, _-_, _*_, _/_, _%_, _≤_, _<_}
+use native.Mathlib.Nat.{zero-add}
+use native.Mathlib.Numerals.{add-one}
+use native.Mathlib.Omega.{arith}
+use lib.ListN.{length, getD, take, drop, replicate, length-append, length-replicate}
+use lib.Seq.{paste, length-paste, take-at, drop-at, drop-drop, length-take-le}
+use borrow.Rule.Slice.PartMut.{midOf, putMid, mid-len}
+use Rattle.property.specs.Property.{property}
+use Rattle.frontier.specs.Waiting.{waitingOf, anyOf, countOf}
+use Rattle.frontier.proofs.Counts.{count-le}
+use Rattle.graph.specs.Limits.{maxVertices, maxEdges}
+use Rattle.graph.specs.Refusal.{over}
+use Rattle.graph.specs.Edge.{Edge, edge, zip, edges}
+use Rattle.graph.specs.Code.{Room, columns}
+use Rattle.graph.proofs.Records.{edges-length, edges-tails, edges-heads}
+use Rattle.run.specs.declared.Tally.{Tally}
+use Rattle.run.specs.Run.{State, settle, noTally}
+use Rattle.run.specs.Code.{bits, noCounts, state, Held, Sized, Ran}
+use Rattle.run.proofs.States.{bits-any}
+use Rattle.affected.specs.Affected.{affected}
+use Rattle.affected.specs.Prepared.{prepared}
+use Rattle.affected.specs.Code.{Marks}
+use Rattle.affected.proofs.Sweeps.{affected-length}
+use Rattle.batch.specs.declared.Rowed.{Rowed}
+use Rattle.network.specs.Network.{landmarkOf, propertyOf}
+use Rattle.network.specs.Batch.{rewritten}
+use Rattle.batch.specs.Code.{rowAffected, rowEnd, RowDone}
+
+-- ---- a list of words over another
+
+-- new words to the front of a list, and zeros behind them up to 2,048
+pub words-written : (m : ℕ) (new old xs ys : List ℕ) → m ≤ maxEdges → m ≤ length new → maxEdges ≤ length old
+    → xs ≡ paste old 0 new m → ys ≡ replicate (length (midOf m (maxEdges - m) xs)) 0
+    → putMid m (maxEdges - m) xs ys ≡ over (take m new ++ replicate (maxEdges - m) 0) old
+words-written m new old xs ys l h k d e =
+    rw (e, d, middle, take-at (take m new) (drop (0 + m) old) m front, drop-at (take m new) (drop (0 + m) old) m front, past, total)
+    (sym (append-assoc (take m new) (replicate (maxEdges - m) 0) (drop maxEdges old)))
+  where
+    front : length (take m new) ≡ m
+    front = length-take-le m new h
+
+    middle : length (midOf m (maxEdges - m) (paste old 0 new m)) ≡ maxEdges - m
+    middle =
+        let z = length-paste old 0 new m (omega arith) h in
+        mid-len m maxEdges (paste old 0 new m) (omega arith)
+
+    past : drop (maxEdges - m) (drop (0 + m) old) ≡ drop maxEdges old
+    past =
+        let z : 0 + m + (maxEdges - m) ≡ maxEdges = omega arith in
+        drop-drop (maxEdges - m) (0 + m) old ∙ ap (λ (i : ℕ). drop i old) z
+
+    total : length (take m new ++ replicate (maxEdges - m) 0) ≡ maxEdges
+    total =
+        let y = front in
+        let z = length-replicate {A = ℕ} (maxEdges - m) 0 in
+        length-append (take m new) (replicate (maxEdges - m) 0) ∙ omega arith
+
+-- ---- the three lists of a table
+
+zip-weights : (m : ℕ) (ts hs ws : List ℕ) → length ts ≡ m → length hs ≡ m → length ws ≡ m → map (λ e. e .weight) (zip ts hs ws) ≡ ws
+unfolding zip
+zip-weights m [] hs [] a b c = refl
+zip-weights m [] hs (w ∷ ws) a b c = absurd (omega arith)
+zip-weights m (t ∷ ts) [] ws a b c = absurd (omega arith)
+zip-weights m (t ∷ ts) (h ∷ hs) [] a b c = absurd (omega arith)
+zip-weights zero (t ∷ ts) (h ∷ hs) (w ∷ ws) a b c = absurd (omega arith)
+zip-weights (suc m) (t ∷ ts) (h ∷ hs) (w ∷ ws) a b c = ap (λ (l : List ℕ). w ∷ l) (zip-weights m ts hs ws (omega arith) (omega arith) (omega arith))
+
+module _ (ts hs ws : List ℕ) (m : ℕ) (r : Room m ts hs ws) where
+  edges-weights : map (λ e. e .weight) (edges ts hs ws m) ≡ take m ws
+  unfolding edges
+  edges-weights = zip-weights m (take m ts) (take m hs) (take m ws) (length-take-le m ts (r .tails)) (length-take-le m hs (r .heads)) (length-take-le m ws (r .weights))
+
+  pub table-written : (a b c : List ℕ) {x y z : List ℕ} → x ≡ over (take m ts ++ replicate (maxEdges - m) 0) a
+      → y ≡ over (take m hs ++ replicate (maxEdges - m) 0) b → z ≡ over (take m ws ++ replicate (maxEdges - m) 0) c
+      → columns x y z ≡ rewritten (edges ts hs ws m) (columns a b c)
+  table-written a b c p q s =
+      rw (edges-length ts hs ws m r, edges-tails ts hs ws m r, edges-heads ts hs ws m r, edges-weights) (λ i. columns (p i) (q i) (s i))
+
+-- ---- a row
+
+-- row r is prepared, and then settled
+module _ (n r : ℕ) (ls : List ℕ) (es fs : List Edge) (vs ws bs ws′ bs′ : List ℕ) (t : Tally)
+    (start : _≡_ {A = State} (record { words = ws; waiting = bits n bs; tally = noTally }) (prepared (property (r % 5 + 1)) es fs (getD ls (r / 5) 0) vs n))
+    (run : state n ws′ bs′ t ≡ settle (property (r % 5 + 1)) fs n n (state n ws bs noCounts)) where
+  row-run : state n ws′ bs′ t ≡ rowEnd n ls es fs vs r
+  row-run = run ∙ rw (start, add-one)
+
+  pub row-done : (a : Rowed) → n ≤ maxVertices → Ran n ws′ bs′ noCounts t 0 n 134217728
+      → a .unsettled ≡ anyOf (waitingOf bs′) → a .affected ≡ countOf (affected (property (r % 5 + 1)) es fs (getD ls (r / 5) 0) vs n) → a .stores ≡ t .stores
+      → RowDone n ls es fs vs r ws′ a
+  row-done a few ran u c s = record {
+    words = ap (λ st. st .words) row-run;
+    unsettled = u ∙ (sym (bits-any n bs′ (ran .sized .waiting)) ∙ ap (λ st. anyOf (st .waiting)) row-run);
+    affected = c ∙ counted;
+    stores = s ∙ ap (λ st. st .tally .stores) row-run;
+    few = low;
+    low = (let z : t .stores ≤ 0 + 134217728 = ran .stores in omega arith);
+  }
+    where
+      counted : countOf (affected (property (r % 5 + 1)) es fs (getD ls (r / 5) 0) vs n) ≡ countOf (rowAffected n ls es fs vs r)
+      counted = rw add-one
+
+      low : a .affected ≤ maxVertices
+      low =
+          let x = count-le (affected (property (r % 5 + 1)) es fs (getD ls (r / 5) 0) vs n) in
+          let y = affected-length (property (r % 5 + 1)) es fs (getD ls (r / 5) 0) vs n in
+          omega arith

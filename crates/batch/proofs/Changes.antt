@@ -1,0 +1,122 @@
+-- The table through a batch: accepted changes keep its rules and the limit of 2,048 edges, and what a batch writes into its lists is read
+-- back as the new edges. Assumes nothing.
+use mathlib.Core.Path.{_≡_, refl, ap, _∙_}
+use mathlib.Core.Bool.{Bool, true, false, not, _&&_, _||_, cond}
+use mathlib.Core.List.{List, [], _∷_, _++_, map, append-assoc}
+use Prim.Native.Nat.{ℕ, zero, suc, _-_, _≤_, _<_}
+use native.Mathlib.Omega.{arith}
+use lib.ListN.{length, drop, replicate, length-append, length-drop, length-map, length-replicate}
+use lib.Dec.{ltb, eqb}
+use borrow.Author.Tests.{ltb-true, ltb-false, le-ltb, not-false}
+use Rattle.graph.specs.Limits.{maxEdges}
+use Rattle.graph.specs.Refusal.{accept, refuseIf, over}
+use Rattle.graph.specs.Edge.{Edge, present, zip, edges}
+use Rattle.graph.specs.Table.{Columns, edgesOf, isWeight, rules, shortTable, table, insert, delete}
+use Rattle.graph.proofs.Tests.{both, and-true, neither}
+use Rattle.graph.proofs.Verdicts.{then-accept, accept-then, if-accept, accept-if}
+use Rattle.graph.proofs.Order.{Sound, rules-accept, accept-rules, insert-sound, delete-sound, length-insert, length-delete}
+use Rattle.network.specs.Change.{Change, named, inserts, edit, edits, item, items}
+use Rattle.network.specs.Batch.{column, rewritten}
+
+-- ---- the rules through changes
+
+-- An accepted item that inserts names an edge, by numbers 6, 8 and 9, whose pair is not there, by 10, while fewer than 2,048 edges are
+-- there, by 12. Put in at its place it keeps the order, and one more edge is at most 2,048. An item that deletes strikes an edge, or
+-- none: that keeps the order too, and adds nothing.
+pub item-good : (n i : ℕ) (es : List Edge) (c : Change) → item n i es c ≡ accept → Sound n es → length es ≤ maxEdges
+    → Sound n (edit es c) × (length (edit es c) ≤ maxEdges)
+unfolding item edit
+item-good n i es c h s l =
+    let a = then-accept (refuseIf (not (ltb (c .tail) n && ltb (c .head) n)) 6 i) _ h in
+    let b = then-accept (refuseIf (not (inserts c || eqb (c .kind) 2)) 7 i) _ (a .1) in
+    let d = then-accept (refuseIf (eqb (c .tail) (c .head)) 8 i) _ (b .1) in
+    let e = then-accept (refuseIf (not (cond (inserts c) (isWeight (c .weight)) (eqb (c .weight) 0))) 9 i) _ (d .1) in
+    let f = then-accept (refuseIf (inserts c && present es (named c)) 10 i) _ (e .1) in
+    let g = then-accept (refuseIf (not (inserts c) && not (present es (named c))) 11 i) (refuseIf (inserts c && full) 12 i) (f .1) in
+    let z = both (ltb (c .tail) n) (ltb (c .head) n) (not-false _ (if-accept _ _ _ (a .0))) in
+    pick (inserts c) z (if-accept _ _ _ (d .0)) (not-false _ (if-accept _ _ _ (e .0))) (if-accept _ _ _ (f .0)) (if-accept _ _ _ (g .1))
+  where
+    full : Bool
+    full = not (ltb (length es) maxEdges)
+
+    pick : (k : Bool) → (ltb (c .tail) n ≡ true) × (ltb (c .head) n ≡ true) → eqb (c .tail) (c .head) ≡ false
+        → cond k (isWeight (c .weight)) (eqb (c .weight) 0) ≡ true → (k && present es (named c)) ≡ false → (k && full) ≡ false
+        → Sound n (cond k (insert (named c) es) (delete (named c) es))
+        × (length (cond k (insert (named c) es) (delete (named c) es)) ≤ maxEdges)
+    pick true v w x y z =
+        let q : length es < maxEdges = ltb-true _ _ (not-false _ z) in
+        let r = length-insert (named c) es in
+        (insert-sound n (named c) es s (and-true (v .0) (and-true (v .1) (and-true (ap not w) x))) y, omega arith)
+    pick false v w x y z = let r = length-delete (named c) es in (delete-sound n (named c) es s, omega arith)
+
+-- item after item
+pub items-good : (n i : ℕ) (es : List Edge) (cs : List Change) → items n i es cs ≡ accept → Sound n es → length es ≤ maxEdges
+    → Sound n (edits es cs) × (length (edits es cs) ≤ maxEdges)
+unfolding items
+items-good n i es [] h s l = (s, l)
+items-good n i es (c ∷ cs) h s l =
+    let z = then-accept (item n i es c) (items n (suc i) (edit es c) cs) h in
+    let y = item-good n i es c (z .0) s l in
+    items-good n (suc i) (edit es c) cs (z .1) (y .0) (y .1)
+
+-- ---- what numbers 2 and 4 say
+
+table-long : (cs : Columns) → shortTable cs ≡ accept
+    → (maxEdges ≤ length (cs .tails)) × (maxEdges ≤ length (cs .heads)) × (maxEdges ≤ length (cs .weights))
+table-long cs h =
+    let a = neither (ltb (length (cs .tails)) maxEdges) _ (if-accept _ _ _ h) in
+    let b = neither (ltb (length (cs .heads)) maxEdges) (ltb (length (cs .weights)) maxEdges) (a .1) in
+    (ltb-false _ _ (a .0), ltb-false _ _ (b .0), ltb-false _ _ (b .1))
+
+pub table-accept : (n : ℕ) (cs : Columns) (m : ℕ) → table n cs m ≡ accept → (m ≤ maxEdges) × Sound n (edgesOf cs m)
+table-accept n cs m h =
+    let z = then-accept (refuseIf (ltb maxEdges m) 4 0) (rules n (edgesOf cs m)) h in
+    (ltb-false _ _ (if-accept _ _ _ (z .0)), rules-accept n (edgesOf cs m) (z .1))
+
+pub accept-table : (n : ℕ) (cs : Columns) (m : ℕ) → m ≤ maxEdges → Sound n (edgesOf cs m) → table n cs m ≡ accept
+accept-table n cs m h s = accept-then (accept-if 4 0 (le-ltb _ _ h)) ∙ accept-rules n (edgesOf cs m) s
+
+-- ---- as many edges as the count says
+
+length-edges : (m : ℕ) (ts hs ws : List ℕ) → m ≤ length ts → m ≤ length hs → m ≤ length ws → length (edges ts hs ws m) ≡ m
+unfolding edges zip
+length-edges zero ts hs ws a b c = refl
+length-edges (suc m) [] hs ws a b c = absurd (omega arith)
+length-edges (suc m) (t ∷ ts) [] ws a b c = absurd (omega arith)
+length-edges (suc m) (t ∷ ts) (h ∷ hs) [] a b c = absurd (omega arith)
+length-edges (suc m) (t ∷ ts) (h ∷ hs) (w ∷ ws) a b c = ap suc (length-edges m ts hs ws (omega arith) (omega arith) (omega arith))
+
+pub table-count : (cs : Columns) (m : ℕ) → shortTable cs ≡ accept → m ≤ maxEdges → length (edgesOf cs m) ≡ m
+table-count cs m h l =
+    let z = table-long cs h in
+    length-edges m (cs .tails) (cs .heads) (cs .weights) (omega (arith, z .0)) (omega (arith, z .1)) (omega (arith, z .2))
+
+-- ---- the table after a batch
+
+pub length-over : (new old : List ℕ) → length new ≤ length old → length (over new old) ≡ length old
+length-over new old h = length-append new (drop (length new) old) ∙ (let e = length-drop (length new) old in omega arith)
+
+-- edges that stand in three lists are read from them, whatever follows
+edges-back : (fs : List Edge) (a b c : List ℕ)
+    → edges (map (λ e. e .tail) fs ++ a) (map (λ e. e .head) fs ++ b) (map (λ e. e .weight) fs ++ c) (length fs) ≡ fs
+unfolding edges zip
+edges-back [] a b c = refl
+edges-back (e ∷ fs) a b c = ap (λ l. e ∷ l) (edges-back fs a b c)
+
+pub rewritten-edges : (fs : List Edge) (cs : Columns) → edgesOf (rewritten fs cs) (length fs) ≡ fs
+rewritten-edges fs cs =
+    rw (append-assoc (map (λ x. x .tail) fs), append-assoc (map (λ x. x .head) fs), append-assoc (map (λ x. x .weight) fs)) (edges-back fs _ _ _)
+
+module _ (fs : List Edge) (few : length fs ≤ maxEdges) where
+  length-column : (f : Edge → ℕ) → length (column f fs) ≡ maxEdges
+  length-column f = length-append (map f fs) (replicate (maxEdges - length fs) 0)
+      ∙ (let p = length-map fs f in let q = length-replicate {A = ℕ} (maxEdges - length fs) 0 in omega arith)
+
+  column-kept : (f : Edge → ℕ) (xs : List ℕ) → maxEdges ≤ length xs → length (over (column f fs) xs) ≡ length xs
+  column-kept f xs h = length-over (column f fs) xs (rw (length-column f) h)
+
+  -- its lists are as long as before
+  pub rewritten-long : (cs : Columns) → shortTable cs ≡ accept → shortTable (rewritten fs cs) ≡ accept
+  rewritten-long cs h =
+      let z = table-long cs h in
+      rw (column-kept (λ e. e .tail) (cs .tails) (z .0), column-kept (λ e. e .head) (cs .heads) (z .1), column-kept (λ e. e .weight) (cs .weights) (z .2)) h

@@ -1,0 +1,6 @@
+pub mod Changes
+pub mod Editing
+pub mod Batching
+pub mod BatchingRows
+pub mod BatchingSides
+pub mod BatchingCall

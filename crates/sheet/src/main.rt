@@ -1,0 +1,244 @@
+// A field engineer's sheet: a small network through the calls. It is opened and asked, loses the edge 0→1 and gets it back, is
+// handed a batch with one bad change among ten, and is asked from a vertex that was never used before, also with a schedule.
+use batch::Applied;
+use open::Opened;
+use query::Answered;
+
+// The names of the five properties, as they are printed.
+fn print_property(p: u32) {
+    match p {
+        1 => {
+            io::write_all(1, b"time");
+        }
+        2 => {
+            io::write_all(1, b"handovers");
+        }
+        3 => {
+            io::write_all(1, b"headroom");
+        }
+        4 => {
+            io::write_all(1, b"worst");
+        }
+        _ => {
+            io::write_all(1, b"reach");
+        }
+    }
+}
+
+fn print_number(v: u64) {
+    io::write_all(1, b" ");
+    io::number::print_decimal(1, v);
+}
+
+fn print_words(words: &[u32; 4]) {
+    let mut i = 0;
+    while i < 4 {
+        print_number(words[i] as u64);
+        i += 1;
+    }
+}
+
+fn print_refusal(number: u32, place: usize) {
+    io::write_all(1, b"refused");
+    print_number(number as u64);
+    print_number(place as u64);
+    io::write_all(1, b"\n");
+}
+
+// Asks for one property from one vertex, and prints the settled words and the tally.
+fn ask(
+    property: u32,
+    source: u32,
+    schedule: &[u32],
+    tails: &[u32],
+    heads: &[u32],
+    weights: &[u32],
+    count: u32,
+    forward: &[u32],
+    backward: &[u32],
+) {
+    let landmarks = [0u32];
+    let mut starts = [0u32; 4];
+    let mut settled = [0u32; 4];
+    let answer = query::query(
+        4,
+        &landmarks,
+        tails,
+        heads,
+        weights,
+        count,
+        forward,
+        backward,
+        property,
+        source,
+        schedule,
+        &mut starts,
+        &mut settled,
+    );
+    match answer {
+        Answered::Settled(t) => {
+            io::write_all(1, b"from");
+            print_number(source as u64);
+            io::write_all(1, b" ");
+            print_property(property);
+            print_words(&settled);
+            io::write_all(1, b", taken");
+            print_number(t.taken);
+            io::write_all(1, b" rounds");
+            print_number(t.rounds);
+            io::write_all(1, b" stores");
+            print_number(t.stores);
+            io::write_all(1, b"\n");
+        }
+        Answered::Refused(number, place) => print_refusal(number, place),
+    }
+}
+
+// Hands in a batch, prints its report or refusal, and answers the present count.
+fn change(
+    kinds: &[u32],
+    froms: &[u32],
+    tos: &[u32],
+    values: &[u32],
+    tails: &mut [u32],
+    heads: &mut [u32],
+    weights: &mut [u32],
+    count: u32,
+    forward: &mut [u32],
+    backward: &mut [u32],
+) -> u32 {
+    let landmarks = [0u32];
+    let applied = batch::batch(
+        4,
+        &landmarks,
+        tails,
+        heads,
+        weights,
+        count,
+        forward,
+        backward,
+        kinds,
+        froms,
+        tos,
+        values,
+    );
+    match applied {
+        Applied::Done(report) => {
+            io::write_all(1, b"count");
+            print_number(report.count as u64);
+            io::write_all(1, b" suspects");
+            print_number(report.affected);
+            io::write_all(1, b" stores");
+            print_number(report.stores);
+            io::write_all(1, b"\n");
+            report.count
+        }
+        Applied::Refused(number, place) => {
+            print_refusal(number, place);
+            count
+        }
+    }
+}
+
+fn main() {
+    let mut tails = [0u32; 2048];
+    let mut heads = [0u32; 2048];
+    let mut weights = [0u32; 2048];
+    tails[2] = 1;
+    tails[3] = 2;
+    tails[4] = 3;
+    heads[0] = 1;
+    heads[1] = 3;
+    heads[2] = 2;
+    heads[3] = 1;
+    heads[4] = 2;
+    weights[0] = 4;
+    weights[1] = 9;
+    weights[2] = 4;
+    weights[3] = 4;
+    weights[4] = 2;
+    let mut forward = [0u32; 20];
+    let mut backward = [0u32; 20];
+    sheet(
+        &mut tails,
+        &mut heads,
+        &mut weights,
+        &mut forward,
+        &mut backward,
+    );
+}
+
+// The sheet of a network of 4 vertices and 5 edges, with vertex 0 as its landmark.
+fn sheet(
+    tails: &mut [u32],
+    heads: &mut [u32],
+    weights: &mut [u32],
+    forward: &mut [u32],
+    backward: &mut [u32],
+) {
+    let landmarks = [0u32];
+    let none = [0u32; 0];
+    let opened = open::open(
+        4, &landmarks, tails, heads, weights, 5, forward, backward,
+    );
+    match opened {
+        Opened::Accepted => {
+            io::write_all(1, b"opened\n");
+        }
+        Opened::Refused(number, place) => print_refusal(number, place),
+    }
+    let mut count = 5;
+    let mut p = 1;
+    while p <= 5 {
+        ask(p, 0, &none, tails, heads, weights, count, forward, backward);
+        p += 1;
+    }
+    io::write_all(1, b"take 0 1: ");
+    count = change(
+        &[2],
+        &[0],
+        &[1],
+        &[0],
+        tails,
+        heads,
+        weights,
+        count,
+        forward,
+        backward,
+    );
+    ask(1, 0, &none, tails, heads, weights, count, forward, backward);
+    ask(3, 0, &none, tails, heads, weights, count, forward, backward);
+    io::write_all(1, b"add 0 1 4: ");
+    count = change(
+        &[1],
+        &[0],
+        &[1],
+        &[4],
+        tails,
+        heads,
+        weights,
+        count,
+        forward,
+        backward,
+    );
+    ask(1, 0, &none, tails, heads, weights, count, forward, backward);
+    io::write_all(1, b"ten changes: ");
+    count = change(
+        &[1, 1, 1, 1, 1, 1, 2, 1, 2, 2],
+        &[1, 1, 2, 2, 3, 3, 0, 0, 0, 3],
+        &[0, 3, 0, 3, 0, 1, 2, 2, 3, 2],
+        &[5, 6, 7, 8, 1, 2, 0, 3, 0, 0],
+        tails,
+        heads,
+        weights,
+        count,
+        forward,
+        backward,
+    );
+    ask(1, 0, &none, tails, heads, weights, count, forward, backward);
+    ask(1, 3, &none, tails, heads, weights, count, forward, backward);
+    let jumbled = [2u32, 3, 1, 3, 2];
+    ask(
+        1, 3, &jumbled, tails, heads, weights, count, forward, backward,
+    );
+}
