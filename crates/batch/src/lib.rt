@@ -2,11 +2,11 @@
 // can refuse any more.
 pub mod items;
 
-use items::Edited;
 use graph::Judged;
 use graph::check;
 use graph::index;
 use graph::words;
+use items::Edited;
 use run::Tally;
 ghost use mathlib.Core.Path.{_≡_};
 ghost use mathlib.Core.List.{_++_, map};

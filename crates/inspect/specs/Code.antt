@@ -54,4 +54,3 @@ Counted es ds = (v : ℕ) → getD ds v 0 ≡ degree es v
 
 abbrev pub insertAt : ℕ → ℕ → List ℕ → List ℕ
 insertAt i v us = take i us ++ v ∷ drop i us
-

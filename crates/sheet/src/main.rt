@@ -27,15 +27,18 @@ fn print_property(p: u32) {
 
 fn print_number(v: u64) {
     io::write_all(1, b" ");
-    io::number::print_decimal(1, v);
+    io::print_decimal(1, v);
 }
 
-fn print_words(words: &[u32; 4]) {
-    let mut i = 0;
-    while i < 4 {
-        print_number(words[i] as u64);
-        i += 1;
-    }
+fn print_word(v: u32) {
+    print_number(v as u64);
+}
+
+fn print_words(words: [u32; 4]) {
+    print_word(words[0]);
+    print_word(words[1]);
+    print_word(words[2]);
+    print_word(words[3]);
 }
 
 fn print_refusal(number: u32, place: usize) {
@@ -50,12 +53,12 @@ fn ask(
     property: u32,
     source: u32,
     schedule: &[u32],
-    tails: &[u32],
-    heads: &[u32],
-    weights: &[u32],
+    tails: &[u32; 2048],
+    heads: &[u32; 2048],
+    weights: &[u32; 2048],
     count: u32,
-    forward: &[u32],
-    backward: &[u32],
+    forward: &[u32; 20],
+    backward: &[u32; 20],
 ) {
     let landmarks = [0u32];
     let mut starts = [0u32; 4];
@@ -81,7 +84,7 @@ fn ask(
             print_number(source as u64);
             io::write_all(1, b" ");
             print_property(property);
-            print_words(&settled);
+            print_words(settled);
             io::write_all(1, b", taken");
             print_number(t.taken);
             io::write_all(1, b" rounds");
@@ -100,12 +103,12 @@ fn change(
     froms: &[u32],
     tos: &[u32],
     values: &[u32],
-    tails: &mut [u32],
-    heads: &mut [u32],
-    weights: &mut [u32],
+    tails: &mut [u32; 2048],
+    heads: &mut [u32; 2048],
+    weights: &mut [u32; 2048],
     count: u32,
-    forward: &mut [u32],
-    backward: &mut [u32],
+    forward: &mut [u32; 20],
+    backward: &mut [u32; 20],
 ) -> u32 {
     let landmarks = [0u32];
     let applied = batch::batch(
@@ -159,27 +162,17 @@ fn main() {
     weights[4] = 2;
     let mut forward = [0u32; 20];
     let mut backward = [0u32; 20];
-    sheet(
-        &mut tails,
-        &mut heads,
-        &mut weights,
-        &mut forward,
-        &mut backward,
-    );
-}
-
-// The sheet of a network of 4 vertices and 5 edges, with vertex 0 as its landmark.
-fn sheet(
-    tails: &mut [u32],
-    heads: &mut [u32],
-    weights: &mut [u32],
-    forward: &mut [u32],
-    backward: &mut [u32],
-) {
     let landmarks = [0u32];
     let none = [0u32; 0];
     let opened = open::open(
-        4, &landmarks, tails, heads, weights, 5, forward, backward,
+        4,
+        &landmarks,
+        &tails,
+        &heads,
+        &weights,
+        5,
+        &mut forward,
+        &mut backward,
     );
     match opened {
         Opened::Accepted => {
@@ -188,57 +181,165 @@ fn sheet(
         Opened::Refused(number, place) => print_refusal(number, place),
     }
     let mut count = 5;
-    let mut p = 1;
-    while p <= 5 {
-        ask(p, 0, &none, tails, heads, weights, count, forward, backward);
-        p += 1;
-    }
+    ask(
+        1,
+        0,
+        &none,
+        &tails,
+        &heads,
+        &weights,
+        count,
+        &forward,
+        &backward,
+    );
+    ask(
+        2,
+        0,
+        &none,
+        &tails,
+        &heads,
+        &weights,
+        count,
+        &forward,
+        &backward,
+    );
+    ask(
+        3,
+        0,
+        &none,
+        &tails,
+        &heads,
+        &weights,
+        count,
+        &forward,
+        &backward,
+    );
+    ask(
+        4,
+        0,
+        &none,
+        &tails,
+        &heads,
+        &weights,
+        count,
+        &forward,
+        &backward,
+    );
+    ask(
+        5,
+        0,
+        &none,
+        &tails,
+        &heads,
+        &weights,
+        count,
+        &forward,
+        &backward,
+    );
     io::write_all(1, b"take 0 1: ");
     count = change(
         &[2],
         &[0],
         &[1],
         &[0],
-        tails,
-        heads,
-        weights,
+        &mut tails,
+        &mut heads,
+        &mut weights,
         count,
-        forward,
-        backward,
+        &mut forward,
+        &mut backward,
     );
-    ask(1, 0, &none, tails, heads, weights, count, forward, backward);
-    ask(3, 0, &none, tails, heads, weights, count, forward, backward);
+    ask(
+        1,
+        0,
+        &none,
+        &tails,
+        &heads,
+        &weights,
+        count,
+        &forward,
+        &backward,
+    );
+    ask(
+        3,
+        0,
+        &none,
+        &tails,
+        &heads,
+        &weights,
+        count,
+        &forward,
+        &backward,
+    );
     io::write_all(1, b"add 0 1 4: ");
     count = change(
         &[1],
         &[0],
         &[1],
         &[4],
-        tails,
-        heads,
-        weights,
+        &mut tails,
+        &mut heads,
+        &mut weights,
         count,
-        forward,
-        backward,
+        &mut forward,
+        &mut backward,
     );
-    ask(1, 0, &none, tails, heads, weights, count, forward, backward);
+    ask(
+        1,
+        0,
+        &none,
+        &tails,
+        &heads,
+        &weights,
+        count,
+        &forward,
+        &backward,
+    );
     io::write_all(1, b"ten changes: ");
     count = change(
         &[1, 1, 1, 1, 1, 1, 2, 1, 2, 2],
         &[1, 1, 2, 2, 3, 3, 0, 0, 0, 3],
         &[0, 3, 0, 3, 0, 1, 2, 2, 3, 2],
         &[5, 6, 7, 8, 1, 2, 0, 3, 0, 0],
-        tails,
-        heads,
-        weights,
+        &mut tails,
+        &mut heads,
+        &mut weights,
         count,
-        forward,
-        backward,
+        &mut forward,
+        &mut backward,
     );
-    ask(1, 0, &none, tails, heads, weights, count, forward, backward);
-    ask(1, 3, &none, tails, heads, weights, count, forward, backward);
+    ask(
+        1,
+        0,
+        &none,
+        &tails,
+        &heads,
+        &weights,
+        count,
+        &forward,
+        &backward,
+    );
+    ask(
+        1,
+        3,
+        &none,
+        &tails,
+        &heads,
+        &weights,
+        count,
+        &forward,
+        &backward,
+    );
     let jumbled = [2u32, 3, 1, 3, 2];
     ask(
-        1, 3, &jumbled, tails, heads, weights, count, forward, backward,
+        1,
+        3,
+        &jumbled,
+        &tails,
+        &heads,
+        &weights,
+        count,
+        &forward,
+        &backward,
     );
 }
