@@ -12,6 +12,7 @@
 --   sweep .. ms             == one pass over the old edges, each marking its head where it does
 --   sweeps .. k ms          == k passes
 --   affected P es fs s ws n == the affected ones of n vertices, as marks: n passes find all
+--   mark .. ms e            == the marks after one edge: its head is marked where it touches
 use mathlib.Core.Path.{_≡_}
 use mathlib.Core.Logic.{_≢_}
 use mathlib.Core.Bool.{Bool, true, false, not, _&&_, _||_, cond}

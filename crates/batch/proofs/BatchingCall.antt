@@ -1,14 +1,14 @@
 -- A batch as a call: numbers 1 to 4, then its changes, then number 13, and what is lent. Assumes nothing.
 use mathlib.Core.Path.{_≡_, refl, sym, ap, _∙_}
-use mathlib.Core.Bool.{Bool, true, false, not, _&&_, _||_}
+use mathlib.Core.Bool.{Bool, true, false, _&&_, _||_}
 use mathlib.Core.List.{List, [], _∷_, _++_, map}
 use Prim.Native.Nat.{ℕ, zero, suc, _+_, _*_, _≤_, _<_, min}
 use native.Mathlib.Nat.{zero-add, mul-le-mul-right}
 use native.Mathlib.Omega.{arith}
-use lib.ListN.{length, getD, take, drop}
+use lib.ListN.{length, take, drop}
 use lib.Seq.{paste, take-at, take-all, length-take-le}
 use lib.Dec.{ltb, eqb}
-use borrow.Author.Tests.{lt-ltb, le-ltb, ltb-true}
+use borrow.Author.Tests.{lt-ltb, le-ltb}
 use Rattle.graph.specs.declared.Judged.{Judged}
 use Rattle.graph.specs.declared.Judged.the-variants.{Fine, Refused}
 use Rattle.graph.specs.Limits.{maxVertices, maxLandmarks, maxBatch}
@@ -21,11 +21,12 @@ use Rattle.graph.proofs.Verdicts.{then-accept, accept-then, refuse-then}
 use Rattle.batch.specs.declared.Report.{Report}
 use Rattle.batch.specs.declared.Applied.the-variants as applied
 use Rattle.batch.specs.declared.Rowed.{Rowed}
-use Rattle.network.specs.Network.{Network, edgesIn, rowCount, shortRows, landmarks, isIn, areLandmarks, flat, unsettled}
+use Rattle.network.specs.Network.{Network, edgesIn, rowCount, shortRows, landmarks, flat, unsettled}
 use Rattle.network.specs.Change.{Change, edits, items}
 use Rattle.network.specs.Batch.{batchVerdict, newForward, newBackward, batchCall, rewritten}
 use Rattle.batch.specs.Code.{applying, changes, RowsDone, Fair, faults, forwardRows, backwardRows, SidesDone, committed, batchOutcome}
 use Rattle.calls.specs.Code.{rowLists, network, Placed}
+use Rattle.network.proofs.Rows.{landmark-below}
 use Rattle.calls.proofs.Judging.{then-assoc, size-accept, lengths-accept, rows-accept, landmarks-accept, table-accept}
 
 -- ---- how many changes
@@ -71,14 +72,6 @@ faults-as n ls w q e = rw q at e
 
 -- ---- what they tell where they let a batch pass
 
-landmarks-below : (n : ℕ) (ls : List ℕ) (i : ℕ) → areLandmarks n ls ≡ true → i < length ls → getD ls i 0 < n
-unfolding areLandmarks
-landmarks-below n [] i h k = absurd (omega arith)
-landmarks-below n (l ∷ ls) zero h k = ltb-true _ _ ((both (ltb l n) _ h) .0)
-landmarks-below n (l ∷ ls) (suc i) h k =
-    let z = both (ltb l n) _ h in
-    landmarks-below n ls i ((both (not (isIn l ls)) (areLandmarks n ls) (z .1)) .1) (omega arith)
-
 pub faults-fair : (n : ℕ) (ls : List ℕ) (ts hs ws f b : List ℕ) (m j : ℕ) → faults n ls (network ts hs ws f b m) j ≡ accept → Fair n ls (network ts hs ws f b m)
 unfolding faults
 faults-fair n ls ts hs ws f b m j e =
@@ -92,7 +85,7 @@ faults-fair n ls ts hs ws f b m j e =
     let y = landmarks-accept n ls (l .0) in
     record {
       few = size-accept n (p .0) .1;
-      landmarks = record { few = y .0; vertices = λ i k. landmarks-below n ls i (y .1) k };
+      landmarks = record { few = y .0; vertices = λ i k. landmark-below n ls i (l .0) k };
       table = record { few = t .0; room = lengths-accept ts hs ws (s .0); rules = t .1 };
       forward = x .0;
       backward = x .1;

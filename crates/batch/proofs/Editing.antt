@@ -25,7 +25,7 @@ use Rattle.batch.specs.declared.items.Edited.{Edited}
 use Rattle.batch.specs.declared.items.Edited.the-variants.{Count, Refused}
 use Rattle.network.specs.Change.{Change, named, inserts, edit, edits, item, items}
 use Rattle.batch.specs.Code.{change, changes, words, against, verdict, Tabled, Leaves}
-use Rattle.batch.proofs.Changes.{item-good}
+use Rattle.network.proofs.Items.{item-good}
 
 -- ---- four lists side by side
 

@@ -1,4 +1,3 @@
-pub mod Changes
 pub mod Editing
 pub mod Batching
 pub mod BatchingRows

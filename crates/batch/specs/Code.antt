@@ -19,6 +19,7 @@
 --   committed n ls w fs          == a batch after which the edges are fs: number 13, or the report and the lent lists
 --   reporting r, applying r      == the program's report and reply as document 01's
 --   batchOutcome r ts hs ws f b  == the program's reply r and the lent lists at exit, as an outcome
+--   forwardRows, backwardRows    == the states in which the runs of the two row lists end
 use mathlib.Core.Path.{_≡_}
 use mathlib.Core.Bool.{Bool, not, _&&_, _||_, cond}
 use mathlib.Core.List.{List, [], _∷_, map}

@@ -22,7 +22,7 @@ pub enum Edited {
 }
 
 // Whether a weight suits its change: an insert's is 1 to 65,535, a delete's is 0.
-pub fn is_suited(kind: u32, w: u32) -> bool
+fn is_suited(kind: u32, w: u32) -> bool
     ensures { λ r. ⌜ r ≡ cond (eqb kind 1) (isWeight w) (eqb w 0) ⌝ }
 {
     if kind == 1 {
@@ -33,7 +33,7 @@ pub fn is_suited(kind: u32, w: u32) -> bool
 }
 
 // Numbers 6 to 9 of a change: those of its own words.
-pub fn judge_words(n: u32, kind: u32, t: u32, h: u32, w: u32, place: usize) -> Judged
+fn judge_words(n: u32, kind: u32, t: u32, h: u32, w: u32, place: usize) -> Judged
     ensures { λ r. ⌜ told r ≡ words n place (change kind t h w) ⌝ }
 {
     if t >= n || h >= n {
@@ -49,7 +49,7 @@ pub fn judge_words(n: u32, kind: u32, t: u32, h: u32, w: u32, place: usize) -> J
 }
 
 // An insert whose own words are good: numbers 10 and 12, or one edge more.
-pub fn insert_item(
+fn insert_item(
     n: u32,
     t: u32,
     h: u32,
@@ -76,7 +76,7 @@ pub fn insert_item(
 }
 
 // A delete whose own words are good looks for its edge, and goes no further unless it is found: number 11, or one edge less.
-pub fn delete_item(
+fn delete_item(
     n: u32,
     t: u32,
     h: u32,
@@ -99,7 +99,7 @@ pub fn delete_item(
 }
 
 // One change of a batch.
-pub fn apply_item(
+fn apply_item(
     n: u32,
     kind: u32,
     t: u32,

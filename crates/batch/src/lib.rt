@@ -45,7 +45,7 @@ pub struct Rowed {
 // by `firsts`, `ends` and `lengths`.
 
 // Row `r`, whose words before the batch are `words`, is prepared and settled in `out`.
-pub fn batch_row(
+fn batch_row(
     r: usize,
     n: usize,
     landmarks: &[u32],
@@ -106,7 +106,7 @@ pub fn batch_row(
 }
 
 // Every row of the list `rows`, one after the other in `out`.
-pub fn batch_rows(
+fn batch_rows(
     n: usize,
     landmarks: &[u32],
     count1: usize,
@@ -172,7 +172,7 @@ pub fn batch_rows(
 }
 
 // The forward rows, by the index of the new table.
-pub fn batch_forward(
+fn batch_forward(
     n: usize,
     landmarks: &[u32],
     count1: usize,
@@ -218,7 +218,7 @@ pub fn batch_forward(
 }
 
 // The backward rows, where every edge is reversed: tails and heads change places, and a run reads the reversed table by its index.
-pub fn batch_backward(
+fn batch_backward(
     n: usize,
     landmarks: &[u32],
     count1: usize,
@@ -281,7 +281,7 @@ pub fn batch_backward(
 // ---- what is lent
 
 // The first `count` words of `new` over those of `list`, then zeros up to 2,048.
-pub fn write_words(count: usize, new: &[u32], list: &mut [u32])
+fn write_words(count: usize, new: &[u32], list: &mut [u32])
     requires { ⌜ (count ≤ maxEdges) × (count ≤ length (now new)) × (maxEdges ≤ length (now list)) ⌝ }
     ensures { λ _. ⌜ now (list .exit) ≡ over (take count (now (new .entry)) ++ replicate (maxEdges - count) 0) (now (list .entry)) ⌝ }
 {
@@ -291,7 +291,7 @@ pub fn write_words(count: usize, new: &[u32], list: &mut [u32])
 }
 
 // The table of number 2 over that of number 1.
-pub fn write_table(
+fn write_table(
     count2: usize,
     tails2: &[u32],
     heads2: &[u32],
@@ -311,14 +311,14 @@ pub fn write_table(
 // ---- the call
 
 // The lesser of two numbers.
-pub fn lesser(a: usize, b: usize) -> usize
+fn lesser(a: usize, b: usize) -> usize
     ensures { λ r. ⌜ r ≡ min a b ⌝ }
 {
     if a < b { a } else { b }
 }
 
 // How many changes four lists hold side by side: as many as the shortest has words.
-pub fn count_changes(kinds: &[u32], froms: &[u32], tos: &[u32], values: &[u32]) -> usize
+fn count_changes(kinds: &[u32], froms: &[u32], tos: &[u32], values: &[u32]) -> usize
     ensures { λ r. ⌜ r ≡ length (changes (now (kinds .entry)) (now (froms .entry)) (now (tos .entry)) (now (values .entry))) ⌝ }
 {
     lesser(
@@ -328,7 +328,7 @@ pub fn count_changes(kinds: &[u32], froms: &[u32], tos: &[u32], values: &[u32]) 
 }
 
 // Numbers 1 to 4 of a batch of `size` changes.
-pub fn judge_batch(
+fn judge_batch(
     n: u32,
     landmarks: &[u32],
     tails: &[u32],
@@ -357,7 +357,7 @@ pub fn judge_batch(
 
 // All rows of both lists, for a batch after which the table is that of number 2. `gone` and `fresh` are scratch, the new rows go to
 // `ahead` and `back`.
-pub fn batch_sides(
+fn batch_sides(
     n: u32,
     landmarks: &[u32],
     tails: &[u32],
@@ -445,7 +445,7 @@ pub fn batch_sides(
 }
 
 // A batch after which the table is that of number 2, in scratch lists: number 13, or all that is lent is written.
-pub fn commit_in(
+fn commit_in(
     n: u32,
     landmarks: &[u32],
     tails: &mut [u32],
@@ -501,7 +501,7 @@ pub fn commit_in(
 }
 
 // A batch after which the table is that of number 2.
-pub fn commit(
+fn commit(
     n: u32,
     landmarks: &[u32],
     tails: &mut [u32],
@@ -545,7 +545,7 @@ pub fn commit(
 }
 
 // A batch that numbers 1 to 4 let pass: its changes are tried on the scratch table of number 2.
-pub fn batch_in(
+fn batch_in(
     n: u32,
     landmarks: &[u32],
     tails: &mut [u32],

@@ -1,11 +1,14 @@
 -- The calls on text: document 01, "Text" and "Turned back". Assumes nothing.
 --
---   Size                    == a network's n and count of edges
---   filled es cs            == the table lists with the edges es in front; words past them stay
---   readCall text cs        == reading network text into table lists: numbers 2, then 14; the reply is n and the count
---   writeCall n cs m out    == writing a table's text: numbers 1, 2 (table lists), 4, and last 2 (the buffer); the reply is its length
---   sourcesCall n text out  == reading a source file into a list of at least 256 words: numbers 1, 2, 14; the reply is COUNT,
---                              and the vertices are stored from 0
+--   Size                       == a network's n and count of edges
+--   filled es cs               == the table lists with the edges es in front; words past them stay
+--   readCall text cs           == reading network text into table lists: numbers 2, then 14; the reply is n and the count
+--   writeCall n cs m out       == writing a table's text: numbers 1, 2 (table lists), 4, and last 2 (the buffer); the reply is its length
+--   sourcesCall n text out     == reading a source file into a list of at least 256 words: numbers 1, 2, 14; the reply is COUNT,
+--                                 and the vertices are stored from 0
+--   judged r                   == number 14 at the line of the refusal
+--   vertexCount r, edgesRead r == n and the edges of the network that was read
+--   sourcesRead r              == the sources that were read
 use mathlib.Core.List.{List, [], map}
 use Prim.Native.Nat.{ℕ}
 use lib.ListN.{length}

@@ -1,10 +1,11 @@
 -- Numbers in base ten: document 01, "Text". Bytes are natural numbers; numbers have any length and never wrap. Assumes nothing.
 --
---   digits v    == v in base ten: no sign, no leading zero; `0` for zero
---   isDigit b   == b is one of the bytes `0` to `9`
---   scan v s    == the number that v and the digits at the front of s make, and what follows them
---   number s    == the number at the front of s and what follows it; none where s does not begin with one. What follows `0` is
---                  no part of the number, so that `07` is none
+--   digits v       == v in base ten: no sign, no leading zero; `0` for zero
+--   isDigit b      == b is one of the bytes `0` to `9`
+--   scan v s       == the number that v and the digits at the front of s make, and what follows them
+--   number s       == the number at the front of s and what follows it; none where s does not begin with one. What follows `0` is
+--                     no part of the number, so that `07` is none
+--   digitsBy k b v == digits, with a bound k on how many are left, and whether v is below ten
 use mathlib.Core.Bool.{Bool, true, false, _&&_, cond}
 use mathlib.Core.List.{List, [], _∷_, _++_}
 use mathlib.Core.Option.{Option, none, some}

@@ -1,16 +1,19 @@
 -- Lines of a text, what they say, and the place of a refusal: document 01, "Text" and number 14. They serve network text and
 -- source files alike; A is what a line says that is no comment. Assumes nothing.
 --
---   joined ls          == the text of the lines ls, each ended by line feed, byte 10
---   split text         == the complete lines of text, and what stands after the last line feed
---   plain s            == no byte of s is a line feed
---   Line A             == a comment (`c` alone, or `c ` and any bytes) or a line that says an A
---   lineOf f x         == the bytes of a line without its line feed, where f spells an A
---   spoken xs          == what the lines xs say: comments left out
---   Spelled f text as  == text is lines, each ended by line feed, that say as, comments among them anywhere
---   fieldsOf vs        == numbers, each after a single space
---   Begins Good text   == some good text begins with text
---   Place Good text k  == k is the first line, from 1, with which no good text can go on; complete lines + 1 if it ends too soon
+--   joined ls         == the text of the lines ls, each ended by line feed, byte 10
+--   split text        == the complete lines of text, and what stands after the last line feed
+--   plain s           == no byte of s is a line feed
+--   Line A            == a comment (`c` alone, or `c ` and any bytes) or a line that says an A
+--   lineOf f x        == the bytes of a line without its line feed, where f spells an A
+--   spoken xs         == what the lines xs say: comments left out
+--   Spelled f text as == text is lines, each ended by line feed, that say as, comments among them anywhere
+--   fieldsOf vs       == numbers, each after a single space
+--   Begins Good text  == some good text begins with text
+--   Place Good text k == k is the first line, from 1, with which no good text can go on; complete lines + 1 if it ends too soon
+--   Split             == complete lines, and what stands after the last line feed
+--   before b c ls r   == the byte c put before a split text; b says whether it is a line feed
+--   Plain f xs        == no line of xs has a line feed in it
 use mathlib.Core.Path.{_≡_}
 use mathlib.Core.Bool.{Bool, true, false, _&&_, not}
 use mathlib.Core.List.{List, [], _∷_, _++_, map}

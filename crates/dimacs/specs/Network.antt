@@ -1,18 +1,24 @@
 -- Network text: the 9th DIMACS Challenge's shortest-path layout: document 01, "Text". First what a good text is, by its lines,
 -- with no reader in it; then the reader; then the writer. Assumes nothing.
 --
---   Item               == a line that is no comment: `p sp N M2` or `a TAIL HEAD FIGURE`; vertices of an edge count from 0
---   itemOf x           == its bytes; in the text vertices count from 1
---   Distinct es        == no pair of tail and head stands twice in es
---   sorted es          == es in table order
---   Good text n es     == text is a good text, of a network with n vertices and the edges es
---   IsGood text        == text is a good text
---   itemIn l           == the item that a line says
---   State              == where the reader stands: before the p line, or after it with n, M2 and the edges so far
---   opens n m          == a p line with which some good text goes on: n 1 to 256, M2 at most 2,048 and at most n × (n − 1)
---   takes n m es e     == an a line with which some good text goes on
---   readNetwork text   == the state at the end, or the line of the refusal
---   written n es       == the text that is written for a network: no comment, ascending
+--   Item                                    == a line that is no comment: `p sp N M2` or `a TAIL HEAD FIGURE`; vertices of an edge count from 0
+--   itemOf x                                == its bytes; in the text vertices count from 1
+--   Distinct es                             == no pair of tail and head stands twice in es
+--   sorted es                               == es in table order
+--   Good text n es                          == text is a good text, of a network with n vertices and the edges es
+--   IsGood text                             == text is a good text
+--   itemIn l                                == the item that a line says
+--   State                                   == where the reader stands: before the p line, or after it with n, M2 and the edges so far
+--   opens n m                               == a p line with which some good text goes on: n 1 to 256, M2 at most 2,048 and at most n × (n − 1)
+--   takes n m es e                          == an a line with which some good text goes on
+--   readNetwork text                        == the state at the end, or the line of the refusal
+--   written n es                            == the text that is written for a network: no comment, ascending
+--   problemMark, arcMark                    == the bytes `p sp` and `a`
+--   Edges n es                              == each of es is an edge of n vertices
+--   problemFrom vs, arcFrom vs, arcOf t h w == the item of a line with these numbers; none where there is none
+--   orElse o p                              == the first of two that is there
+--   act st x                                == the state after an item; none where no good text can go on with it
+--   complete st                             == the state may be the last
 use mathlib.Core.Path.{_≡_}
 use mathlib.Core.Bool.{Bool, true, false, _&&_, not, cond}
 use mathlib.Core.List.{List, [], _∷_, _++_, map, foldl}

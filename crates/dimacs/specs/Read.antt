@@ -1,12 +1,16 @@
 -- Reading a text line by line, for any kind of text. It computes. Assumes nothing.
 --
---   after p s          == what stands after the bytes p
---   fields k s         == k numbers, each after a single space, to the end of the line
---   lineIn parse l     == what a line says, comments included; none where it has no meaning
---   Read S             == a good text with the state it leads to, or bad with the line of the refusal
---   step .. st l       == the state after a line; none where no good text can go on with it
+--   after p s            == what stands after the bytes p
+--   fields k s           == k numbers, each after a single space, to the end of the line
+--   lineIn parse l       == what a line says, comments included; none where it has no meaning
+--   Read S               == a good text with the state it leads to, or bad with the line of the refusal
+--   step .. st l         == the state after a line; none where no good text can go on with it
 --   reading .. ls r k st == the lines ls and the rest r are left, k lines are read
---   read .. text       == the whole text. `act` says which state a line leads to, `complete` which states may be the last
+--   read .. text         == the whole text. `act` says which state a line leads to, `complete` which states may be the last
+--   commentOf s          == the comment after whose `c` s stands
+--   spokenBy o           == a line that says what o has
+--   heard .. st x        == the state after what a line says
+--   ended .. r k st      == the end of the text after k complete lines: r stands after the last line feed
 use mathlib.Core.Bool.{Bool, _&&_, cond}
 use mathlib.Core.List.{List, [], _∷_}
 use mathlib.Core.Option.{Option, none, some, bind}

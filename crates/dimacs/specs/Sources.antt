@@ -1,13 +1,18 @@
 -- Source files: document 01, "Text". Assumes nothing.
 --
---   Item                   == a line that is no comment: `p aux sp ss COUNT` or `s STATION`; vertices count from 0
---   itemOf x               == its bytes; in the text vertices count from 1
---   maxSources             == COUNT is at most 256
---   Good n text ss         == text is a good source file of a network with n vertices, and its sources are ss, in file order
---   IsGood n text          == text is a good source file of a network with n vertices
---   itemIn l               == the item that a line says
---   State                  == where the reader stands: before the p line, or after it with COUNT and the sources so far
---   readSources n text     == the state at the end, or the line of the refusal
+--   Item                         == a line that is no comment: `p aux sp ss COUNT` or `s STATION`; vertices count from 0
+--   itemOf x                     == its bytes; in the text vertices count from 1
+--   maxSources                   == COUNT is at most 256
+--   Good n text ss               == text is a good source file of a network with n vertices, and its sources are ss, in file order
+--   IsGood n text                == text is a good source file of a network with n vertices
+--   itemIn l                     == the item that a line says
+--   State                        == where the reader stands: before the p line, or after it with COUNT and the sources so far
+--   readSources n text           == the state at the end, or the line of the refusal
+--   headerMark, sourceMark       == the bytes `p aux sp ss` and `s`
+--   Vertices n vs                == each of vs is a vertex below n
+--   headerFrom vs, sourceFrom vs == the item of a line with these numbers; none where there is none
+--   act n st x                   == the state after an item; none where no good text can go on with it
+--   complete st                  == the state may be the last
 use mathlib.Core.Path.{_≡_}
 use mathlib.Core.Bool.{Bool, true, false, _&&_, cond}
 use mathlib.Core.List.{List, [], _∷_, _++_, map}

@@ -1,18 +1,20 @@
 -- Edges, and the lists of words that hold them: document 01, "Network". Assumes nothing.
 --
---   Edge               == a "segment": tail, head and weight ("figure")
---   edge t h w         == the edge from t to h of weight w
---   reverse e          == e the other way round; backward rows go by reversed edges
---   same e f           == the same three words
---   samePair e f       == the same tail and head
---   precedes e f       == table order: "by tail, then head"
---   keep f es          == the edges of es that pass the test f, in order
---   exists f es        == some edge of es passes the test f
---   among es e         == e is in es, by its three words
---   present es e       == the pair of e is in es
---   leaving i es       == the edges of tail i, in table order
---   edges ts hs ws m   == the "records" below the count m of three lists of words
---   range i k          == the k numbers from i on
+--   Edge             == a "segment": tail, head and weight ("figure")
+--   edge t h w       == the edge from t to h of weight w
+--   reverse e        == e the other way round; backward rows go by reversed edges
+--   same e f         == the same three words
+--   samePair e f     == the same tail and head
+--   precedes e f     == table order: "by tail, then head"
+--   keep f es        == the edges of es that pass the test f, in order
+--   exists f es      == some edge of es passes the test f
+--   among es e       == e is in es, by its three words
+--   present es e     == the pair of e is in es
+--   leaving i es     == the edges of tail i, in table order
+--   edges ts hs ws m == the "records" below the count m of three lists of words
+--   range i k        == the k numbers from i on
+--   keepIf t e es    == e before es where the test t holds
+--   zip ts hs ws     == three lists side by side
 use mathlib.Core.Bool.{Bool, true, false, _&&_, _||_}
 use mathlib.Core.List.{List, [], _∷_}
 use Prim.Native.Nat.{ℕ, zero, suc}

@@ -1,19 +1,22 @@
 -- What the values program prints for the bytes of deck.gr and deck.ss: document 01, "Text". Assumes nothing.
 --
---   maxFile               == a file of more than 65,536 bytes is refused with number 2
---   spaced vs             == numbers parted by single spaces, and a line feed
---   Graph                  == a network that was read: n and its edges
---   networkOf d            == the network of a deck, opened with the landmarks of choice, four or n if fewer
---   valueAt d w s t p     == property p from s to t: the settled word of a query
---   lineOf d w s t        == the line of a source and a vertex: both from 1, then the five properties
---   listed d ss           == the header, and per source in file order and vertex ascending a line
---   refusedLine k i       == `refused`, number, place
---   printed gr ss         == the whole output: a refusal in either file, deck.gr first, or what is listed
+--   maxFile                          == a file of more than 65,536 bytes is refused with number 2
+--   spaced vs                        == numbers parted by single spaces, and a line feed
+--   Graph                            == a network that was read: n and its edges
+--   networkOf d                      == the network, opened with the landmarks of choice, four or n if fewer
+--   valueAt d w s t p                == property p from s to t: the settled word of a query
+--   lineOf d w s t                   == the line of a source and a vertex: both from 1, then the five properties
+--   listed d ss                      == the header, and per source in file order and vertex ascending a line
+--   refusedLine k i                  == `refused`, number, place
+--   printed gr ss                    == the whole output: a refusal in either file, deck.gr first, or what is listed
+--   landmarksOf d                    == its landmarks: those of choice, four or n if fewer
+--   linesOf .. ts, sourceLines .. ss == the lines of a source, and of all sources
+--   graphOf r                        == the network that was read
 use mathlib.Core.List.{List, [], _∷_, _++_, map}
 use Prim.Native.Nat.{ℕ, suc}
 use lib.ListN.{length, getD, replicate}
 use lib.Dec.{ltb}
-use Rattle.property.specs.Property.{property}
+use Rattle.property.specs.Property.{property, properties}
 use Rattle.graph.specs.Limits.{maxLandmarks}
 use Rattle.graph.specs.Refusal.{Verdict, accept, refuse, _▷_, refuseIf, Outcome}
 use Rattle.graph.specs.Edge.{Edge, range}
@@ -69,7 +72,7 @@ valueAt d w s t p =
     t
 
 unfoldable pub lineOf : Graph → Network → ℕ → ℕ → List ℕ
-lineOf d w s t = spaced (suc s ∷ suc t ∷ map (valueAt d w s t) (range 1 5))
+lineOf d w s t = spaced (suc s ∷ suc t ∷ map (valueAt d w s t) (range 1 properties))
 
 unfoldable pub linesOf : Graph → Network → ℕ → List ℕ → List ℕ
 linesOf d w s [] = []

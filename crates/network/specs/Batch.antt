@@ -2,16 +2,19 @@
 --
 -- es is the list of edges before the batch, fs the list after it, xs a row list before it.
 --
---   affectedIn n ls es fs xs r   == the affected vertices of row r, as marks
---   batchRow n ls es fs xs r     == the state in which the run of row r ends: rounds from the prepared row, at most n
---   batchRows n ls es fs xs      == those of all rows
---   affectedOf n ls es fs xs     == how many vertices are affected, over all rows
---   Report                       == the new count; affected vertices ("suspects") and stores, over all rows of both lists
---   newEdges n ls w b            == the edges after the batch
---   column f fs                  == a table list after the batch: the new words, then zeros up to 2,048
---   rewritten fs cs              == the table lists after the batch; words from 2,048 on stay
---   batchVerdict                 == when the call is refused: 1 to 4 first, then its items, then 13
---   batchCall n ls w b           == reply (the report) and every lent list at exit
+--   affectedIn n ls es fs xs r == the affected vertices of row r, as marks
+--   batchRow n ls es fs xs r   == the state in which the run of row r ends: rounds from the prepared row, at most n
+--   batchRows n ls es fs xs    == those of all rows
+--   affectedOf n ls es fs xs   == how many vertices are affected, over all rows
+--   Report                     == the new count; affected vertices ("suspects") and stores, over all rows of both lists
+--   newEdges n ls w b          == the edges after the batch
+--   column f fs                == a table list after the batch: the new words, then zeros up to 2,048
+--   rewritten fs cs            == the table lists after the batch; words from 2,048 on stay
+--   batchVerdict               == when the call is refused: 1 to 4 first, then its items, then 13
+--   batchCall n ls w b         == reply (the report) and every lent list at exit
+--   affectedOver .. rs         == how many vertices are affected in the rows rs
+--   newForward, newBackward    == the states in which the runs of the two row lists end
+--   batchMemory                == the lent lists after the batch
 use mathlib.Core.Bool.{Bool, _||_}
 use mathlib.Core.List.{List, [], _∷_, _++_, map}
 use Prim.Native.Nat.{ℕ, _+_, _-_}

@@ -1,21 +1,22 @@
 -- What is lent to a call, refusals 2 and 3, and the landmark rows: document 01, "Network" and "Turned back". Assumes nothing.
 --
---   Rows                == the two lent lists of the landmark rows ("standing rows"): forward ("outward", landmark to each vertex)
---                          and backward ("homeward", each vertex to the landmark, worked on the reversed edges)
---   Memory              == the lent lists of a network: its table and its rows
---   Network             == a network as its caller holds it: the lent lists and the present count
---   edgesIn w           == its edges: the records below the count
---   rowCount ls         == the rows in each list: five for each landmark
---   shortRows n ls xs   == number 2: a row list has fewer than landmarks × 5 × n words
---   areLandmarks n ls   == the vertices ls are below n and different
---   landmarks n ls      == number 3: none, over 4, not a vertex, repeated
---   row n r xs          == row r of a row list: n words; rows go by landmark in list order, then property
---   propertyOf r        == the property of row r
---   landmarkOf ls r     == the landmark of row r
---   rowsOf ls           == the indices of the rows
---   flat sts            == the words of the rows, one after the other
---   unsettled sts        == in some row some vertex waits
---   storesOf sts        == the stores of all rows
+--   Rows              == the two lent lists of the landmark rows ("standing rows"): forward ("outward", landmark to each vertex)
+--                        and backward ("homeward", each vertex to the landmark, worked on the reversed edges)
+--   Memory            == the lent lists of a network: its table and its rows
+--   Network           == a network as its caller holds it: the lent lists and the present count
+--   edgesIn w         == its edges: the records below the count
+--   rowCount ls       == the rows in each list: five for each landmark
+--   shortRows n ls xs == number 2: a row list has fewer than landmarks × 5 × n words
+--   areLandmarks n ls == the vertices ls are below n and different
+--   landmarks n ls    == number 3: none, over 4, not a vertex, repeated
+--   row n r xs        == row r of a row list: n words; rows go by landmark in list order, then property
+--   propertyOf r      == the property of row r
+--   landmarkOf ls r   == the landmark of row r
+--   rowsOf ls         == the indices of the rows
+--   flat sts          == the words of the rows, one after the other
+--   unsettled sts     == in some row some vertex waits
+--   storesOf sts      == the stores of all rows
+--   isIn a ls         == a is one of ls
 use mathlib.Core.Bool.{Bool, true, false, not, _&&_, _||_}
 use mathlib.Core.List.{List, [], _∷_, _++_}
 use Prim.Native.Nat.{ℕ, suc, _+_, _*_, _/_, _%_}

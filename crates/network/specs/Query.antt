@@ -1,14 +1,17 @@
 -- A query: document 01, "Query". It returns no table and no rows: it writes none of that memory. Assumes nothing.
 --
---   Query               == what is asked: property, source, schedule
---   Words               == the two lists lent for the answer: start words and settled words
---   known n ls w q      == what the rows of the property tell of each landmark: the backward word of the source, the forward row
---   atStart n ls w q    == the state at the start: triangle bounds, and the source's value; only the source waits
---   atRounds n ls w q   == the state after the schedule
---   atEnd n ls w q      == the state after the rounds, at most n
---   scheduled n i vs        == number 6 at the first entry of the schedule, from index i, that is no vertex
---   queryVerdict        == when the call is refused
---   queryCall           == reply (the tally) and both lists at exit: words past n stay
+--   Query             == what is asked: property, source, schedule
+--   Words             == the two lists lent for the answer: start words and settled words
+--   known n ls w q    == what the rows of the property tell of each landmark: the backward word of the source, the forward row
+--   atStart n ls w q  == the state at the start: triangle bounds, and the source's value; only the source waits
+--   atRounds n ls w q == the state after the schedule
+--   atEnd n ls w q    == the state after the rounds, at most n
+--   scheduled n i vs  == number 6 at the first entry of the schedule, from index i, that is no vertex
+--   queryVerdict      == when the call is refused
+--   queryCall         == reply (the tally) and both lists at exit: words past n stay
+--   rowAt i p         == the row of landmark i (an index of the list) for property p
+--   asks              == the property that is asked
+--   answered out      == the two lists after the query
 use mathlib.Core.Bool.{not, _||_}
 use mathlib.Core.List.{List, [], _∷_, map}
 use Prim.Native.Nat.{ℕ, suc, _+_, _*_, _-_}

@@ -1,10 +1,11 @@
 -- The settled check: document 01, "Settled check". It writes nothing. Assumes nothing.
 --
---   Check                    == settled, or the first edge that could still better a word: side (0 forward, 1 backward), row, record
---   inRecords .. j es later  == the first of the records es, from index j, that could better a word of the row; later where none could
---   inRows .. rs later       == the first in the rows rs of one side
---   check n ls w             == in order forward, backward, then row, then record
---   settledCall n ls w       == the reply
+--   Check                   == settled, or the first edge that could still better a word: side (0 forward, 1 backward), row, record
+--   inRecords .. j es later == the first of the records es, from index j, that could better a word of the row; later where none could
+--   inRows .. rs later      == the first in the rows rs of one side
+--   check n ls w            == in order forward, backward, then row, then record
+--   settledCall n ls w      == the reply
+--   settledVerdict n ls w   == when the call is refused: 1 to 4
 use mathlib.Core.Bool.{cond}
 use mathlib.Core.List.{List, [], _∷_, map}
 use Prim.Native.Nat.{ℕ, suc}

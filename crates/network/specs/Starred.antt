@@ -1,19 +1,23 @@
 -- The starred lines of document 01, "Near the edges, and a small deck": one table of rows, and one statement over it.
 -- The numbers are document 01's. Assumes nothing.
 --
---   graphA                     == Deck A: n 4; 0→1 4, 0→3 9, 1→2 4, 2→1 4, 3→2 2
---   take t h, add t h w       == change records
---   Ask                       == what a line asks of a network
+--   graphA                   == Deck A: n 4; 0→1 4, 0→3 9, 1→2 4, 2→1 4, 3→2 2
+--   take t h, add t h w      == change records
+--   Ask                      == what a line asks of a network
 --     settled p s             == the settled words of a query from s for property p
 --     asked p s vs            == start words, settled words, rounds of a query with the schedule vs
 --     tallied p s vs          == entries taken and rounds of such a query
 --     affectedRow b side p       == the affected vertices of the batch b in the row of the first landmark, side and property
 --     batch b                 == the reply to the batch b: how many are affected, or number and place
---   Said                      == an answer
---   Case                      == a line: the edges, n, landmarks, the batches before, what is asked, what document 01 says
---   found c                   == what the calls' definitions give
---   starred                   == the table, in document 01's order
---   Starred                   == the statement: every line is found as document 01 says it
+--   Said                     == an answer
+--   Case                     == a line: the edges, n, landmarks, the batches before, what is asked, what document 01 says
+--   found c                  == what the calls' definitions give
+--   starred                  == the table, in document 01's order
+--   Starred                  == the statement: every line is found as document 01 says it
+--   those i ms               == the marked vertices of the marks ms, the first of which is vertex i
+--   affectedList             == the affected vertices of a row of one side
+--   saidOfQuery, saidOfBatch == a reply as an answer
+--   onA, alone               == a line about Deck A, about one vertex and no edge
 use mathlib.Core.Path.{_≡_}
 use mathlib.Core.Bool.{Bool, true, false}
 use mathlib.Core.List.{List, [], _∷_, _++_, map}

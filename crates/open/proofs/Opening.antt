@@ -1,6 +1,6 @@
 -- The run of a row as its functions leave it, what an accepted network tells an opening, and the opening's outcome. Assumes nothing.
 use mathlib.Core.Path.{_≡_, sym, ap, ap₂, _∙_}
-use mathlib.Core.Bool.{Bool, true, false, not, _||_}
+use mathlib.Core.Bool.{Bool, true, false, _||_}
 use mathlib.Core.List.{List, [], _∷_, map}
 use Prim.Native.Nat.{ℕ, zero, suc, _+_, _*_, _/_, _%_, _≤_, _<_}
 use native.Mathlib.Nat.{mul-le-mul}
@@ -9,7 +9,6 @@ use native.Mathlib.Omega.{arith}
 use lib.ListN.{length, getD}
 use lib.Seq.{paste}
 use lib.Dec.{ltb}
-use borrow.Author.Tests.{ltb-true}
 use Rattle.property.specs.Property.{property}
 use Rattle.frontier.specs.Waiting.{waitingOf, anyOf}
 use Rattle.graph.specs.declared.Judged.{Judged}
@@ -27,11 +26,12 @@ use Rattle.run.specs.Start.{opened}
 use Rattle.run.specs.Code.{Held, noCounts, state}
 use Rattle.run.proofs.States.{bits-any}
 use Rattle.open.specs.declared.Opened.the-variants.{Accepted, Refused}
-use Rattle.network.specs.Network.{Network, edgesIn, rowCount, shortRows, isIn, areLandmarks, landmarks, unsettled}
+use Rattle.network.specs.Network.{Network, edgesIn, rowCount, shortRows, landmarks, unsettled}
 use Rattle.network.specs.Open.{openRow, openRows, openVerdict, openCall}
 use Rattle.network.specs.Settled.{settledVerdict}
 use Rattle.open.specs.Code.{opening, openOutcome}
 use Rattle.calls.specs.Code.{rowLists, network, Openable, IsRow, AreRows}
+use Rattle.network.proofs.Rows.{landmark-below}
 use Rattle.calls.proofs.Flat.{paste-over}
 use Rattle.calls.proofs.Judging.{then-assoc, size-accept, lengths-accept, rows-accept, landmarks-accept, table-accept}
 
@@ -52,14 +52,6 @@ module _ (n r : ℕ) (ls : List ℕ) (es : List Edge) (ws bs ws′ bs′ : List 
 
 -- ---- what numbers 1 to 4 leave: a network whose sides may be opened, and row lists that are long enough
 
-landmarks-below : (n : ℕ) (ls : List ℕ) (i : ℕ) → areLandmarks n ls ≡ true → i < length ls → getD ls i 0 < n
-unfolding areLandmarks
-landmarks-below n [] i h k = absurd (omega arith)
-landmarks-below n (l ∷ ls) zero h k = ltb-true _ _ ((both (ltb l n) _ h) .0)
-landmarks-below n (l ∷ ls) (suc i) h k =
-    let z = both (ltb l n) _ h in
-    landmarks-below n ls i ((both (not (isIn l ls)) (areLandmarks n ls) (z .1)) .1) (omega arith)
-
 pub open-accept : (n : ℕ) (ls ts hs ws f b : List ℕ) (m : ℕ) → settledVerdict n ls (network ts hs ws f b m) ≡ accept
     → Openable n m ls ts hs ws × (rowCount ls * n ≤ length f) × (rowCount ls * n ≤ length b)
 open-accept n ls ts hs ws f b m e =
@@ -75,7 +67,7 @@ open-accept n ls ts hs ws f b m e =
       records = t .0;
       room = room-less (t .0) (lengths-accept ts hs ws (s .0));
       rules = t .1;
-      landmarks = record { few = p .0; vertices = λ i k. landmarks-below n ls i (p .1) k };
+      landmarks = record { few = p .0; vertices = λ i k. landmark-below n ls i (l .0) k };
     } in
     (o, x .0, x .1)
 

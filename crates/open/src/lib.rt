@@ -24,7 +24,7 @@ pub enum Opened {
 }
 
 // Row `r` of a side is opened and settled in `part`. Whether some vertex still waits.
-pub fn open_row(
+fn open_row(
     r: usize,
     n: usize,
     count: usize,
@@ -53,7 +53,7 @@ pub fn open_row(
 }
 
 // Every row of a side, one after the other in `out`. Whether some vertex still waits in some row.
-pub fn open_rows(
+fn open_rows(
     n: usize,
     count: usize,
     landmarks: &[u32],
@@ -91,7 +91,7 @@ pub fn open_rows(
 }
 
 // The forward rows, by the index of the table. Whether some vertex still waits.
-pub fn open_forward(
+fn open_forward(
     n: usize,
     count: usize,
     landmarks: &[u32],
@@ -110,7 +110,7 @@ pub fn open_forward(
 }
 
 // The backward rows, by the reversed table and its index. Whether some vertex still waits.
-pub fn open_backward(
+fn open_backward(
     n: usize,
     count: usize,
     landmarks: &[u32],
@@ -144,7 +144,7 @@ pub fn open_backward(
 }
 
 // An opening that numbers 1 to 4 let pass, in scratch lists: they are copied to the row lists where nothing waits.
-pub fn open_in(
+fn open_in(
     n: usize,
     landmarks: &[u32],
     tails: &[u32],

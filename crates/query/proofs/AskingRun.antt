@@ -22,13 +22,10 @@ use Rattle.query.specs.declared.Answered.the-variants.{Settled, Refused}
 use Rattle.network.specs.Network.{Network}
 use Rattle.network.specs.Query.{Query, atStart, atEnd, queryVerdict, queryCall}
 use Rattle.query.specs.Code.{answering, wordsOf, asOutcome, faults}
+use Rattle.calls.proofs.Flat.{paste-over}
 use Rattle.query.proofs.AskingFaults.{faults-then}
 
 -- ---- a whole list copied
-
--- to the front of another
-pub paste-over : (d s : List ℕ) (n : ℕ) → length s ≡ n → paste d 0 s n ≡ over s d
-paste-over d s n e = rw (zero-add, take-all n s (omega arith), e)
 
 -- over one as long
 pub paste-whole : (d s : List ℕ) (n : ℕ) → length d ≡ n → length s ≡ n → paste d 0 s n ≡ s

@@ -24,10 +24,6 @@ replicate-at zero i a = refl
 replicate-at (suc n) zero a = refl
 replicate-at (suc n) (suc i) a = replicate-at n i a
 
--- the end of a loop that fills a list
-pub fill-done : (d l : List ℕ) (v i : ℕ) → l ≡ replicate i v ++ drop i d → i ≡ length d → l ≡ replicate (length d) v
-fill-done d l v i e p = e ∙ rw (p, drop-length, append-nil)
-
 -- ---- s alone waits, where nobody waited before
 
 module _ (n s : ℕ) (bs cs : List ℕ) (h : s < n) (few : n ≤ capacity) (e : waitingOf bs ≡ replicate capacity false) (put : waitingOf cs ≡ set (waitingOf bs) s true) where

@@ -1,19 +1,22 @@
 -- Runs: document 01, "Runs". They compute. Assumes nothing.
 --
---   Tally                == the tally: schedule entries taken ("picks taken"), rounds, stores that bettered a word
---   State                == the words of a row, one waiting bit for each vertex, and the tally so far
---   word P ws t          == the word of vertex t
---   waits st i           == vertex i waits
---   relaxable P ws e     == going along e would better its head's word
---   tight P ws e         == going along e gives exactly its head's word
---   relax P st e         == the state after going along e: where its head's word would get better, it is stored and set waiting
---   clear st i           == vertex i waits no more
---   handle P es st i     == vertex i is handled: its bit is cleared, then its edges are gone along in table order
---   visit P es st i      == vertex i is handled if it waits
---   take P es st i       == one entry of the schedule: handled and counted if it waits, else skipped
---   pass P es vs st      == the schedule vs is gone through
---   round P es n st      == one round: vertices ascending, each handled if waiting when its turn comes
---   settle P es n k st   == rounds while any waits, at most k of them
+--   Tally                        == the tally: schedule entries taken ("picks taken"), rounds, stores that bettered a word
+--   State                        == the words of a row, one waiting bit for each vertex, and the tally so far
+--   word P ws t                  == the word of vertex t
+--   waits st i                   == vertex i waits
+--   relaxable P ws e             == going along e would better its head's word
+--   tight P ws e                 == going along e gives exactly its head's word
+--   relax P st e                 == the state after going along e: where its head's word would get better, it is stored and set waiting
+--   clear st i                   == vertex i waits no more
+--   handle P es st i             == vertex i is handled: its bit is cleared, then its edges are gone along in table order
+--   visit P es st i              == vertex i is handled if it waits
+--   take P es st i               == one entry of the schedule: handled and counted if it waits, else skipped
+--   pass P es vs st              == the schedule vs is gone through
+--   round P es n st              == one round: vertices ascending, each handled if waiting when its turn comes
+--   settle P es n k st           == rounds while any waits, at most k of them
+--   noTally                      == the tally of a run that starts
+--   oneTaken, oneRound, oneStore == the tally raised by a step
+--   storeIf, visitIf, takeIf     == what a step does where its test holds
 use mathlib.Core.Bool.{Bool, true, false}
 use mathlib.Core.List.{List, foldl}
 use Prim.Native.Nat.{ℕ, zero, suc}

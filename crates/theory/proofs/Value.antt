@@ -20,14 +20,9 @@ use Rattle.graph.proofs.Lists.{at-set}
 use Rattle.graph.proofs.Order.{Within}
 use Rattle.run.specs.Run.{State, word, relaxable, settle}
 use Rattle.run.specs.Start.{opened}
+use Rattle.run.proofs.Starts.{replicate-at}
 use Rattle.theory.proofs.Walk.{Walk, walk?, walk-of, route-of}
 use Rattle.theory.proofs.Settle.{Settled, Backed, Sound, Inv, settled-complete, settled, settle-good}
-
--- a list of one value has it everywhere, if it is the one beyond its end too
-pub replicate-at : {A : Type 0} (k i : ℕ) (d : A) → getD (replicate k d) i d ≡ d
-replicate-at zero i d = refl
-replicate-at (suc k) zero d = refl
-replicate-at (suc k) (suc i) d = replicate-at k i d
 
 abbrev pub from : Property → ℕ → Property
 from P v = record { start = v; none = P .none; along = P .along; better = P .better; join = P .join }

@@ -1,9 +1,9 @@
 -- `network::judge::are_landmarks` meets its contract: what is left of the list decides. Assumes nothing.
 use borrow.Author.Needs.{needs}
 use native.Mathlib.Omega.{arith}
-use Prim.Native.Nat.{_-_}
+use Prim.Native.Nat.{_-_, _≤_}
 use mathlib.Core.Path.{_≡_, refl, sym, _∙_}
-use lib.ListN.{length, drop}
+use lib.ListN.{length, getD, drop}
 use Rattle.network.specs.Network.{areLandmarks}
 use Rattle.calls.proofs.Judging.{landmark-high, landmark-twice, landmark-more, landmark-none}
 use Rattle.calls.proofs.are_landmarks.Statement.{statement}
@@ -27,7 +27,9 @@ shared-slice-read-v c = search needs
 returns : tie.Need-returns Inv-loop μ-loop
 returns c =
     let t = c .before .before in
-    landmark-high _ _ (t .before .loop .i) (t .before .loop .inv) (t .loop-test .taken) (c .if1 .taken)
+    let a = t .before .before .before .args in
+    let h : a .n ≤ getD (a .vertices .now) (t .before .loop .i) 0 = omega arith in
+    landmark-high _ _ (t .before .loop .i) (t .before .loop .inv) (t .loop-test .taken) h
 
 add-is-in : tie.Need-add-is-in Inv-loop μ-loop
 add-is-in c = search needs

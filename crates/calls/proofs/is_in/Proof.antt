@@ -1,6 +1,5 @@
 -- `network::judge::is_in` meets its contract: what is left of the list decides. Assumes nothing.
 use borrow.Author.Needs.{needs}
-use native.Mathlib.Omega.{arith}
 use Prim.Native.Nat.{_-_}
 use mathlib.Core.Path.{_≡_, refl}
 use lib.ListN.{length, drop}
@@ -8,8 +7,6 @@ use Rattle.network.specs.Network.{isIn}
 use Rattle.calls.proofs.Judging.{in-found, in-more, in-none}
 use Rattle.calls.proofs.is_in.Statement.{statement}
 use Rattle.calls.proofs.is_in.Tie as tie
-use Rattle.calls.proofs.is_in.Reads as reads
-use Rattle.calls.proofs.is_in.Lts as lts
 
 abbrev Inv-loop : tie.InvT-loop
 Inv-loop v vertices from i₀ i = isIn v (drop i vertices) ≡ isIn v (drop from vertices)

@@ -5,8 +5,6 @@ use Prim.Native.Nat.{_<_}
 use Rattle.calls.proofs.Judging.{short-none, short-some}
 use Rattle.calls.proofs.is_short.Statement.{statement}
 use Rattle.calls.proofs.is_short.Tie as tie
-use Rattle.calls.proofs.is_short.Reads as reads
-use Rattle.calls.proofs.is_short.Lts as lts
 
 returns : tie.Need-returns
 returns c = short-none _ _ _ (c .if1 .taken)

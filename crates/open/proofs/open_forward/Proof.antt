@@ -1,9 +1,9 @@
 -- `network::open::open_forward` meets its contract. Assumes nothing.
 use Prim.Native.Nat.{_<_}
 use native.Mathlib.Omega.{arith}
-use lib.ListN.{length, replicate}
+use lib.ListN.{length}
 use borrow.Author.Needs.{needs}
-use Rattle.graph.proofs.Own.{keyed-tails, fit-table, own-table}
+use Rattle.graph.proofs.Own.{tails-below, fit-table, own-table}
 use Rattle.open.proofs.open_forward.Statement.{statement}
 use Rattle.open.proofs.open_forward.Tie as tie
 
@@ -15,7 +15,13 @@ index-requires c κs =
     let s = c .before .before .before .before .before .before in
     let g = s .args in
     let o = s .pre .0 in
-    keyed-tails (g .n) (g .count) (g .tails .now) (g .heads .now) (g .weights .now) (o .room) (o .rules) (replicate 257 0) (o .few) (o .records) (omega (arith, o .few))
+    record {
+      few = o .few;
+      records = omega (arith, o .records);
+      keys = omega (arith, o .room .tails);
+      firsts = omega (arith, o .few);
+      vertices = λ k l. tails-below (g .n) (g .count) (g .tails .now) (g .heads .now) (g .weights .now) (o .room) (o .rules) k (omega arith);
+    }
 
 slice-aggregate-open-rows : tie.Need-slice-aggregate-open-rows
 slice-aggregate-open-rows c = search needs

@@ -75,7 +75,8 @@ sides-holds c = (sides-all _ _ _ _ _, omega arith, refl)
 loop-holds : tie.Need-loop-holds Inv-loop2 μ-loop2 Inv-loop μ-loop Inv-sides μ-sides
 loop-holds c =
     let s = c .before in
-    (sides-more _ _ _ _ _ (s .sides .side) (s .sides .inv .0) (c .sides-test .taken), omega arith, s .sides .inv .2)
+    let l : s .sides .side < 2 = omega arith in
+    (sides-more _ _ _ _ _ (s .sides .side) (s .sides .inv .0) l, omega arith, s .sides .inv .2)
 
 loop2-holds : tie.Need-loop2-holds Inv-loop2 μ-loop2 Inv-loop μ-loop Inv-sides μ-sides
 loop2-holds c =
