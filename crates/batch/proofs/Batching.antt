@@ -1,9 +1,7 @@
 -- One row of a batch as its functions leave it, and a table that is written over another. Assumes nothing.
 use mathlib.Core.Path.{_≡_, refl, sym, ap, _∙_}
-use mathlib.Core.Bool.{Bool}
 use mathlib.Core.List.{List, [], _∷_, _++_, map, append-assoc}
-use Prim.Native.Nat.{ℕ, zero, suc, _+_, _-_, _*_, _/_, _%_, _≤_, _<_}
-use native.Mathlib.Nat.{zero-add}
+use Prim.Native.Nat.{ℕ, zero, suc, _+_, _-_, _/_, _%_, _≤_}
 use native.Mathlib.Numerals.{add-one}
 use native.Mathlib.Omega.{arith}
 use lib.ListN.{length, getD, take, drop, replicate, length-append, length-replicate}
@@ -14,19 +12,17 @@ use Rattle.frontier.specs.Waiting.{waitingOf, anyOf, countOf}
 use Rattle.frontier.proofs.Counts.{count-le}
 use Rattle.graph.specs.Limits.{maxVertices, maxEdges}
 use Rattle.graph.specs.Refusal.{over}
-use Rattle.graph.specs.Edge.{Edge, edge, zip, edges}
+use Rattle.graph.specs.Edge.{Edge, zip, edges}
 use Rattle.graph.specs.Code.{Room, columns}
 use Rattle.graph.proofs.Records.{edges-length, edges-tails, edges-heads}
 use Rattle.run.specs.declared.Tally.{Tally}
 use Rattle.run.specs.Run.{State, settle, noTally}
-use Rattle.run.specs.Code.{bits, noCounts, state, Held, Sized, Ran}
+use Rattle.run.specs.Code.{bits, noCounts, state, Ran}
 use Rattle.run.proofs.States.{bits-any}
 use Rattle.affected.specs.Affected.{affected}
 use Rattle.affected.specs.Prepared.{prepared}
-use Rattle.affected.specs.Code.{Marks}
 use Rattle.affected.proofs.Sweeps.{affected-length}
-use Rattle.batch.specs.declared.Rowed.{Rowed}
-use Rattle.network.specs.Network.{landmarkOf, propertyOf}
+use Rattle.batch.specs.declared.sides.Rowed.{Rowed}
 use Rattle.network.specs.Batch.{rewritten}
 use Rattle.batch.specs.Code.{rowAffected, rowEnd, RowDone}
 

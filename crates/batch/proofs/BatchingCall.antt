@@ -1,14 +1,14 @@
 -- A batch as a call: numbers 1 to 4, then its changes, then number 13, and what is lent. Assumes nothing.
-use mathlib.Core.Path.{_≡_, refl, sym, ap, _∙_}
-use mathlib.Core.Bool.{Bool, true, false, _&&_, _||_}
-use mathlib.Core.List.{List, [], _∷_, _++_, map}
+use mathlib.Core.Path.{_≡_, sym, ap, _∙_}
+use mathlib.Core.Bool.{true, false, not, _||_}
+use mathlib.Core.List.{List, [], _∷_, map}
 use Prim.Native.Nat.{ℕ, zero, suc, _+_, _*_, _≤_, _<_, min}
 use native.Mathlib.Nat.{zero-add, mul-le-mul-right}
 use native.Mathlib.Omega.{arith}
-use lib.ListN.{length, take, drop}
+use lib.ListN.{length, getD, take, drop}
 use lib.Seq.{paste, take-at, take-all, length-take-le}
-use lib.Dec.{ltb, eqb}
-use borrow.Author.Tests.{lt-ltb, le-ltb}
+use lib.Dec.{ltb}
+use borrow.Author.Tests.{lt-ltb, le-ltb, ltb-true}
 use Rattle.graph.specs.declared.Judged.{Judged}
 use Rattle.graph.specs.declared.Judged.the-variants.{Fine, Refused}
 use Rattle.graph.specs.Limits.{maxVertices, maxLandmarks, maxBatch}
@@ -20,11 +20,11 @@ use Rattle.graph.proofs.Tests.{both}
 use Rattle.graph.proofs.Verdicts.{then-accept, accept-then, refuse-then}
 use Rattle.batch.specs.declared.Report.{Report}
 use Rattle.batch.specs.declared.Applied.the-variants as applied
-use Rattle.batch.specs.declared.Rowed.{Rowed}
-use Rattle.network.specs.Network.{Network, edgesIn, rowCount, shortRows, landmarks, flat, unsettled}
+use Rattle.batch.specs.declared.sides.Rowed.{Rowed}
+use Rattle.network.specs.Network.{Network, edgesIn, rowCount, shortRows, landmarks, isIn, areLandmarks, unsettled}
 use Rattle.network.specs.Change.{Change, edits, items}
 use Rattle.network.specs.Batch.{batchVerdict, newForward, newBackward, batchCall, rewritten}
-use Rattle.batch.specs.Code.{applying, changes, RowsDone, Fair, faults, forwardRows, backwardRows, SidesDone, committed, batchOutcome}
+use Rattle.batch.specs.Code.{applying, changes, RowsDone, Fair, faults, SidesDone, committed, batchOutcome}
 use Rattle.calls.specs.Code.{rowLists, network, Placed}
 use Rattle.network.proofs.Rows.{landmark-below}
 use Rattle.calls.proofs.Judging.{then-assoc, size-accept, lengths-accept, rows-accept, landmarks-accept, table-accept}

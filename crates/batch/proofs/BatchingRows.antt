@@ -2,10 +2,10 @@
 --
 --   Rowing n ls es fs xs ys u a s r k == of k rows the first r are done: they stand one after the other in ys, u says whether some vertex
 --                                       waits in one of them, and a and s are their affected vertices and stores
-use mathlib.Core.Path.{_≡_, refl, sym, ap, _∙_}
+use mathlib.Core.Path.{_≡_, ap, _∙_}
 use mathlib.Core.Bool.{Bool, false, _||_}
 use mathlib.Core.List.{List, [], _∷_, map}
-use Prim.Native.Nat.{ℕ, zero, suc, _+_, _-_, _*_, _≤_, _<_}
+use Prim.Native.Nat.{ℕ, suc, _+_, _-_, _*_, _≤_, _<_}
 use native.Mathlib.Nat.{sub-zero, zero-add}
 use native.Mathlib.Numerals.{add-one}
 use native.Mathlib.Omega.{arith}
@@ -15,7 +15,7 @@ use Rattle.frontier.specs.Waiting.{countOf}
 use Rattle.graph.specs.Limits.{maxVertices, maxEdges}
 use Rattle.graph.specs.Edge.{Edge, range}
 use Rattle.run.specs.Run.{State}
-use Rattle.batch.specs.declared.Rowed.{Rowed}
+use Rattle.batch.specs.declared.sides.Rowed.{Rowed}
 use Rattle.network.specs.Network.{rowCount, row, flat, unsettled, storesOf}
 use Rattle.network.specs.Batch.{affectedIn, batchRow, affectedOver}
 use Rattle.batch.specs.Code.{RowDone, RowsDone}

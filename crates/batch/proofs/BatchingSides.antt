@@ -11,7 +11,7 @@ use Rattle.graph.proofs.Records.{room-less}
 use Rattle.graph.proofs.Own.{own-table, fit-table, keyed-tails, keyed-heads, own-reversed, fit-reversed}
 use Rattle.affected.specs.Code.{Absent}
 use Rattle.affected.proofs.Reversed.{ends-rules, ends-reverse, edges-reverse, absent-reverse}
-use Rattle.batch.specs.declared.Rowed.{Rowed}
+use Rattle.batch.specs.declared.sides.Rowed.{Rowed}
 use Rattle.batch.specs.Code.{Tabled, Compared, Indexed, RowsDone}
 
 -- ---- a table beside another

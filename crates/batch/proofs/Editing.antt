@@ -14,17 +14,17 @@ use Rattle.graph.specs.declared.Found.the-variants.{At, Absent}
 use Rattle.graph.specs.Limits.{maxEdges}
 use Rattle.graph.specs.Refusal.{Verdict, accept, refuse, _▷_, refuseIf}
 use Rattle.graph.specs.Edge.{Edge, edge, present, edges}
-use Rattle.graph.specs.Table.{isWeight, insert, delete}
+use Rattle.graph.specs.Table.{isWeight}
 use Rattle.graph.specs.Code.{Room, find}
 use Rattle.graph.proofs.Tests.{or-right}
-use Rattle.graph.proofs.Verdicts.{then-accept, if-accept, not-accept}
+use Rattle.graph.proofs.Verdicts.{then-accept, if-accept}
 use Rattle.graph.proofs.Order.{rules-accept, accept-rules}
 use Rattle.graph.proofs.Records.{room-less, edges-length}
 use Rattle.graph.proofs.Lookup.{found-present, absent-present, find-pair}
 use Rattle.batch.specs.declared.items.Edited.{Edited}
 use Rattle.batch.specs.declared.items.Edited.the-variants.{Count, Refused}
-use Rattle.network.specs.Change.{Change, named, inserts, edit, edits, item, items}
-use Rattle.batch.specs.Code.{change, changes, words, against, verdict, Tabled, Leaves}
+use Rattle.network.specs.Change.{Change, edit, edits, item, items}
+use Rattle.batch.specs.Code.{change, changes, words, against, Tabled, Leaves}
 use Rattle.network.proofs.Items.{item-good}
 
 -- ---- four lists side by side

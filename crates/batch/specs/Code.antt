@@ -27,7 +27,7 @@ use Prim.Native.Nat.{ℕ, _+_, _*_, _≤_}
 use lib.ListN.{length}
 use lib.Dec.{ltb, eqb}
 use Rattle.frontier.specs.Waiting.{anyOf, countOf}
-use Rattle.graph.specs.Limits.{maxVertices, maxEdges, maxLandmarks, maxBatch}
+use Rattle.graph.specs.Limits.{maxVertices, maxEdges, maxBatch}
 use Rattle.graph.specs.Refusal.{Verdict, accept, refuse, _▷_, refuseIf, Reply, accepted, refused, Outcome, outcome, over}
 use Rattle.graph.specs.Edge.{Edge, reverse, present, edges}
 use Rattle.graph.specs.Table.{isWeight, rules, size, shortTable, table}
@@ -39,7 +39,7 @@ use Rattle.affected.specs.Prepared.{prepared}
 use Rattle.affected.specs.Code.{Absent, Ends}
 use Rattle.batch.specs.declared.items.Edited.{Edited}
 use Rattle.batch.specs.declared.items.Edited.the-variants.{Count, Refused}
-use Rattle.batch.specs.declared.Rowed.{Rowed}
+use Rattle.batch.specs.declared.sides.Rowed.{Rowed}
 use Rattle.batch.specs.declared.Applied.{Applied}
 use Rattle.batch.specs.declared.Applied.the-variants as applied
 use Rattle.batch.specs.declared.Report as declared

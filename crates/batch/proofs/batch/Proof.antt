@@ -1,7 +1,7 @@
 -- `network::batch::batch` meets its contract. Assumes nothing.
 use borrow.Author.Needs.{needs}
 use native.Mathlib.Omega.{arith}
-use mathlib.Core.Path.{_≡_, sym, ap, _∙_}
+use mathlib.Core.Path.{sym, ap, _∙_}
 use Rattle.graph.specs.Code.{told}
 use Rattle.batch.proofs.BatchingCall.{call-faulty}
 use Rattle.batch.proofs.batch.Statement.{statement}

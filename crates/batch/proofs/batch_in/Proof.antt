@@ -7,9 +7,8 @@ use lib.ListN.{length}
 use Rattle.graph.specs.Limits.{maxEdges}
 use Rattle.graph.specs.Refusal.{accept}
 use Rattle.graph.specs.Edge.{edges}
-use Rattle.graph.specs.Code.{Room}
 use Rattle.graph.proofs.Records.{room-less}
-use Rattle.network.specs.Change.{items, edits}
+use Rattle.network.specs.Change.{items}
 use Rattle.calls.specs.Code.{network}
 use Rattle.batch.specs.Code.{changes, verdict, Tabled, Fair, faults}
 use Rattle.batch.proofs.BatchingCall.{faults-as, faults-fair, edges-copied, call-item, call-committed}

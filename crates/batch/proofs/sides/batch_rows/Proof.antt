@@ -1,4 +1,4 @@
--- `network::batch::batch_rows` meets its contract. Assumes nothing.
+-- `network::sides::batch_rows` meets its contract. Assumes nothing.
 use borrow.Author.Needs.{needs}
 use native.Mathlib.Omega.{arith}
 use mathlib.Core.Path.{refl, sym, _∙_}
@@ -8,8 +8,8 @@ use Rattle.graph.specs.Edge.{edges}
 use Rattle.network.specs.Network.{rowCount}
 use Rattle.calls.proofs.Flat.{row-end, row-size}
 use Rattle.batch.proofs.BatchingRows.{Rowing, rows-start, rows-turn, rows-done}
-use Rattle.batch.proofs.batch_rows.Statement.{statement}
-use Rattle.batch.proofs.batch_rows.Tie as tie
+use Rattle.batch.proofs.sides.batch_rows.Statement.{statement}
+use Rattle.batch.proofs.sides.batch_rows.Tie as tie
 
 abbrev Inv-loop : tie.InvT-loop
 Inv-loop n landmarks count1 tails1 heads1 weights1 gone count2 tails2 heads2 weights2 fresh firsts ends lengths rows out₀ size unsettled₀ affected₀ stores₀ r₀ out unsettled affected stores r =

@@ -1,12 +1,12 @@
--- `network::batch::batch_backward` meets its contract. Assumes nothing.
+-- `network::sides::batch_backward` meets its contract. Assumes nothing.
 use borrow.Author.Needs.{needs}
 use native.Mathlib.Omega.{arith}
 use Prim.Native.Nat.{_≤_}
 use Rattle.graph.specs.Limits.{maxEdges}
 use Rattle.graph.specs.Code.{Room}
-use Rattle.batch.proofs.BatchingSides.{tabled-room, tabled-heads, indexed-reversed, compared-reversed, done-reversed}
-use Rattle.batch.proofs.batch_backward.Statement.{statement}
-use Rattle.batch.proofs.batch_backward.Tie as tie
+use Rattle.batch.proofs.BatchingSides.{tabled-heads, indexed-reversed, compared-reversed, done-reversed}
+use Rattle.batch.proofs.sides.batch_backward.Statement.{statement}
+use Rattle.batch.proofs.sides.batch_backward.Tie as tie
 
 abbrev start : tie.After-rweights → tie.Start
 start w = w .before .before .before .before .before .before .before .before .before .before .before .before .before .before .before .before

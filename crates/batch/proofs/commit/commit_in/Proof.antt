@@ -1,28 +1,28 @@
--- `network::batch::commit_in` meets its contract. Assumes nothing.
+-- `network::commit::commit_in` meets its contract. Assumes nothing.
 use borrow.Author.Needs.{needs}
 use native.Mathlib.Omega.{arith}
 use mathlib.Core.Path.{_≡_, refl, sym, _∙_}
-use Prim.Native.Nat.{_+_, _*_, _≤_}
+use Prim.Native.Nat.{_*_, _≤_}
 use lib.ListN.{length}
 use Rattle.graph.specs.Limits.{maxEdges}
 use Rattle.graph.proofs.Records.{room-less, edges-length}
 use Rattle.network.specs.Network.{rowCount}
 use Rattle.batch.proofs.BatchingCall.{committed-refused, committed-done}
-use Rattle.batch.proofs.commit_in.Statement.{statement}
-use Rattle.batch.proofs.commit_in.Tie as tie
+use Rattle.batch.proofs.commit.commit_in.Statement.{statement}
+use Rattle.batch.proofs.commit.commit_in.Tie as tie
 
-abbrev start : tie.After-batch-sides → tie.Start
+abbrev start : tie.After-batch-runs → tie.Start
 start b = b .before .before .before .before .before .before .before .before .before .before .before .before .before .before .before .before .before .before .before .before .before .before .before
 
 -- the new rows are as long as before
-ahead-long : (b : tie.After-batch-sides) → let g = start b .args in length (b .batch-sides .last .1 .1 .1 .1 .1 .1 .1 .1 .1 .1 .1 .1 .1 .1 .0) ≡ rowCount (g .landmarks .now) * g .n
-ahead-long b = b .batch-sides .kept .1 .1 .1 .1 .1 .1 .1 .1 .1 .1 .1 .1 .1 .1 .0 ∙ start b .pre .1 .1 .ahead
+ahead-long : (b : tie.After-batch-runs) → let g = start b .args in length (b .batch-runs .last .1 .1 .1 .1 .1 .1 .1 .1 .1 .1 .1 .1 .1 .1 .0) ≡ rowCount (g .landmarks .now) * g .n
+ahead-long b = b .batch-runs .kept .1 .1 .1 .1 .1 .1 .1 .1 .1 .1 .1 .1 .1 .1 .0 ∙ start b .pre .1 .1 .ahead
 
-back-long : (b : tie.After-batch-sides) → let g = start b .args in length (b .batch-sides .last .1 .1 .1 .1 .1 .1 .1 .1 .1 .1 .1 .1 .1 .1 .1 .0) ≡ rowCount (g .landmarks .now) * g .n
-back-long b = b .batch-sides .kept .1 .1 .1 .1 .1 .1 .1 .1 .1 .1 .1 .1 .1 .1 .1 .0 ∙ start b .pre .1 .1 .back
+back-long : (b : tie.After-batch-runs) → let g = start b .args in length (b .batch-runs .last .1 .1 .1 .1 .1 .1 .1 .1 .1 .1 .1 .1 .1 .1 .1 .0) ≡ rowCount (g .landmarks .now) * g .n
+back-long b = b .batch-runs .kept .1 .1 .1 .1 .1 .1 .1 .1 .1 .1 .1 .1 .1 .1 .1 .0 ∙ start b .pre .1 .1 .back
 
-batch-sides-requires : tie.Need-batch-sides-requires
-batch-sides-requires c κs = search needs
+batch-runs-requires : tie.Need-batch-runs-requires
+batch-runs-requires c κs = search needs
 
 same-length : tie.Need-same-length
 same-length c = search needs
@@ -54,7 +54,7 @@ same-length-9 c = search needs
 returns : tie.Need-returns
 returns c =
     let b = c .before .before .before .before .before .before .before .before .before in
-    committed-refused _ _ _ _ _ _ _ _ _ _ _ (b .batch-sides .result) (b .batch-sides .ensures) (c .if1 .taken)
+    committed-refused _ _ _ _ _ _ _ _ _ _ _ (b .batch-runs .result) (b .batch-runs .ensures) (c .if1 .taken)
 
 write-table-requires : tie.Need-write-table-requires
 write-table-requires c κs =
@@ -121,14 +121,14 @@ returns-2 c =
     let b = e .before .before .before .before .before .before .before .before .before in
     let s = start b in
     let t = s .pre .1 .0 in
-    committed-done _ _ _ _ _ _ _ _ _ _ _ (b .batch-sides .result) (b .batch-sides .ensures) (e .if1 .left) _ _ _ _ _ _ _ refl (back-long b ∙ sym (ahead-long b))
+    committed-done _ _ _ _ _ _ _ _ _ _ _ (b .batch-runs .result) (b .batch-runs .ensures) (e .if1 .left) _ _ _ _ _ _ _ refl (back-long b ∙ sym (ahead-long b))
     (sym (edges-length _ _ _ _ (room-less (t .few) (t .room)))) refl refl (w .write-table .ensures) (y .copy .ensures) (z .copy2 .ensures)
 
 pub commit-in-spec : {M : Type 1} → statement M
 commit-in-spec =
     tie.close
     (tie.spec
-    batch-sides-requires
+    batch-runs-requires
     same-length
     same-length-2
     same-length-3

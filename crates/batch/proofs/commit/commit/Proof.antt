@@ -1,4 +1,4 @@
--- `network::batch::commit` meets its contract. Assumes nothing.
+-- `network::commit::commit` meets its contract. Assumes nothing.
 use borrow.Author.Needs.{needs}
 use mathlib.Core.Path.{sym}
 use Prim.Native.Nat.{ℕ, _*_, _≤_}
@@ -7,8 +7,8 @@ use lib.ListN.{replicate}
 use lib.Seq.{length-take-le}
 use Rattle.network.specs.Network.{rowCount}
 use Rattle.batch.proofs.BatchingCall.{rows-room}
-use Rattle.batch.proofs.commit.Statement.{statement}
-use Rattle.batch.proofs.commit.Tie as tie
+use Rattle.batch.proofs.commit.commit.Statement.{statement}
+use Rattle.batch.proofs.commit.commit.Tie as tie
 
 abbrev start : tie.After-fresh → tie.Start
 start c = c .before .before .before .before .before .before .before .before .before .before .before .before .before .before .before .before

@@ -1,10 +1,10 @@
--- `network::batch::batch_row` meets its contract. Assumes nothing.
+-- `network::sides::batch_row` meets its contract. Assumes nothing.
 use borrow.Author.Needs.{needs}
 use native.Mathlib.Omega.{arith}
 use mathlib.Core.Path.{refl, _∙_}
 use Rattle.batch.proofs.Batching.{row-done}
-use Rattle.batch.proofs.batch_row.Statement.{statement}
-use Rattle.batch.proofs.batch_row.Tie as tie
+use Rattle.batch.proofs.sides.batch_row.Statement.{statement}
+use Rattle.batch.proofs.sides.batch_row.Tie as tie
 
 abbrev start : tie.After-empty → tie.Start
 start e = e .before .before .before .before .before .before .before .before .before .before .before .before .before .before .before

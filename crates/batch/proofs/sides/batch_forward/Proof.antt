@@ -1,9 +1,9 @@
--- `network::batch::batch_forward` meets its contract. Assumes nothing.
+-- `network::sides::batch_forward` meets its contract. Assumes nothing.
 use borrow.Author.Needs.{needs}
 use native.Mathlib.Omega.{arith}
 use Rattle.batch.proofs.BatchingSides.{indexed-table}
-use Rattle.batch.proofs.batch_forward.Statement.{statement}
-use Rattle.batch.proofs.batch_forward.Tie as tie
+use Rattle.batch.proofs.sides.batch_forward.Statement.{statement}
+use Rattle.batch.proofs.sides.batch_forward.Tie as tie
 
 slice-aggregate-index : tie.Need-slice-aggregate-index
 slice-aggregate-index c = search needs

@@ -1,9 +1,8 @@
--- `network::batch::write_words` meets its contract. Assumes nothing.
+-- `network::commit::write_words` meets its contract. Assumes nothing.
 use borrow.Author.Needs.{needs}
-use mathlib.Core.Path.{ap, _∙_}
 use Rattle.batch.proofs.Batching.{words-written}
-use Rattle.batch.proofs.write_words.Statement.{statement}
-use Rattle.batch.proofs.write_words.Tie as tie
+use Rattle.batch.proofs.commit.write_words.Statement.{statement}
+use Rattle.batch.proofs.commit.write_words.Tie as tie
 
 copy-requires : tie.Need-copy-requires
 copy-requires c κs = search needs

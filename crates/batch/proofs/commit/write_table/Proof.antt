@@ -1,8 +1,8 @@
--- `network::batch::write_table` meets its contract. Assumes nothing.
+-- `network::commit::write_table` meets its contract. Assumes nothing.
 use borrow.Author.Needs.{needs}
 use Rattle.batch.proofs.Batching.{table-written}
-use Rattle.batch.proofs.write_table.Statement.{statement}
-use Rattle.batch.proofs.write_table.Tie as tie
+use Rattle.batch.proofs.commit.write_table.Statement.{statement}
+use Rattle.batch.proofs.commit.write_table.Tie as tie
 
 write-words-requires : tie.Need-write-words-requires
 write-words-requires c κs = search needs

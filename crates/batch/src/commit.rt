@@ -1,0 +1,314 @@
+// A batch after which the table is that of number 2: all rows are run in scratch lists, and where every row settles all that is lent is
+// written. Nothing lent is written before nothing can refuse any more.
+use super::Applied;
+use super::Report;
+use super::sides;
+use super::sides::Rowed;
+use graph::words;
+ghost use mathlib.Core.Path.{_≡_};
+ghost use mathlib.Core.List.{_++_};
+ghost use Prim.Native.Nat.{_-_, _*_, _≤_};
+ghost use lib.ListN.{length, take, replicate};
+ghost use Rattle.graph.specs.Limits.{maxVertices, maxEdges};
+ghost use Rattle.graph.specs.Refusal.{over};
+ghost use Rattle.graph.specs.Edge.{edges};
+ghost use Rattle.graph.specs.Code.{Room, columns};
+ghost use Rattle.network.specs.Network.{rowCount};
+ghost use Rattle.network.specs.Batch.{rewritten};
+ghost use Rattle.calls.specs.Code.{network};
+ghost use Rattle.batch.specs.Code.{Tabled, Compared, Fair, Scratch, SidesDone, committed, batchOutcome};
+
+// The first `count` words of `new` over those of `list`, then zeros up to 2,048.
+fn write_words(count: usize, new: &[u32], list: &mut [u32])
+    requires { ⌜ (count ≤ maxEdges) × (count ≤ length (now new)) × (maxEdges ≤ length (now list)) ⌝ }
+    ensures { λ _. ⌜ now (list .exit) ≡ over (take count (now (new .entry)) ++ replicate (maxEdges - count) 0) (now (list .entry)) ⌝ }
+{
+    words::copy(count, new, list, 0);
+    let end = 2048;
+    words::fill(&mut list[count..end], 0);
+}
+
+// The table of number 2 over that of number 1: its records, then zeros up to 2,048.
+fn write_table(
+    count2: usize,
+    tails2: &[u32],
+    heads2: &[u32],
+    weights2: &[u32],
+    tails1: &mut [u32],
+    heads1: &mut [u32],
+    weights1: &mut [u32],
+)
+    requires { ⌜ (count2 ≤ maxEdges) × Room count2 (now tails2) (now heads2) (now weights2) × Room maxEdges (now tails1) (now heads1) (now weights1) ⌝ }
+    ensures { λ _. ⌜ columns (now (tails1 .exit)) (now (heads1 .exit)) (now (weights1 .exit)) ≡ rewritten (edges (now (tails2 .entry)) (now (heads2 .entry)) (now (weights2 .entry)) count2) (columns (now (tails1 .entry)) (now (heads1 .entry)) (now (weights1 .entry))) ⌝ }
+{
+    write_words(count2, tails2, tails1);
+    write_words(count2, heads2, heads1);
+    write_words(count2, weights2, weights1);
+}
+
+// The bytes of two tables: which edges of the one before the batch are gone, and which of the one after it, of number 2, are fresh.
+fn compare_tables(
+    n: u32,
+    tails: &[u32],
+    heads: &[u32],
+    weights: &[u32],
+    count: usize,
+    tails2: &[u32],
+    heads2: &[u32],
+    weights2: &[u32],
+    count2: usize,
+    gone: &mut [u8],
+    fresh: &mut [u8],
+)
+    requires { ⌜ (n ≤ maxVertices) × (maxEdges ≤ length (now gone)) × (maxEdges ≤ length (now fresh)) ⌝ }
+    requires { ⌜ Tabled n count (now tails) (now heads) (now weights) × Tabled n count2 (now tails2) (now heads2) (now weights2) ⌝ }
+    ensures { λ _. ⌜ Compared n count (now (tails .entry)) (now (heads .entry)) (now (weights .entry)) (now (gone .exit)) (edges (now (tails2 .entry)) (now (heads2 .entry)) (now (weights2 .entry)) count2) ⌝ }
+    ensures { λ _. ⌜ Compared n count2 (now (tails2 .entry)) (now (heads2 .entry)) (now (weights2 .entry)) (now (fresh .exit)) (edges (now (tails .entry)) (now (heads .entry)) (now (weights .entry)) count) ⌝ }
+{
+    affected::absent(
+        n,
+        count,
+        tails,
+        heads,
+        weights,
+        count2,
+        tails2,
+        heads2,
+        weights2,
+        gone,
+    );
+    affected::absent(
+        n,
+        count2,
+        tails2,
+        heads2,
+        weights2,
+        count,
+        tails,
+        heads,
+        weights,
+        fresh,
+    );
+}
+
+// All rows of both lists, for a batch after which the table is that of number 2: the new rows go to `ahead` and `back`.
+fn batch_sides(
+    n: usize,
+    landmarks: &[u32],
+    tails: &[u32],
+    heads: &[u32],
+    weights: &[u32],
+    count: usize,
+    forward: &[u32],
+    backward: &[u32],
+    tails2: &[u32],
+    heads2: &[u32],
+    weights2: &[u32],
+    count2: usize,
+    gone: &[u8],
+    fresh: &[u8],
+    ahead: &mut [u32],
+    back: &mut [u32],
+) -> Rowed
+    requires { ⌜ Fair n (now landmarks) (network (now tails) (now heads) (now weights) (now forward) (now backward) count) ⌝ }
+    requires { ⌜ Tabled n count2 (now tails2) (now heads2) (now weights2) ⌝ }
+    requires { ⌜ Compared n count (now tails) (now heads) (now weights) (now gone) (edges (now tails2) (now heads2) (now weights2) count2) ⌝ }
+    requires { ⌜ Compared n count2 (now tails2) (now heads2) (now weights2) (now fresh) (edges (now tails) (now heads) (now weights) count) ⌝ }
+    requires { ⌜ (length (now ahead) ≡ rowCount (now landmarks) * n) × (length (now back) ≡ rowCount (now landmarks) * n) ⌝ }
+    ensures { λ r. ⌜ SidesDone n (now (landmarks .entry)) (network (now (tails .entry)) (now (heads .entry)) (now (weights .entry)) (now (forward .entry)) (now (backward .entry)) count) (edges (now (tails2 .entry)) (now (heads2 .entry)) (now (weights2 .entry)) count2) (now (ahead .exit)) (now (back .exit)) r ⌝ }
+{
+    let f = sides::batch_forward(
+        n,
+        landmarks,
+        count,
+        tails,
+        heads,
+        weights,
+        gone,
+        count2,
+        tails2,
+        heads2,
+        weights2,
+        fresh,
+        forward,
+        ahead,
+    );
+    let b = sides::batch_backward(
+        n,
+        landmarks,
+        count,
+        tails,
+        heads,
+        weights,
+        gone,
+        count2,
+        tails2,
+        heads2,
+        weights2,
+        fresh,
+        backward,
+        back,
+    );
+    Rowed {
+        unsettled: f.unsettled | b.unsettled,
+        affected: f.affected + b.affected,
+        stores: f.stores + b.stores,
+    }
+}
+
+// The same with scratch lists: the tables are compared first.
+fn batch_runs(
+    n: u32,
+    landmarks: &[u32],
+    tails: &[u32],
+    heads: &[u32],
+    weights: &[u32],
+    count: usize,
+    forward: &[u32],
+    backward: &[u32],
+    tails2: &[u32],
+    heads2: &[u32],
+    weights2: &[u32],
+    count2: usize,
+    gone: &mut [u8],
+    fresh: &mut [u8],
+    ahead: &mut [u32],
+    back: &mut [u32],
+) -> Rowed
+    requires { ⌜ Fair n (now landmarks) (network (now tails) (now heads) (now weights) (now forward) (now backward) count) ⌝ }
+    requires { ⌜ Tabled n count2 (now tails2) (now heads2) (now weights2) ⌝ }
+    requires { ⌜ Scratch (rowCount (now landmarks) * n) (now gone) (now fresh) (now ahead) (now back) ⌝ }
+    ensures { λ r. ⌜ SidesDone n (now (landmarks .entry)) (network (now (tails .entry)) (now (heads .entry)) (now (weights .entry)) (now (forward .entry)) (now (backward .entry)) count) (edges (now (tails2 .entry)) (now (heads2 .entry)) (now (weights2 .entry)) count2) (now (ahead .exit)) (now (back .exit)) r ⌝ }
+{
+    compare_tables(
+        n,
+        tails,
+        heads,
+        weights,
+        count,
+        tails2,
+        heads2,
+        weights2,
+        count2,
+        gone,
+        fresh,
+    );
+    batch_sides(
+        n as usize,
+        landmarks,
+        tails,
+        heads,
+        weights,
+        count,
+        forward,
+        backward,
+        tails2,
+        heads2,
+        weights2,
+        count2,
+        gone,
+        fresh,
+        ahead,
+        back,
+    )
+}
+
+// A batch after which the table is that of number 2, in scratch lists: number 13, or all that is lent is written.
+fn commit_in(
+    n: u32,
+    landmarks: &[u32],
+    tails: &mut [u32],
+    heads: &mut [u32],
+    weights: &mut [u32],
+    count: usize,
+    forward: &mut [u32],
+    backward: &mut [u32],
+    tails2: &[u32],
+    heads2: &[u32],
+    weights2: &[u32],
+    count2: usize,
+    gone: &mut [u8],
+    fresh: &mut [u8],
+    ahead: &mut [u32],
+    back: &mut [u32],
+) -> Applied
+    requires { ⌜ Fair n (now landmarks) (network (now tails) (now heads) (now weights) (now forward) (now backward) count) ⌝ }
+    requires { ⌜ Tabled n count2 (now tails2) (now heads2) (now weights2) ⌝ }
+    requires { ⌜ Scratch (rowCount (now landmarks) * n) (now gone) (now fresh) (now ahead) (now back) ⌝ }
+    ensures { λ r. ⌜ batchOutcome r (now (tails .exit)) (now (heads .exit)) (now (weights .exit)) (now (forward .exit)) (now (backward .exit)) ≡ committed n (now (landmarks .entry)) (network (now (tails .entry)) (now (heads .entry)) (now (weights .entry)) (now (forward .entry)) (now (backward .entry)) count) (edges (now (tails2 .entry)) (now (heads2 .entry)) (now (weights2 .entry)) count2) ⌝ }
+{
+    let rows = batch_runs(
+        n,
+        landmarks,
+        tails,
+        heads,
+        weights,
+        count,
+        forward,
+        backward,
+        tails2,
+        heads2,
+        weights2,
+        count2,
+        gone,
+        fresh,
+        ahead,
+        back,
+    );
+    if rows.unsettled {
+        return Applied::Refused(13, 0);
+    }
+    write_table(count2, tails2, heads2, weights2, tails, heads, weights);
+    let k = ahead.len();
+    words::copy(k, ahead, forward, 0);
+    words::copy(k, back, backward, 0);
+    Applied::Done(Report {
+        count: count2 as u32,
+        affected: rows.affected,
+        stores: rows.stores,
+    })
+}
+
+// A batch after which the table is that of number 2.
+pub fn commit(
+    n: u32,
+    landmarks: &[u32],
+    tails: &mut [u32],
+    heads: &mut [u32],
+    weights: &mut [u32],
+    count: usize,
+    forward: &mut [u32],
+    backward: &mut [u32],
+    tails2: &[u32],
+    heads2: &[u32],
+    weights2: &[u32],
+    count2: usize,
+) -> Applied
+    requires { ⌜ Fair n (now landmarks) (network (now tails) (now heads) (now weights) (now forward) (now backward) count) ⌝ }
+    requires { ⌜ Tabled n count2 (now tails2) (now heads2) (now weights2) ⌝ }
+    ensures { λ r. ⌜ batchOutcome r (now (tails .exit)) (now (heads .exit)) (now (weights .exit)) (now (forward .exit)) (now (backward .exit)) ≡ committed n (now (landmarks .entry)) (network (now (tails .entry)) (now (heads .entry)) (now (weights .entry)) (now (forward .entry)) (now (backward .entry)) count) (edges (now (tails2 .entry)) (now (heads2 .entry)) (now (weights2 .entry)) count2) ⌝ }
+{
+    let k = landmarks.len() * 5 * (n as usize);
+    let mut gone = [0u8; 2048];
+    let mut fresh = [0u8; 2048];
+    let mut ahead = [0u32; 5120];
+    let mut back = [0u32; 5120];
+    commit_in(
+        n,
+        landmarks,
+        tails,
+        heads,
+        weights,
+        count,
+        forward,
+        backward,
+        tails2,
+        heads2,
+        weights2,
+        count2,
+        &mut gone,
+        &mut fresh,
+        &mut ahead[..k],
+        &mut back[..k],
+    )
+}
