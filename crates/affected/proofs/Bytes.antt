@@ -11,14 +11,9 @@ use lib.Seq.{getD-take, getD-set-same, getD-set-other, length-take-le, ext-getD}
 use borrow.Author.Count.{below-none, below-more}
 use Rattle.graph.specs.Edge.{Edge, edge, among, edges}
 use Rattle.graph.specs.Code.{Room, edgeAt}
+use Rattle.graph.proofs.Lists.{getD-within}
 use Rattle.graph.proofs.Records.{edges-length, edges-at}
 use Rattle.affected.specs.Code.{flag, flags, Absent}
-
--- within a list the default does not matter
-pub at-any : {A : Type 0} (l : List A) (i : ℕ) (d e : A) → i < length l → getD l i d ≡ getD l i e
-at-any [] i d e h = absurd (omega arith)
-at-any (x ∷ l) zero d e h = refl
-at-any (x ∷ l) (suc i) d e h = at-any l i d e (omega arith)
 
 flags-at : (m : ℕ) (bs : List ℕ) (k : ℕ) → k < m → getD (take m (flags bs)) k false ≡ flag (getD bs k 0)
 unfolding flag
@@ -33,7 +28,7 @@ module _ (ts hs ws : List ℕ) (m : ℕ) (r : Room m ts hs ws) (fs : List Edge) 
 
   lacks-at : (k : ℕ) → k < m → getD lacks k false ≡ not (among fs (edgeAt ts hs ws k))
   lacks-at k h =
-      at-any lacks k false (not (among fs (edge 0 0 0))) (omega (arith, lacks-length))
+      getD-within lacks k false (not (among fs (edge 0 0 0))) (omega (arith, lacks-length))
       ∙ List·getD-map (λ e. not (among fs e)) (edges ts hs ws m) k (edge 0 0 0)
       ∙ ap (λ e. not (among fs e)) (edges-at ts hs ws m r k h)
 

@@ -1,9 +1,8 @@
--- The closure of affected vertices: its test agrees with its record, marks that sweeps make are in it, marks that are closed have all of
--- it, and the order of records does not matter to it. Assumes nothing.
+-- The closure of affected vertices: its test agrees with its record, marks that are closed have all of it, marks that sweeps make
+-- are in it, and the order of records does not matter to it. Assumes nothing.
 --
 --   Named P es fs s ws ms    == each mark of ms is of an affected vertex
 --   Closed P es fs s ws ms   == each edge that would mark its head finds it marked
---   Same es es'              == the two lists have the same edges
 use mathlib.Core.Path.{_≡_, refl, sym, ap, _∙_}
 use mathlib.Core.Logic.{_↔_, _≢_}
 use mathlib.Core.Bool.{Bool, true, false, not, _||_, cond, false≢true}
@@ -15,20 +14,12 @@ use lib.Seq.{getD-set-other}
 use lib.Dec.{eqb}
 use borrow.Author.Tests.{eqb-true, eqb-false, eq-eqb, ne-eqb, not-true}
 use Rattle.property.specs.Property.{Property}
-use Rattle.property.proofs.Tests.{is-false}
 use Rattle.graph.specs.Edge.{Edge, among}
-use Rattle.graph.proofs.Tests.{both, and-true, or-right}
+use Rattle.graph.proofs.Tests.{both, and-true, or-right, same-test}
 use Rattle.graph.proofs.Edges.{among-mem, mem-among}
-use Rattle.graph.proofs.Order.{Within}
+use Rattle.graph.proofs.Order.{Within, Same}
 use Rattle.run.specs.Run.{word, tight}
 use Rattle.affected.specs.Affected.{removed, Held, Affected, struck, onward, held, marked, touches, mark, sweep, sweeps}
-
--- ---- tests
-
--- two tests that hold together are the same
-pub same-test : (a b : Bool) → (a ≡ true) ↔ (b ≡ true) → a ≡ b
-same-test true b h = sym (h .0 refl)
-same-test false b h = sym (is-false b (λ q. false≢true (h .1 q)))
 
 -- ---- the test and the record
 
@@ -54,6 +45,12 @@ abbrev pub Closed : Property → List Edge → List Edge → ℕ → List ℕ �
 Closed P es fs s ws ms = (e : Edge) → List·Memᴰ e es → touches P fs s ws ms e ≡ true → marked ms (e .head) ≡ true
 
 module _ (P : Property) (es fs : List Edge) (s : ℕ) (ws : List ℕ) where
+  -- ---- closed marks have every affected vertex
+
+  pub closed-marked : (ms : List Bool) → Closed P es fs s ws ms → {t : ℕ} → Affected P es fs s ws t → marked ms t ≡ true
+  closed-marked ms c (struck {e = e} m r h) = c e m (and-true (of-held P s ws e h) (rw r))
+  closed-marked ms c (onward {e = e} a m r h) = c e m (and-true (of-held P s ws e h) (or-right (removed fs e) (closed-marked ms c a)))
+
   -- ---- sweeps mark affected vertices alone
 
   touches-named : (ms : List Bool) (e : Edge) → Named P es fs s ws ms → List·Memᴰ e es → touches P fs s ws ms e ≡ true
@@ -91,12 +88,6 @@ module _ (P : Property) (es fs : List Edge) (s : ℕ) (ws : List ℕ) where
   sweeps-named zero ms g = g
   sweeps-named (suc k) ms g = sweeps-named k (sweep P es fs s ws ms) (sweep-named ms g)
 
-  -- ---- closed marks have every affected vertex
-
-  pub closed-marked : (ms : List Bool) → Closed P es fs s ws ms → {t : ℕ} → Affected P es fs s ws t → marked ms t ≡ true
-  closed-marked ms c (struck {e = e} m r h) = c e m (and-true (of-held P s ws e h) (rw r))
-  closed-marked ms c (onward {e = e} a m r h) = c e m (and-true (of-held P s ws e h) (or-right (removed fs e) (closed-marked ms c a)))
-
   -- ---- whom the closure never has
 
   affected-elsewhere : {t : ℕ} → Affected P es fs s ws t → t ≢ s
@@ -112,22 +103,6 @@ module _ (P : Property) (es fs : List Edge) (s : ℕ) (ws : List ℕ) where
   affected-below inside (onward {e = e} a m r h) = inside .heads e m
 
 -- ---- the order of records
-
-abbrev pub Same : List Edge → List Edge → Type 0
-Same es es' = (e : Edge) → List·Memᴰ e es ↔ List·Memᴰ e es'
-
-pub same-refl : (es : List Edge) → Same es es
-same-refl es e = (λ m. m, λ m. m)
-
-pub same-back : {es es' : List Edge} → Same es es' → Same es' es
-same-back p e = (p e .1, p e .0)
-
-pub same-within : {n : ℕ} {es es' : List Edge} → Same es es' → Within n es → Within n es'
-same-within p inside = record {
-  tails = λ e m. inside .tails e (p e .1 m);
-  heads = λ e m. inside .heads e (p e .1 m);
-  weights = λ e m. inside .weights e (p e .1 m);
-}
 
 removed-order : {fs fs' : List Edge} → Same fs fs' → (e : Edge) → removed fs e ≡ removed fs' e
 removed-order {fs} {fs'} q e = ap not (same-test (among fs e) (among fs' e)

@@ -14,13 +14,13 @@ use Rattle.property.specs.Property.{Property}
 use Rattle.frontier.specs.Waiting.{waitingOf}
 use Rattle.graph.specs.Edge.{Edge, edge}
 use Rattle.graph.proofs.Tests.{or-right}
+use Rattle.graph.proofs.Lists.{getD-within}
 use Rattle.run.specs.Run.{word}
 use Rattle.run.specs.Code.{bits}
+use Rattle.run.proofs.States.{bits-at, bits-set}
 use Rattle.affected.specs.Affected.{removed, held, marked, touches, mark}
 use Rattle.affected.specs.Code.{flag, holds}
 use Rattle.affected.proofs.Tests.{and-off}
-use Rattle.affected.proofs.Bytes.{at-any}
-use Rattle.affected.proofs.Bits.{bits-at, bits-insert}
 
 -- ---- one edge, on lists of marks
 
@@ -52,8 +52,8 @@ module _ (P : Property) (n s t h w g : ℕ) (ws bs : List ℕ) (tail : t < n) (h
 
   same-held : holds P s (getD ws t 0) w h (getD ws h 0) ≡ held P s ws e
   same-held =
-      let p : getD ws t 0 ≡ word P ws t = at-any ws t 0 (P .none) (omega arith) in
-      let q : getD ws h 0 ≡ word P ws h = at-any ws h 0 (P .none) (omega arith) in
+      let p : getD ws t 0 ≡ word P ws t = getD-within ws t 0 (P .none) (omega arith) in
+      let q : getD ws h 0 ≡ word P ws h = getD-within ws h 0 (P .none) (omega arith) in
       rw (p, q)
 
   -- the head is marked already
@@ -76,7 +76,7 @@ module _ (P : Property) (n s t h w g : ℕ) (ws bs : List ℕ) (tail : t < n) (h
       → waitingOf cs ≡ set (waitingOf bs) h true → Marked P n s e g ws bs cs
   unfolding flag
   mark-added cs k o i fs r =
-      bits-insert n bs cs h head i
+      bits-set n h bs cs true head i
       ∙ mark-now P fs s ws (bits n bs) e (ap (λ b. b && (removed fs e || marked (bits n bs) t)) (sym same-held ∙ k) ∙ pick o)
     where
       pick : (g ≡ 1) ⊎ (getD (waitingOf bs) t false ≡ true) → (removed fs e || marked (bits n bs) t) ≡ true

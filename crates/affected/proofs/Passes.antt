@@ -17,23 +17,15 @@ use Rattle.frontier.specs.Waiting.{waitingOf, capacity, countOf}
 use Rattle.graph.specs.Limits.{maxVertices}
 use Rattle.graph.specs.Edge.{Edge, edges}
 use Rattle.graph.specs.Code.{edgeAt}
+use Rattle.graph.proofs.Lists.{fold-turn, fold-done}
 use Rattle.graph.proofs.Records.{edges-more, edges-none}
-use Rattle.run.specs.Code.{bits}
+use Rattle.run.specs.Code.{bits, Marks}
+use Rattle.run.proofs.States.{bits-clear, marks-clear}
 use Rattle.affected.specs.Affected.{mark, sweep, sweeps, affected}
-use Rattle.affected.specs.Code.{Absent, Marks, Before, Spread}
+use Rattle.affected.specs.Code.{Absent, Before, Spread}
 use Rattle.affected.proofs.Sweeps.{sweeps-still}
-use Rattle.affected.proofs.Bits.{bits-clear, marks-clear}
 use Rattle.affected.proofs.Bytes.{absent-at}
 use Rattle.affected.proofs.Marking.{Marked}
-
--- ---- folds
-
-pub fold-turn : {A B : Type 0} (f : B → A → B) (x : A) {xs ys : List A} {b c z : B} → xs ≡ x ∷ ys → c ≡ f b x → foldl f b xs ≡ z
-    → foldl f c ys ≡ z
-fold-turn f x e q h = rw q (rw e at h)
-
-pub fold-done : {A B : Type 0} (f : B → A → B) {xs : List A} {b z : B} → xs ≡ [] → foldl f b xs ≡ z → b ≡ z
-fold-done f e h = rw e at h
 
 -- ---- one pass
 
@@ -93,7 +85,7 @@ pub record Passed (P : Property) (n s m : ℕ) (ts hs ws gs vs cs : List ℕ) (k
 module _ {P : Property} {n s m : ℕ} {ts hs ws gs vs cs : List ℕ} where
   pub passes-start : waitingOf cs ≡ replicate capacity false → n ≤ maxVertices → Passed P n s m ts hs ws gs vs cs 0
   unfolding affected
-  passes-start e h = record { left = λ fs q. rw (sub-zero, bits-clear n cs e h); marks = marks-clear n cs e }
+  passes-start e h = record { left = λ fs q. rw (sub-zero, bits-clear n cs h e); marks = marks-clear n cs h e }
 
   module _ {k : ℕ} (at : Passed P n s m ts hs ws gs vs cs k) where
     pub passes-turn : {ds : List ℕ} → k < n → Swept P n s m ts hs ws gs vs cs ds → Marks n ds → Passed P n s m ts hs ws gs vs ds (k + 1)

@@ -17,19 +17,21 @@ use borrow.Author.Count.{below-none, below-more}
 use borrow.Author.Tests.{eq-eqb, ne-eqb}
 use Rattle.property.specs.Property.{Property}
 use Rattle.frontier.specs.Waiting.{waitingOf, capacity}
+use Rattle.graph.specs.Limits.{maxVertices}
 use Rattle.graph.specs.Edge.{Edge, edges, exists, range}
 use Rattle.graph.specs.Code.{Room, edgeAt}
 use Rattle.graph.proofs.Records.{edges-more, edges-none}
 use Rattle.graph.proofs.Tests.{or-right}
-use Rattle.graph.proofs.Lists.{length-table, table-at}
+use Rattle.graph.proofs.Lists.{length-table, table-at, getD-within, replicate-at}
 use Rattle.run.specs.Run.{noTally, word}
-use Rattle.run.specs.Code.{bits}
+use Rattle.run.specs.Code.{bits, Marks}
+use Rattle.run.proofs.States.{bits-at, marks-clear}
 use Rattle.affected.specs.Affected.{added, marked, affected}
 use Rattle.affected.specs.Prepared.{cleared, reopened, prepared}
-use Rattle.affected.specs.Code.{flag, Absent, Marks, After}
+use Rattle.affected.specs.Code.{flag, Absent, After}
 use Rattle.affected.proofs.Tests.{or-swap, or-nothing}
-use Rattle.affected.proofs.Bytes.{at-any, absent-at}
-use Rattle.affected.proofs.Bits.{bits-at, none-at, marks-if, marks-clear}
+use Rattle.affected.proofs.Bytes.{absent-at}
+use Rattle.affected.proofs.Bits.{marks-if}
 
 -- ---- a list made entry by entry
 
@@ -62,7 +64,7 @@ module _ {P : Property} {n : ℕ} {ms ws out : List ℕ} where
     pub give-turn : length ws ≡ n → {b : Bool} {r : ℕ} → i < n → b ≡ getD (waitingOf ms) i false → r ≡ cond b (P .none) (getD ws i 0)
         → Given P n ms ws (set out i r) (i + 1)
     give-turn l {b} {r} h e q =
-        let x : getD ws i 0 ≡ word P ws i = at-any ws i 0 (P .none) (omega arith) in
+        let x : getD ws i 0 ≡ word P ws i = getD-within ws i 0 (P .none) (omega arith) in
         let y : r ≡ given P n ms ws i = q ∙ rw (e, ← bits-at n ms i h, x) in record {
           within = omega arith;
           size = length-set out i r ∙ at .size;
@@ -100,13 +102,13 @@ pub record Woken (n m : ℕ) (ts hs gs ms bs : List ℕ) (k : ℕ) : Type 0 wher
       ≡ exists (opens es (bits n ms) t) (edges ts hs ws m)
 
 module _ {n m : ℕ} {ts hs gs ms : List ℕ} where
-  pub wake-start : {bs : List ℕ} → waitingOf bs ≡ replicate capacity false → Woken n m ts hs gs ms bs 0
-  wake-start {bs} e = record {
+  pub wake-start : {bs : List ℕ} → n ≤ maxVertices → waitingOf bs ≡ replicate capacity false → Woken n m ts hs gs ms bs 0
+  wake-start {bs} few e = record {
     within = omega arith;
-    marks = marks-clear n bs e;
+    marks = marks-clear n bs few e;
     left = λ ws es r q t h.
         ap (λ (x : List Bool). getD x t false || exists (opens es (bits n ms) t) (edges ts hs ws m)) e
-        ∙ ap (λ b. b || exists (opens es (bits n ms) t) (edges ts hs ws m)) (none-at capacity t);
+        ∙ ap (λ b. b || exists (opens es (bits n ms) t) (edges ts hs ws m)) (replicate-at capacity t false);
   }
 
   module _ {bs : List ℕ} {k : ℕ} (fit : After n m ts hs gs) (at : Woken n m ts hs gs ms bs k) where

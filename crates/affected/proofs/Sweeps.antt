@@ -17,13 +17,13 @@ use Rattle.frontier.specs.Waiting.{countOf}
 use Rattle.frontier.proofs.Counts.{count-le}
 use Rattle.frontier.proofs.Laws.{count-insert}
 use Rattle.graph.specs.Edge.{Edge}
-use Rattle.graph.proofs.Lists.{fold-keeps}
+use Rattle.graph.proofs.Tests.{same-test}
+use Rattle.graph.proofs.Lists.{fold-keeps, replicate-at}
 use Rattle.graph.proofs.Edges.{among-mem}
-use Rattle.graph.proofs.Order.{Within}
+use Rattle.graph.proofs.Order.{Within, Same, same-back, same-within}
 use Rattle.run.specs.Run.{word, tight}
 use Rattle.affected.specs.Affected.{removed, Held, Affected, struck, onward, marked, touches, mark, sweep, sweeps, affected}
-use Rattle.affected.proofs.Closure.{same-test, Named, Closed, sweeps-named, closed-marked, landmark-unaffected}
-use Rattle.affected.proofs.Closure.{Same, same-back, same-within, affected-order}
+use Rattle.affected.proofs.Closure.{Named, Closed, sweeps-named, closed-marked, landmark-unaffected, affected-order}
 
 module _ (P : Property) (es fs : List Edge) (s : ℕ) (ws : List ℕ) where
   -- ---- sweeps keep the length
@@ -120,11 +120,6 @@ module _ (P : Property) (es fs : List Edge) (s : ℕ) (ws : List ℕ) where
 
 -- ---- the marks are the closure
 
-none-marked : (n t : ℕ) → marked (replicate n false) t ≡ false
-none-marked zero t = refl
-none-marked (suc n) zero = refl
-none-marked (suc n) (suc t) = none-marked n t
-
 -- two lists that mark the same vertices
 same-marks : (ms ls : List Bool) → length ms ≡ length ls → ((t : ℕ) → (marked ms t ≡ true) ↔ (marked ls t ≡ true)) → ms ≡ ls
 same-marks ms ls h f = ext-getD false ms ls h (λ t l. same-test (marked ms t) (marked ls t) (f t))
@@ -137,7 +132,7 @@ module _ (P : Property) (es fs : List Edge) (s : ℕ) (ws : List ℕ) (n : ℕ) 
   -- sweeps start from no marks and add only those of affected vertices
   pub affected-named : Named P es fs s ws marks
   unfolding affected
-  affected-named = sweeps-named P es fs s ws n (replicate n false) (λ t q. absurd (false≢true (sym (none-marked n t) ∙ q)))
+  affected-named = sweeps-named P es fs s ws n (replicate n false) (λ t q. absurd (false≢true (sym (replicate-at n t false) ∙ q)))
 
   pub unaffected-unmarked : (t : ℕ) → (Affected P es fs s ws t → ⊥) → marked marks t ≡ false
   unaffected-unmarked t d = is-false (marked marks t) (λ q. d (affected-named t q))

@@ -4,7 +4,6 @@
 --   flags bs                  == bytes as tests
 --   Absent m es fs bs         == byte j of bs says whether edge j of es is absent from fs, by its three words
 --   holds P s v w h x         == the test `held` of an edge's words: v at its tail, weight w, head h with x
---   Marks n bs                == bs has a bit for each vertex that may be, and none past the n vertices is set
 --   Ends n m ts hs            == the tails and heads of m edges are vertices below n
 --   Before n m ts hs ws gs vs == the table before a batch, a byte for each of its edges, and a row of n words
 --   After n m ts hs gs        == the table after a batch, as far as it is read, and a byte for each of its edges
@@ -16,11 +15,11 @@ use Prim.Native.Nat.{ℕ, _≤_, _<_}
 use lib.ListN.{length, getD, take}
 use lib.Dec.{eqb}
 use Rattle.property.specs.Property.{Property}
-use Rattle.frontier.specs.Waiting.{waitingOf, capacity, countOf}
+use Rattle.frontier.specs.Waiting.{countOf}
 use Rattle.graph.specs.Limits.{maxVertices}
 use Rattle.graph.specs.Edge.{Edge, among}
 use Rattle.graph.specs.Code.{Room}
-use Rattle.run.specs.Code.{bits, Idle}
+use Rattle.run.specs.Code.{bits, Marks}
 
 -- ---- bytes for edges
 
@@ -39,10 +38,6 @@ abbrev pub holds : Property → ℕ → ℕ → ℕ → ℕ → ℕ → Bool
 holds P s v w h x = eqb (P .along v w) x && (not (eqb h s) && not (eqb x (P .none)))
 
 -- ---- what is asked, and what is kept
-
-pub record Marks (n : ℕ) (bs : List ℕ) : Type 0 where
-  pub bits : length (waitingOf bs) ≡ capacity
-  pub idle : Idle n bs
 
 pub record Ends (n m : ℕ) (ts hs : List ℕ) : Type 0 where
   pub few : n ≤ maxVertices

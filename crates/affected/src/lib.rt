@@ -14,10 +14,10 @@ ghost use Rattle.graph.specs.Edge.{Edge, edge, edges, among};
 ghost use Rattle.graph.specs.Table.{rules};
 ghost use Rattle.graph.specs.Code.{Room};
 ghost use Rattle.run.specs.Run.{noTally};
-ghost use Rattle.run.specs.Code.{bits};
+ghost use Rattle.run.specs.Code.{bits, Marks};
 ghost use Rattle.affected.specs.Affected as spec;
 ghost use Rattle.affected.specs.Prepared as start;
-ghost use Rattle.affected.specs.Code.{flag, Absent, holds, Marks, Before, After, Spread};
+ghost use Rattle.affected.specs.Code.{flag, Absent, holds, Before, After, Spread};
 
 // ---- who is affected
 

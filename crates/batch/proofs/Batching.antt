@@ -23,8 +23,8 @@ use Rattle.affected.specs.Affected.{affected}
 use Rattle.affected.specs.Prepared.{prepared}
 use Rattle.affected.proofs.Sweeps.{affected-length}
 use Rattle.batch.specs.declared.sides.Rowed.{Rowed}
-use Rattle.network.specs.Batch.{rewritten}
-use Rattle.batch.specs.Code.{rowAffected, rowEnd, RowDone}
+use Rattle.network.specs.Batch.{rewritten, rowAffected, rowEnd}
+use Rattle.batch.specs.Code.{RowDone}
 
 -- ---- a list of words over another
 

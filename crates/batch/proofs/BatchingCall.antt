@@ -17,17 +17,19 @@ use Rattle.graph.specs.Edge.{Edge, reverse, edges}
 use Rattle.graph.specs.Table.{size, shortTable, table}
 use Rattle.graph.specs.Code.{told, Room, columns}
 use Rattle.graph.proofs.Tests.{both}
-use Rattle.graph.proofs.Verdicts.{then-accept, accept-then, refuse-then}
+use Rattle.graph.proofs.Verdicts.{then-accept, accept-then, refuse-then, then-assoc}
 use Rattle.batch.specs.declared.Report.{Report}
 use Rattle.batch.specs.declared.Applied.the-variants as applied
 use Rattle.batch.specs.declared.sides.Rowed.{Rowed}
 use Rattle.network.specs.Network.{Network, edgesIn, rowCount, shortRows, landmarks, isIn, areLandmarks, unsettled}
 use Rattle.network.specs.Change.{Change, edits, items}
-use Rattle.network.specs.Batch.{batchVerdict, newForward, newBackward, batchCall, rewritten}
-use Rattle.batch.specs.Code.{applying, changes, RowsDone, Fair, faults, SidesDone, committed, batchOutcome}
+use Rattle.network.specs.Batch.{batchVerdict, newEdges, newForward, newBackward, stillWaiting, batchCall, rewritten, batchFaults}
+use Rattle.batch.specs.Code.{applying, changes, RowsDone, Fair, SidesDone, committed, batchOutcome}
 use Rattle.calls.specs.Code.{rowLists, network, Placed}
 use Rattle.network.proofs.Rows.{landmark-below}
-use Rattle.calls.proofs.Judging.{then-assoc, size-accept, lengths-accept, rows-accept, landmarks-accept, table-accept}
+use Rattle.graph.proofs.Judging.{size-accept, lengths-accept, table-accept}
+use Rattle.calls.proofs.Flat.{paste-over}
+use Rattle.calls.proofs.Judging.{rows-accept, landmarks-accept}
 
 -- ---- how many changes
 
@@ -43,37 +45,37 @@ changes-length (k ∷ ks) (t ∷ ts) (h ∷ hs) (w ∷ ws) = let z = changes-len
 
 module _ (n : ℕ) (ls : List ℕ) (w : Network) (j : ℕ) where
   module _ (a : Judged) (e : told a ≡ size n) where
-    pub faults-size : (k i : ℕ) → a ≡ Refused k i → told a ≡ faults n ls w j
-    unfolding faults told _▷_
+    pub faults-size : (k i : ℕ) → a ≡ Refused k i → told a ≡ batchFaults n ls w j
+    unfolding batchFaults told _▷_
     faults-size k i q = rw (← e, q)
 
     module _ (q : a ≡ Fine) where
-      pub faults-many : maxBatch < j → told (Refused 1 0) ≡ faults n ls w j
-      unfolding faults told refuseIf _▷_
+      pub faults-many : maxBatch < j → told (Refused 1 0) ≡ batchFaults n ls w j
+      unfolding batchFaults told refuseIf _▷_
       faults-many h = rw (← e, q, lt-ltb maxBatch j h)
 
       module _ (h : j ≤ maxBatch) (b : Judged) (f : told b ≡ (shortTable (w .memory .table) ▷ shortRows n ls (w .memory .rows))) where
-        later : {v : Verdict} → v ≡ ((shortTable (w .memory .table) ▷ shortRows n ls (w .memory .rows)) ▷ (landmarks n ls ▷ table n (w .memory .table) (w .count))) → v ≡ faults n ls w j
-        unfolding faults told refuseIf _▷_
+        later : {v : Verdict} → v ≡ ((shortTable (w .memory .table) ▷ shortRows n ls (w .memory .rows)) ▷ (landmarks n ls ▷ table n (w .memory .table) (w .count))) → v ≡ batchFaults n ls w j
+        unfolding batchFaults told refuseIf _▷_
         later g =
             let z = then-assoc (shortTable (w .memory .table)) (shortRows n ls (w .memory .rows)) (landmarks n ls ▷ table n (w .memory .table) (w .count)) in
             (g ∙ z) ∙ rw (← e, q, le-ltb maxBatch j h)
 
-        pub faults-short : (k i : ℕ) → b ≡ Refused k i → told b ≡ faults n ls w j
+        pub faults-short : (k i : ℕ) → b ≡ Refused k i → told b ≡ batchFaults n ls w j
         unfolding told _▷_
         faults-short k i d = later (rw (← f, d))
 
-        pub faults-rest : b ≡ Fine → (c : Judged) → told c ≡ (landmarks n ls ▷ table n (w .memory .table) (w .count)) → told c ≡ faults n ls w j
+        pub faults-rest : b ≡ Fine → (c : Judged) → told c ≡ (landmarks n ls ▷ table n (w .memory .table) (w .count)) → told c ≡ batchFaults n ls w j
         unfolding told _▷_
         faults-rest d c g = later (rw (← f, d) g)
 
-pub faults-as : (n : ℕ) (ls : List ℕ) (w : Network) {j k : ℕ} → j ≡ k → faults n ls w j ≡ accept → faults n ls w k ≡ accept
+pub faults-as : (n : ℕ) (ls : List ℕ) (w : Network) {j k : ℕ} → j ≡ k → batchFaults n ls w j ≡ accept → batchFaults n ls w k ≡ accept
 faults-as n ls w q e = rw q at e
 
 -- ---- what they tell where they let a batch pass
 
-pub faults-fair : (n : ℕ) (ls : List ℕ) (ts hs ws f b : List ℕ) (m j : ℕ) → faults n ls (network ts hs ws f b m) j ≡ accept → Fair n ls (network ts hs ws f b m)
-unfolding faults
+pub faults-fair : (n : ℕ) (ls : List ℕ) (ts hs ws f b : List ℕ) (m j : ℕ) → batchFaults n ls (network ts hs ws f b m) j ≡ accept → Fair n ls (network ts hs ws f b m)
+unfolding batchFaults
 faults-fair n ls ts hs ws f b m j e =
     let p = then-accept (size n) _ e in
     let q = then-accept (refuseIf (ltb maxBatch j) 1 0) _ (p .1) in
@@ -104,30 +106,23 @@ module _ (n : ℕ) (ls : List ℕ) (ts hs ws f b : List ℕ) (m : ℕ) (cs : Lis
   abbrev w : Network
   w = network ts hs ws f b m
 
-  abbrev last : Verdict
-  last = refuseIf (unsettled (newForward n ls w cs) || unsettled (newBackward n ls w cs)) 13 0
-
-  call-parts : (faults n ls w (length cs) ▷ (items n 0 (edgesIn w) cs ▷ last)) ≡ batchVerdict n ls w cs
-  unfolding faults
-  call-parts = rw (then-assoc, then-assoc, then-assoc, then-assoc, then-assoc)
-
-  pub call-faulty : (k i : ℕ) → refuse k i ≡ faults n ls w (length cs) → batchOutcome (applied.Refused k i) ts hs ws f b ≡ batchCall n ls w cs
+  pub call-faulty : (k i : ℕ) → refuse k i ≡ batchFaults n ls w (length cs) → batchOutcome (applied.Refused k i) ts hs ws f b ≡ batchCall n ls w cs
   unfolding batchCall applying replied choose
   call-faulty k i e =
-      let v : batchVerdict n ls w cs ≡ refuse k i = sym call-parts ∙ refuse-then _ _ (sym e) in
+      let v : batchVerdict n ls w cs ≡ refuse k i = refuse-then _ _ (sym e) in
       rw v
 
-  module _ (a : faults n ls w (length cs) ≡ accept) where
+  module _ (a : batchFaults n ls w (length cs) ≡ accept) where
     pub call-item : (k i : ℕ) → refuse k i ≡ items n 0 (edgesIn w) cs → batchOutcome (applied.Refused k i) ts hs ws f b ≡ batchCall n ls w cs
     unfolding batchCall applying replied choose
     call-item k i e =
-        let v : batchVerdict n ls w cs ≡ refuse k i = sym call-parts ∙ (accept-then a ∙ refuse-then _ _ (sym e)) in
+        let v : batchVerdict n ls w cs ≡ refuse k i = accept-then a ∙ refuse-then _ _ (sym e) in
         rw v
 
     pub call-committed : accept ≡ items n 0 (edgesIn w) cs → (fs : List Edge) → fs ≡ edits (edgesIn w) cs → committed n ls w fs ≡ batchCall n ls w cs
     unfolding batchCall committed replied choose
     call-committed e fs q =
-        let v : batchVerdict n ls w cs ≡ last = sym call-parts ∙ (accept-then a ∙ accept-then (sym e)) in
+        let v : batchVerdict n ls w cs ≡ stillWaiting n ls w (newEdges w cs) = accept-then a ∙ accept-then (sym e) in
         rw (v, q)
 
 -- ---- both sides
@@ -146,9 +141,6 @@ sides-done n ls ts hs ws f b m fs xs ys p q a x y u c s = record {
 
 -- ---- what is written
 
-over-paste : (k : ℕ) (xs old : List ℕ) → length xs ≡ k → paste old 0 xs k ≡ over xs old
-over-paste k xs old h = rw (zero-add, take-all k xs (omega arith), h)
-
 module _ (n : ℕ) (ls : List ℕ) (ts hs ws f b : List ℕ) (m : ℕ) (fs : List Edge) (xs ys : List ℕ) (a : Rowed) (d : SidesDone n ls (network ts hs ws f b m) fs xs ys a) where
   pub committed-refused : a .unsettled ≡ true → batchOutcome (applied.Refused 13 0) ts hs ws f b ≡ committed n ls (network ts hs ws f b m) fs
   unfolding committed applying refuseIf replied choose
@@ -162,8 +154,8 @@ module _ (n : ℕ) (ls : List ℕ) (ts hs ws f b : List ℕ) (m : ℕ) (fs : Lis
   committed-done u r ts′ hs′ ws′ f′ b′ k p q c o s t x y =
       let l = o ∙ d .affected in
       let j = s ∙ d .stores in
-      let g = x ∙ (over-paste k xs f p ∙ ap (λ (z : List ℕ). over z f) (d .forward)) in
-      let h = y ∙ (over-paste k ys b q ∙ ap (λ (z : List ℕ). over z b) (d .backward)) in
+      let g = x ∙ (paste-over f xs k p ∙ ap (λ (z : List ℕ). over z f) (d .forward)) in
+      let h = y ∙ (paste-over b ys k q ∙ ap (λ (z : List ℕ). over z b) (d .backward)) in
       rw (sym (d .unsettled) ∙ u)
       (λ i. record {
         reply = accepted (record { count = c i; affected = l i; stores = j i });

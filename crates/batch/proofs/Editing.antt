@@ -23,8 +23,8 @@ use Rattle.graph.proofs.Records.{room-less, edges-length}
 use Rattle.graph.proofs.Lookup.{found-present, absent-present, find-pair}
 use Rattle.batch.specs.declared.items.Edited.{Edited}
 use Rattle.batch.specs.declared.items.Edited.the-variants.{Count, Refused}
-use Rattle.network.specs.Change.{Change, edit, edits, item, items}
-use Rattle.batch.specs.Code.{change, changes, words, against, Tabled, Leaves}
+use Rattle.network.specs.Change.{Change, edit, edits, item, items, words, against}
+use Rattle.batch.specs.Code.{change, changes, Tabled, Leaves}
 use Rattle.network.proofs.Items.{item-good}
 
 -- ---- four lists side by side
@@ -133,22 +133,13 @@ module _ (es : List Edge) (t h i : ℕ) where
 
 -- ---- a change as a whole
 
-then-then : (a b c : Verdict) → ((a ▷ b) ▷ c) ≡ (a ▷ (b ▷ c))
-unfolding _▷_
-then-then accept b c = refl
-then-then (refuse k i) b c = refl
-
-pub item-parts : (n i : ℕ) (es : List Edge) (c : Change) → (words n i c ▷ against i es c) ≡ item n i es c
-unfolding words against item
-item-parts n i es c = rw (then-then, then-then, then-then)
-
 pub item-words : (n i : ℕ) (es : List Edge) (c : Change) (k j : ℕ) → refuse k j ≡ words n i c → refuse k j ≡ item n i es c
-unfolding _▷_
-item-words n i es c k j e = ap (λ v. v ▷ against i es c) e ∙ item-parts n i es c
+unfolding item _▷_
+item-words n i es c k j e = ap (λ v. v ▷ against i es c) e
 
 pub item-against : (n i : ℕ) (es : List Edge) (c : Change) {v : Verdict} → accept ≡ words n i c → v ≡ against i es c → v ≡ item n i es c
-unfolding _▷_
-item-against n i es c a e = e ∙ (ap (λ v. v ▷ against i es c) a ∙ item-parts n i es c)
+unfolding item _▷_
+item-against n i es c a e = e ∙ ap (λ v. v ▷ against i es c) a
 
 -- a change that is another by its words
 module _ (n i : ℕ) (es : List Edge) (c d : Change) (q : c ≡ d) where

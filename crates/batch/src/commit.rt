@@ -24,7 +24,7 @@ fn write_words(count: usize, new: &[u32], list: &mut [u32])
     ensures { λ _. ⌜ now (list .exit) ≡ over (take count (now (new .entry)) ++ replicate (maxEdges - count) 0) (now (list .entry)) ⌝ }
 {
     words::copy(count, new, list, 0);
-    let end = 2048;
+    let end = graph::MAX_EDGES;
     words::fill(&mut list[count..end], 0);
 }
 
@@ -289,10 +289,10 @@ pub fn commit(
     ensures { λ r. ⌜ batchOutcome r (now (tails .exit)) (now (heads .exit)) (now (weights .exit)) (now (forward .exit)) (now (backward .exit)) ≡ committed n (now (landmarks .entry)) (network (now (tails .entry)) (now (heads .entry)) (now (weights .entry)) (now (forward .entry)) (now (backward .entry)) count) (edges (now (tails2 .entry)) (now (heads2 .entry)) (now (weights2 .entry)) count2) ⌝ }
 {
     let k = landmarks.len() * 5 * (n as usize);
-    let mut gone = [0u8; 2048];
-    let mut fresh = [0u8; 2048];
-    let mut ahead = [0u32; 5120];
-    let mut back = [0u32; 5120];
+    let mut gone = [0u8; graph::MAX_EDGES];
+    let mut fresh = [0u8; graph::MAX_EDGES];
+    let mut ahead = [0u32; graph::ROW_WORDS];
+    let mut back = [0u32; graph::ROW_WORDS];
     commit_in(
         n,
         landmarks,

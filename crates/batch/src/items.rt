@@ -1,8 +1,8 @@
 // The changes of a batch, item by item, on a scratch table: each is judged against the edges as earlier ones left them.
 use graph::Found;
 use graph::Judged;
-use graph::check;
 use graph::edit;
+use graph::rules;
 ghost use mathlib.Core.Path.{_≡_};
 ghost use mathlib.Core.Bool.{cond};
 ghost use lib.ListN.{length};
@@ -11,8 +11,8 @@ ghost use Rattle.graph.specs.Refusal.{accept};
 ghost use Rattle.graph.specs.Edge.{edges};
 ghost use Rattle.graph.specs.Table.{isWeight};
 ghost use Rattle.graph.specs.Code.{told};
-ghost use Rattle.network.specs.Change.{edit, edits, item, items};
-ghost use Rattle.batch.specs.Code.{change, changes, words, against, verdict, Tabled, Leaves};
+ghost use Rattle.network.specs.Change.{edit, edits, item, items, words, against};
+ghost use Rattle.batch.specs.Code.{change, changes, verdict, Tabled, Leaves};
 
 // The count of the table after changes, or the number and place of the one that is refused.
 pub enum Edited {
@@ -25,7 +25,7 @@ fn is_suited(kind: u32, w: u32) -> bool
     ensures { λ r. ⌜ r ≡ cond (eqb kind 1) (isWeight w) (eqb w 0) ⌝ }
 {
     if kind == 1 {
-        check::is_weight(w)
+        rules::is_weight(w)
     } else {
         w == 0
     }
@@ -44,7 +44,7 @@ fn judge_words(n: u32, kind: u32, t: u32, h: u32, w: u32, place: usize) -> Judge
     if t == h {
         return Judged::Refused(8, place);
     }
-    check::refuse_if(!is_suited(kind, w), 9, place)
+    rules::refuse_if(!is_suited(kind, w), 9, place)
 }
 
 // An insert whose own words are good: numbers 10 and 12, or one edge more.
@@ -67,7 +67,7 @@ fn insert_item(
     if let Found::At(_) = edit::find(n, t, h, tails, heads, weights, count) {
         return Edited::Refused(10, place);
     }
-    if count >= 2048 {
+    if count >= graph::MAX_EDGES {
         return Edited::Refused(12, place);
     }
     edit::insert(n, t, h, w, tails, heads, weights, count);

@@ -4,7 +4,7 @@ pub mod items;
 pub mod sides;
 
 use graph::Judged;
-use graph::check;
+use graph::rules;
 use graph::words;
 use items::Edited;
 ghost use mathlib.Core.Path.{_≡_};
@@ -13,9 +13,9 @@ ghost use lib.ListN.{length};
 ghost use Rattle.graph.specs.Limits.{maxEdges};
 ghost use Rattle.graph.specs.Refusal.{accept};
 ghost use Rattle.graph.specs.Code.{told, Room};
-ghost use Rattle.network.specs.Batch.{batchCall};
+ghost use Rattle.network.specs.Batch.{batchCall, batchFaults};
 ghost use Rattle.calls.specs.Code.{network};
-ghost use Rattle.batch.specs.Code.{changes, faults, batchOutcome};
+ghost use Rattle.batch.specs.Code.{changes, batchOutcome};
 
 // The new count, and affected vertices and stores over all rows.
 pub struct Report {
@@ -59,13 +59,13 @@ fn judge_batch(
     backward: &[u32],
     size: usize,
 ) -> Judged
-    ensures { λ r. ⌜ told r ≡ faults n (now (landmarks .entry)) (network (now (tails .entry)) (now (heads .entry)) (now (weights .entry)) (now (forward .entry)) (now (backward .entry)) count) size ⌝ }
+    ensures { λ r. ⌜ told r ≡ batchFaults n (now (landmarks .entry)) (network (now (tails .entry)) (now (heads .entry)) (now (weights .entry)) (now (forward .entry)) (now (backward .entry)) count) size ⌝ }
 {
-    let vertices = check::judge_size(n);
+    let vertices = rules::judge_size(n);
     let Judged::Fine = vertices else {
         return vertices;
     };
-    if size > 1024 {
+    if size > graph::MAX_BATCH {
         return Judged::Refused(1, 0);
     }
     let lists = calls::judge_lists(n, landmarks, tails, heads, weights, forward, backward);
@@ -95,7 +95,7 @@ fn batch_in(
     weights2: &mut [u32],
 ) -> Applied
     requires { ⌜ size ≡ length (changes (now kinds) (now froms) (now tos) (now values)) ⌝ }
-    requires { ⌜ faults n (now landmarks) (network (now tails) (now heads) (now weights) (now forward) (now backward) count) size ≡ accept ⌝ }
+    requires { ⌜ batchFaults n (now landmarks) (network (now tails) (now heads) (now weights) (now forward) (now backward) count) size ≡ accept ⌝ }
     requires { ⌜ Room maxEdges (now tails2) (now heads2) (now weights2) ⌝ }
     ensures { λ r. ⌜ batchOutcome r (now (tails .exit)) (now (heads .exit)) (now (weights .exit)) (now (forward .exit)) (now (backward .exit)) ≡ batchCall n (now (landmarks .entry)) (network (now (tails .entry)) (now (heads .entry)) (now (weights .entry)) (now (forward .entry)) (now (backward .entry)) count) (changes (now (kinds .entry)) (now (froms .entry)) (now (tos .entry)) (now (values .entry))) ⌝ }
 {
@@ -165,9 +165,9 @@ pub fn batch(
     if let Judged::Refused(number, place) = judged {
         return Applied::Refused(number, place);
     }
-    let mut tails2 = [0u32; 2048];
-    let mut heads2 = [0u32; 2048];
-    let mut weights2 = [0u32; 2048];
+    let mut tails2 = [0u32; graph::MAX_EDGES];
+    let mut heads2 = [0u32; graph::MAX_EDGES];
+    let mut weights2 = [0u32; graph::MAX_EDGES];
     batch_in(
         n,
         landmarks,

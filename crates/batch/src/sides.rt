@@ -168,7 +168,7 @@ pub fn batch_forward(
     requires { ⌜ Compared n count2 (now tails2) (now heads2) (now weights2) (now fresh) (edges (now tails1) (now heads1) (now weights1) count1) ⌝ }
     ensures { λ a. ⌜ RowsDone n (now (landmarks .entry)) (edges (now (tails1 .entry)) (now (heads1 .entry)) (now (weights1 .entry)) count1) (edges (now (tails2 .entry)) (now (heads2 .entry)) (now (weights2 .entry)) count2) (now (rows .entry)) (now (out .exit)) a ⌝ }
 {
-    let mut firsts = [0u32; 257];
+    let mut firsts = [0u32; graph::INDEX_WORDS];
     index::index(n, count2, tails2, &mut firsts);
     batch_rows(
         n,
@@ -214,11 +214,11 @@ pub fn batch_backward(
     requires { ⌜ Compared n count2 (now tails2) (now heads2) (now weights2) (now fresh) (edges (now tails1) (now heads1) (now weights1) count1) ⌝ }
     ensures { λ a. ⌜ RowsDone n (now (landmarks .entry)) (map reverse (edges (now (tails1 .entry)) (now (heads1 .entry)) (now (weights1 .entry)) count1)) (map reverse (edges (now (tails2 .entry)) (now (heads2 .entry)) (now (weights2 .entry)) count2)) (now (rows .entry)) (now (out .exit)) a ⌝ }
 {
-    let mut free = [0u32; 257];
-    let mut firsts = [0u32; 257];
-    let mut rtails = [0u32; 2048];
-    let mut rheads = [0u32; 2048];
-    let mut rweights = [0u32; 2048];
+    let mut free = [0u32; graph::INDEX_WORDS];
+    let mut firsts = [0u32; graph::INDEX_WORDS];
+    let mut rtails = [0u32; graph::MAX_EDGES];
+    let mut rheads = [0u32; graph::MAX_EDGES];
+    let mut rweights = [0u32; graph::MAX_EDGES];
     index::reverse_table(
         n,
         count2,

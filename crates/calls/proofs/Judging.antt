@@ -21,10 +21,11 @@ use Rattle.graph.specs.Table.{Columns, edgesOf, rules, size, shortTable, table}
 use Rattle.graph.specs.Code.{told, Room, columns, edgeAt}
 use Rattle.graph.proofs.Tests.{neither}
 use Rattle.graph.proofs.Verdicts.{then-accept, if-accept}
+use Rattle.graph.proofs.Lists.{getD-mem}
+use Rattle.graph.proofs.Judging.{size-accept, lengths-accept, table-accept}
 use Rattle.graph.proofs.Order.{rules-accept, within}
 use Rattle.graph.proofs.Records.{room-less, edges-length, edges-at}
-use Rattle.network.specs.Network.{isIn, areLandmarks, landmarks, shortRows, rowCount}
-use Rattle.network.specs.Settled.{settledVerdict}
+use Rattle.network.specs.Network.{isIn, areLandmarks, landmarks, shortRows, faults, rowCount}
 use Rattle.calls.specs.Code.{rowLists, network}
 
 -- ---- landmarks, one by one
@@ -100,32 +101,11 @@ pub if-judged : (t : Bool) (k i : ℕ) (b : Judged) (w : Verdict) → t ≡ fals
 unfolding refuseIf _▷_
 if-judged t k i b w e f = rw e f
 
-pub then-assoc : (u v w : Verdict) → ((u ▷ v) ▷ w) ≡ (u ▷ (v ▷ w))
-unfolding _▷_
-then-assoc accept v w = refl
-then-assoc (refuse k i) v w = refl
-
 pub fine-accept : (a : Judged) (v : Verdict) → told a ≡ v → a ≡ Fine → v ≡ accept
 unfolding told
 fine-accept a v e q = sym e ∙ ap told q
 
 -- ---- what each verdict tells where it accepts
-
-pub size-accept : (n : ℕ) → size n ≡ accept → (0 < n) × (n ≤ maxVertices)
-size-accept n e =
-    let z = neither (eqb n 0) (ltb maxVertices n) (if-accept _ _ _ e) in
-    let l : n ≤ maxVertices = ltb-false maxVertices n (z .1) in
-    (some n (eqb-false n 0 (z .0)), l)
-  where
-    some : (k : ℕ) → (k ≡ 0 → ⊥) → 0 < k
-    some zero h = absurd (h refl)
-    some (suc k) h = omega arith
-
-pub lengths-accept : (ts hs ws : List ℕ) → shortTable (columns ts hs ws) ≡ accept → Room maxEdges ts hs ws
-lengths-accept ts hs ws e =
-    let y = neither (ltb (length ts) maxEdges) _ (if-accept _ _ _ e) in
-    let z = neither (ltb (length hs) maxEdges) (ltb (length ws) maxEdges) (y .1) in
-    record { tails = ltb-false _ _ (y .0); heads = ltb-false _ _ (z .0); weights = ltb-false _ _ (z .1) }
 
 pub rows-accept : (n : ℕ) (ls f b : List ℕ) → shortRows n ls (rowLists f b) ≡ accept → (rowCount ls * n ≤ length f) × (rowCount ls * n ≤ length b)
 rows-accept n ls f b e =
@@ -137,16 +117,6 @@ landmarks-accept n ls e =
     let y = neither (eqb (length ls) 0) _ (if-accept _ _ _ e) in
     let z = neither (ltb maxLandmarks (length ls)) (not (areLandmarks n ls)) (y .1) in
     (ltb-false maxLandmarks _ (z .0), not-false _ (z .1))
-
-pub table-accept : (n : ℕ) (cs : Columns) (m : ℕ) → table n cs m ≡ accept → (m ≤ maxEdges) × (rules n (edgesOf cs m) ≡ accept)
-table-accept n cs m e =
-    let z = then-accept (refuseIf (ltb maxEdges m) 4 0) (rules n (edgesOf cs m)) e in
-    (ltb-false maxEdges m (if-accept _ _ _ (z .0)), z .1)
-
-getD-mem : {A : Type 0} (l : List A) (k : ℕ) (d : A) → k < length l → List·Memᴰ (getD l k d) l
-getD-mem [] k d h = absurd (omega arith)
-getD-mem (x ∷ l) zero d h = List·Memᴰ·head refl
-getD-mem (x ∷ l) (suc k) d h = List·Memᴰ·tail (getD-mem l k d (omega arith))
 
 -- both ends of a record are vertices
 pub ends-within : (n m : ℕ) (ts hs ws : List ℕ) → Room m ts hs ws → rules n (edges ts hs ws m) ≡ accept → (k : ℕ) → k < m → (getD ts k 0 < n) × (getD hs k 0 < n)
@@ -169,7 +139,7 @@ pub record Accepted (n : ℕ) (ls ts hs ws : List ℕ) (m : ℕ) (f b : List ℕ
   pub backward : rowCount ls * n ≤ length b
   pub ends : (k : ℕ) → k < m → (getD ts k 0 < n) × (getD hs k 0 < n)
 
-pub network-accept : (n : ℕ) (ls ts hs ws : List ℕ) (m : ℕ) (f b : List ℕ) → settledVerdict n ls (network ts hs ws f b m) ≡ accept → Accepted n ls ts hs ws m f b
+pub network-accept : (n : ℕ) (ls ts hs ws : List ℕ) (m : ℕ) (f b : List ℕ) → faults n ls (network ts hs ws f b m) ≡ accept → Accepted n ls ts hs ws m f b
 network-accept n ls ts hs ws m f b e =
     let a = then-accept (size n) _ e in
     let s = then-accept (shortTable (columns ts hs ws)) _ (a .1) in

@@ -1,18 +1,18 @@
-// Refusals 2 and 3 of a network, and the chains of refusals that its calls share.
+// Refusals 2 and 3 of a network, the chains of refusals that its calls share, and where a row starts.
 use graph::Judged;
-use graph::check;
+use graph::rules;
 ghost use mathlib.Core.Path.{_≡_};
-ghost use Prim.Native.Nat.{_*_};
+ghost use Prim.Native.Nat.{_*_, _<_, _≤_};
 ghost use lib.ListN.{drop};
 ghost use lib.Dec.{ltb};
-ghost use Rattle.property.specs.Property.{isProperty};
-ghost use Rattle.graph.specs.Limits.{maxEdges};
+ghost use Rattle.property.specs.Property.{properties, isProperty};
+ghost use Rattle.graph.specs.Limits.{maxVertices, maxEdges, maxLandmarks};
 ghost use Rattle.graph.specs.Refusal.{_▷_};
 ghost use Rattle.graph.specs.Table.{shortTable, table};
 ghost use Rattle.graph.specs.Code.{told, Room, columns};
 ghost use Rattle.network.specs.Network.{isIn, areLandmarks, shortRows};
 ghost use Rattle.network.specs.Network as number;
-ghost use Rattle.network.specs.Settled.{settledVerdict};
+ghost use Rattle.network.specs.Query.{rowAt};
 ghost use Rattle.calls.specs.Code.{rowLists, network};
 
 // Whether `v` is among the vertices from index `from` on.
@@ -51,8 +51,10 @@ pub fn are_landmarks(n: u32, vertices: &[u32]) -> bool
 pub fn judge_landmarks(n: u32, landmarks: &[u32]) -> Judged
     ensures { λ r. ⌜ told r ≡ number.landmarks n (now (landmarks .entry)) ⌝ }
 {
-    check::refuse_if(
-        landmarks.len() == 0 || landmarks.len() > 4 || !are_landmarks(n, landmarks),
+    rules::refuse_if(
+        landmarks.len() == 0
+            || landmarks.len() > graph::MAX_LANDMARKS
+            || !are_landmarks(n, landmarks),
         3,
         0,
     )
@@ -73,7 +75,7 @@ pub fn judge_rows(n: u32, landmarks: &[u32], forward: &[u32], backward: &[u32]) 
     ensures { λ r. ⌜ told r ≡ shortRows n (now (landmarks .entry)) (rowLists (now (forward .entry)) (now (backward .entry))) ⌝ }
 {
     let count = landmarks.len();
-    check::refuse_if(
+    rules::refuse_if(
         is_short(forward.len(), count, n) || is_short(backward.len(), count, n),
         2,
         0,
@@ -92,7 +94,7 @@ pub fn judge_lists(
 ) -> Judged
     ensures { λ r. ⌜ told r ≡ (shortTable (columns (now (tails .entry)) (now (heads .entry)) (now (weights .entry))) ▷ shortRows n (now (landmarks .entry)) (rowLists (now (forward .entry)) (now (backward .entry)))) ⌝ }
 {
-    let lengths = check::judge_lengths(tails, heads, weights);
+    let lengths = rules::judge_lengths(tails, heads, weights);
     let Judged::Fine = lengths else {
         return lengths;
     };
@@ -115,7 +117,7 @@ pub fn judge_network(
     let Judged::Fine = list else {
         return list;
     };
-    check::judge_table(n, tails, heads, weights, count)
+    rules::judge_table(n, tails, heads, weights, count)
 }
 
 // Numbers 1 to 4 of a network.
@@ -129,9 +131,9 @@ pub fn judge_all(
     forward: &[u32],
     backward: &[u32],
 ) -> Judged
-    ensures { λ r. ⌜ told r ≡ settledVerdict n (now (landmarks .entry)) (network (now (tails .entry)) (now (heads .entry)) (now (weights .entry)) (now (forward .entry)) (now (backward .entry)) count) ⌝ }
+    ensures { λ r. ⌜ told r ≡ number.faults n (now (landmarks .entry)) (network (now (tails .entry)) (now (heads .entry)) (now (weights .entry)) (now (forward .entry)) (now (backward .entry)) count) ⌝ }
 {
-    let size = check::judge_size(n);
+    let size = rules::judge_size(n);
     let Judged::Fine = size else {
         return size;
     };
@@ -147,4 +149,12 @@ pub fn is_property(p: u32) -> bool
     ensures { λ r. ⌜ r ≡ isProperty p ⌝ }
 {
     0 < p && p <= 5
+}
+
+// Where the row of landmark `i` of the list for property `p` starts in a row list.
+pub fn row_start(p: u32, n: usize, i: usize) -> usize
+    requires { ⌜ (0 < p) × (p ≤ properties) × (n ≤ maxVertices) × (i < maxLandmarks) ⌝ }
+    ensures { λ r. ⌜ r ≡ rowAt i p * n ⌝ }
+{
+    (i * 5 + (p as usize - 1)) * n
 }

@@ -12,7 +12,7 @@ use Rattle.graph.specs.declared.Judged.the-variants.{Fine, Refused}
 use Rattle.graph.specs.Limits.{maxVertices, maxEdges}
 use Rattle.graph.specs.Refusal.{Verdict, accept, _▷_, refuseIf}
 use Rattle.graph.specs.Edge.{edges}
-use Rattle.graph.specs.Table.{isEdge, follow, rules, size, shortTable, table}
+use Rattle.graph.specs.Table.{Columns, edgesOf, isEdge, follow, rules, size, shortTable, table}
 use Rattle.graph.specs.Code.{told, Room, columns, edgeAt, keeps}
 use Rattle.graph.proofs.Tests.{neither}
 use Rattle.graph.proofs.Verdicts.{then-accept, if-accept}
@@ -55,20 +55,20 @@ table-crowded n m ts hs ws l = rw (lt-ltb maxEdges m l)
 
 -- ---- what acceptance says of each
 
-pub size-few : (n : ℕ) → size n ≡ accept → (0 < n) × (n ≤ maxVertices)
-size-few n h =
+pub size-accept : (n : ℕ) → size n ≡ accept → (0 < n) × (n ≤ maxVertices)
+size-accept n h =
     let z = neither (eqb n 0) (ltb maxVertices n) (if-accept _ 1 0 h) in
     let a = eqb-false n 0 (z .0) in
     let b = ltb-false maxVertices n (z .1) in
     (omega arith, b)
 
-pub short-room : (ts hs ws : List ℕ) → shortTable (columns ts hs ws) ≡ accept → Room maxEdges ts hs ws
-short-room ts hs ws h =
+pub lengths-accept : (ts hs ws : List ℕ) → shortTable (columns ts hs ws) ≡ accept → Room maxEdges ts hs ws
+lengths-accept ts hs ws h =
     let z = neither (ltb (length ts) maxEdges) _ (if-accept _ 2 0 h) in
     let y = neither (ltb (length hs) maxEdges) (ltb (length ws) maxEdges) (z .1) in
     record { tails = ltb-false _ _ (z .0); heads = ltb-false _ _ (y .0); weights = ltb-false _ _ (y .1) }
 
-pub table-rules : (n m : ℕ) (ts hs ws : List ℕ) → table n (columns ts hs ws) m ≡ accept → (m ≤ maxEdges) × (rules n (edges ts hs ws m) ≡ accept)
-table-rules n m ts hs ws h =
-    let z = then-accept (refuseIf (ltb maxEdges m) 4 0) (rules n (edges ts hs ws m)) h in
-    (ltb-false maxEdges m (if-accept (ltb maxEdges m) 4 0 (z .0)), z .1)
+pub table-accept : (n : ℕ) (cs : Columns) (m : ℕ) → table n cs m ≡ accept → (m ≤ maxEdges) × (rules n (edgesOf cs m) ≡ accept)
+table-accept n cs m h =
+    let z = then-accept (refuseIf (ltb maxEdges m) 4 0) (rules n (edgesOf cs m)) h in
+    (ltb-false maxEdges m (if-accept _ 4 0 (z .0)), z .1)

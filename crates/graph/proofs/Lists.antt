@@ -1,4 +1,4 @@
--- Lists: ranges, tables over them, stored places, folds. Assumes nothing.
+-- Lists: ranges, tables over them, stored places, folds, lists of one value. Assumes nothing.
 use mathlib.Core.Path.{_≡_, refl, ap, _∙_}
 use mathlib.Core.Logic.{_⊎_, inl, inr, _≢_}
 use mathlib.Core.List.{List, [], _∷_, _++_, map, foldl, List·Memᴰ, List·Memᴰ·head, List·Memᴰ·tail, List·Memᴰ·cases-cons, List·Memᴰ·not-nil}
@@ -67,6 +67,38 @@ pub fold-keeps : {A B : Type 0} (Q : B → Type 0) (f : B → A → B) → ((b :
 fold-keeps Q f k [] b q = q
 fold-keeps Q f k (a ∷ l) b q = fold-keeps Q f k l (f b a) (k b a q)
 
+-- a turn of a loop: where what is left at b comes to z, so does what is left after the first element's step
+pub fold-turn : {A B : Type 0} (f : B → A → B) (x : A) {xs ys : List A} {b c z : B} → xs ≡ x ∷ ys → c ≡ f b x → foldl f b xs ≡ z → foldl f c ys ≡ z
+fold-turn f x e q h = rw q (rw e at h)
+
+-- its end: nothing is left
+pub fold-done : {A B : Type 0} (f : B → A → B) {xs : List A} {b z : B} → xs ≡ [] → foldl f b xs ≡ z → b ≡ z
+fold-done f e h = rw e at h
+
+-- ---- within a list, what stands past its end does not matter
+
+pub getD-within : {A : Type 0} (l : List A) (i : ℕ) (d e : A) → i < length l → getD l i d ≡ getD l i e
+getD-within [] i d e h = absurd (omega arith)
+getD-within (x ∷ l) zero d e h = refl
+getD-within (x ∷ l) (suc i) d e h = getD-within l i d e (omega arith)
+
+pub getD-mem : {A : Type 0} (l : List A) (k : ℕ) (d : A) → k < length l → List·Memᴰ (getD l k d) l
+getD-mem [] k d h = absurd (omega arith)
+getD-mem (x ∷ l) zero d h = List·Memᴰ·head refl
+getD-mem (x ∷ l) (suc k) d h = List·Memᴰ·tail (getD-mem l k d (omega arith))
+
+-- ---- lists of one value
+
+pub take-replicate : {A : Type 0} (n m : ℕ) (a : A) → n ≤ m → take n (replicate m a) ≡ replicate n a
+take-replicate zero m a h = refl
+take-replicate (suc n) zero a h = absurd (omega arith)
+take-replicate (suc n) (suc m) a h = ap {B = List _} (λ l. a ∷ l) (take-replicate n m a (omega arith))
+
+pub replicate-at : {A : Type 0} (n i : ℕ) (a : A) → getD (replicate n a) i a ≡ a
+replicate-at zero i a = refl
+replicate-at (suc n) zero a = refl
+replicate-at (suc n) (suc i) a = replicate-at n i a
+
 -- ---- parts of a list after a store: past the part, before it, at its end
 
 module _ {A : Type 0} (l : List A) (j m p : ℕ) (a : A) where
@@ -85,13 +117,8 @@ module _ {A : Type 0} (l : List A) (j m p : ℕ) (a : A) where
 
 -- ---- zeros, and the words that a copy to the front brings
 
-zero-at : (n u : ℕ) → getD {A = ℕ} (replicate n 0) u 0 ≡ 0
-zero-at zero u = refl
-zero-at (suc n) zero = refl
-zero-at (suc n) (suc u) = zero-at n u
-
 pub zeros-at : (l : List ℕ) (n : ℕ) → l ≡ replicate n 0 → (u : ℕ) → getD l u 0 ≡ 0
-zeros-at l n e u = rw e (zero-at n u)
+zeros-at l n e u = rw e (replicate-at n u 0)
 
 pub paste-at : (d s e : List ℕ) (n : ℕ) → e ≡ paste d 0 s n → n ≤ length s → (u : ℕ) → u < n → getD e u 0 ≡ getD s u 0
 paste-at d s e n p h u l = let k = length-take-le n s h in rw p (List·getD-append (take n s) (drop (0 + n) d) 0 u (omega arith) ∙ getD-take n s u 0 l)

@@ -1,6 +1,6 @@
--- The table's rules: what they say of each edge, and that insert and delete keep them. Assumes nothing.
+-- The table's rules: what they say of each edge, and that insert and delete keep them; lists with the same edges. Assumes nothing.
 use mathlib.Core.Path.{_≡_, refl, sym, ap, _∙_}
-use mathlib.Core.Logic.{_⊎_, inl, inr, ⊎-elim, _≢_}
+use mathlib.Core.Logic.{_↔_, _⊎_, inl, inr, ⊎-elim, _≢_}
 use mathlib.Core.Bool.{Bool, true, false, not, _&&_, _||_, cond, true≢false, false≢true}
 use mathlib.Core.List.{List, [], _∷_, List·Memᴰ, List·Memᴰ·head, List·Memᴰ·tail, List·Memᴰ·cases-cons, List·Memᴰ·not-nil}
 use Prim.Native.Nat.{ℕ, zero, suc, _≤_, _<_}
@@ -292,3 +292,18 @@ insert-rules n e es h f a = accept-rules n (insert e es) (insert-sound n e es (r
 
 pub delete-rules : (n : ℕ) (e : Edge) (es : List Edge) → rules n es ≡ accept → rules n (delete e es) ≡ accept
 delete-rules n e es h = accept-rules n (delete e es) (delete-sound n e es (rules-accept n es h))
+
+-- ---- lists with the same edges, in whatever order
+
+abbrev pub Same : List Edge → List Edge → Type 0
+Same es es' = (e : Edge) → List·Memᴰ e es ↔ List·Memᴰ e es'
+
+pub same-back : {es es' : List Edge} → Same es es' → Same es' es
+same-back p e = (p e .1, p e .0)
+
+pub same-within : {n : ℕ} {es es' : List Edge} → Same es es' → Within n es → Within n es'
+same-within p inside = record {
+  tails = λ e m. inside .tails e (p e .1 m);
+  heads = λ e m. inside .heads e (p e .1 m);
+  weights = λ e m. inside .weights e (p e .1 m);
+}

@@ -1,5 +1,6 @@
 -- Conjunctions and disjunctions of tests, as facts. (`borrow.Author.Tests` has those on numbers and on `not`.) Assumes nothing.
-use mathlib.Core.Path.{_≡_, refl}
+use mathlib.Core.Path.{_≡_, refl, sym}
+use mathlib.Core.Logic.{_↔_}
 use mathlib.Core.Bool.{Bool, true, false, _&&_, _||_, true≢false, false≢true}
 
 pub both : (a b : Bool) → (a && b) ≡ true → (a ≡ true) × (b ≡ true)
@@ -19,3 +20,9 @@ or-false p q = rw (p, q)
 pub or-right : (a : Bool) {b : Bool} → b ≡ true → (a || b) ≡ true
 or-right true e = refl
 or-right false e = e
+
+-- two tests that hold together are the same
+pub same-test : (a b : Bool) → (a ≡ true) ↔ (b ≡ true) → a ≡ b
+same-test true b h = sym (h .0 refl)
+same-test false true h = absurd (false≢true (h .1 refl))
+same-test false false h = refl

@@ -1,8 +1,8 @@
--- Laws of verdicts. Assumes nothing.
+-- Laws of verdicts, replies and outcomes. Assumes nothing.
 use mathlib.Core.Path.{_≡_, refl, ap}
 use mathlib.Core.Bool.{Bool, true, false, false≢true}
 use Prim.Native.Nat.{ℕ}
-use Rattle.graph.specs.Refusal.{Verdict, accept, refuse, _▷_, refuseIf}
+use Rattle.graph.specs.Refusal.{Verdict, accept, refuse, _▷_, refuseIf, accepted, refused, replied, verdictOf, choose, outcome}
 
 isAccept : Verdict → Bool
 isAccept accept = true
@@ -33,3 +33,48 @@ if-accept false k i e = refl
 pub accept-if : {b : Bool} (k i : ℕ) → b ≡ false → refuseIf b k i ≡ accept
 unfolding refuseIf
 accept-if k i e = rw e
+
+-- ---- chains
+
+-- what comes after an accepted verdict may be put otherwise
+pub then-same : (a : Verdict) {b c : Verdict} → (a ≡ accept → b ≡ c) → (a ▷ b) ≡ (a ▷ c)
+unfolding _▷_
+then-same accept h = h refl
+then-same (refuse k i) h = refl
+
+-- a last refusal that never comes
+pub then-last : (a : Verdict) {b : Verdict} → (a ≡ accept → b ≡ accept) → (a ▷ b) ≡ a
+unfolding _▷_
+then-last accept h = h refl
+then-last (refuse k i) h = refl
+
+pub then-assoc : (u v w : Verdict) → ((u ▷ v) ▷ w) ≡ (u ▷ (v ▷ w))
+unfolding _▷_
+then-assoc accept v w = refl
+then-assoc (refuse k i) v w = refl
+
+-- ---- replies and outcomes
+
+pub verdict-replied : {A : Type 0} (v : Verdict) (a : A) → verdictOf (replied v a) ≡ v
+unfolding replied verdictOf
+verdict-replied accept a = refl
+verdict-replied (refuse k i) a = refl
+
+pub reply-accepted : {A : Type 0} (v : Verdict) (a b : A) → replied v a ≡ accepted b → (v ≡ accept) × (a ≡ b)
+unfolding replied verdictOf
+reply-accepted accept a b e = (refl, cc)
+reply-accepted (refuse k i) a b e = absurd (not-accept (ap verdictOf e))
+
+pub choose-accept : {A : Type 0} {v : Verdict} (new old : A) → v ≡ accept → choose v new old ≡ new
+unfolding choose
+choose-accept new old e = rw e
+
+pub outcome-refused : {A L : Type 0} (v : Verdict) (a : A) (new old : L) {k i : ℕ} → v ≡ refuse k i
+    → outcome v a new old ≡ record { reply = refused k i; memory = old }
+unfolding replied choose
+outcome-refused v a new old e = rw e
+
+pub outcome-accepted : {A L : Type 0} (v : Verdict) (a : A) (new old : L) → v ≡ accept
+    → outcome v a new old ≡ record { reply = accepted a; memory = new }
+unfolding replied choose
+outcome-accepted v a new old e = rw e

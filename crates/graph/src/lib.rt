@@ -1,8 +1,28 @@
 // The edge table: its rules, look-up, one edge more or less, the first edge of each tail, and the reversed table.
-pub mod check;
 pub mod edit;
 pub mod index;
+pub mod rules;
 pub mod words;
+
+// The limits of a network, each named once.
+pub const MAX_VERTICES: u32 = 256;
+
+pub const MAX_EDGES: usize = 2048;
+
+pub const MAX_WEIGHT: u32 = 65535;
+
+pub const MAX_LANDMARKS: usize = 4;
+
+pub const MAX_BATCH: usize = 1024;
+
+pub const MAX_SCHEDULE: usize = 4096;
+
+// Words of scratch lists: a word for each vertex, and one more for an index; five rows for each landmark.
+pub const VERTEX_WORDS: usize = 256;
+
+pub const INDEX_WORDS: usize = 257;
+
+pub const ROW_WORDS: usize = 5120;
 
 // A refusal with its number and place, or none.
 pub enum Judged {

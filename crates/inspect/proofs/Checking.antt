@@ -23,22 +23,9 @@ use Rattle.inspect.specs.declared.Checked.the-variants as checked
 use Rattle.network.specs.Network.{row, propertyOf}
 use Rattle.network.specs.Settled.{Check, settled, found, inRecords, inRows}
 use Rattle.inspect.specs.Code.{checking}
+use Rattle.calls.proofs.Rows.{row-word}
 
 -- ---- one record against one row
-
--- row r is within k rows of n words
-pub row-inside : (r k n l : ℕ) → r < k → k * n ≤ l → r * n + n ≤ l
-row-inside r k n l h f = omega (arith, suc-mul r n, mul-le-mul-right n h)
-
-getD-any : {A : Type 0} (l : List A) (k : ℕ) (c d : A) → k < length l → getD l k c ≡ getD l k d
-getD-any [] k c d h = absurd (omega arith)
-getD-any (x ∷ l) zero c d h = refl
-getD-any (x ∷ l) (suc k) c d h = getD-any l k c d (omega arith)
-
-row-word : (n r t : ℕ) (ws : List ℕ) (d : ℕ) → t < n → r * n + n ≤ length ws → getD ws (r * n + t) 0 ≡ getD (row n r ws) t d
-row-word n r t ws d h f =
-    let l : r * n + t < length ws = omega arith in
-    getD-any ws (r * n + t) 0 d l ∙ (sym (getD-drop (r * n) ws t d) ∙ sym (getD-take n (drop (r * n) ws) t d h))
 
 pub relaxable-told : (n r t h w : ℕ) (ws : List ℕ) (v : ℕ) (b : Bool) → t < n → h < n → r * n + n ≤ length ws
     → v ≡ property (r % 5 + 1) .along (getD ws (r * n + t) 0) w → b ≡ property (r % 5 + 1) .better v (getD ws (r * n + h) 0)
@@ -46,8 +33,8 @@ pub relaxable-told : (n r t h w : ℕ) (ws : List ℕ) (v : ℕ) (b : Bool) → 
 relaxable-told n r t h w ws v b ht hh f ev eb =
     let P = propertyOf r in
     let p : property (r % 5 + 1) ≡ P = ap property (add-one (r % 5)) in
-    let x = row-word n r t ws (P .none) ht f in
-    let y = row-word n r h ws (P .none) hh f in
+    let x = row-word P n r t ws ht (omega arith) in
+    let y = row-word P n r h ws hh (omega arith) in
     eb ∙ (rw (ev, p, x, y))
 
 -- ---- sides: forward rows go by the edges, backward rows by the reversed edges

@@ -18,12 +18,14 @@ use Rattle.graph.specs.Refusal.{Verdict, accept, refuse, refuseIf, verdictOf, r
 use Rattle.graph.specs.Table.{size}
 use Rattle.graph.specs.Code.{told}
 use Rattle.graph.proofs.Tests.{both, neither}
-use Rattle.graph.proofs.Verdicts.{then-accept, if-accept}
+use Rattle.graph.proofs.Verdicts.{then-accept, if-accept, verdict-replied}
 use Rattle.network.specs.Network.{isIn, landmarks, shortRows, row}
 use Rattle.network.specs.Query.{rowAt}
 use Rattle.network.specs.Lookup.{indexOf, lookupVerdict, lookupRow, lookupNumber}
 use Rattle.calls.specs.Code.{rowLists}
-use Rattle.calls.proofs.Judging.{size-accept, rows-accept, landmarks-accept}
+use Rattle.graph.proofs.Judging.{size-accept}
+use Rattle.calls.proofs.Judging.{rows-accept, landmarks-accept}
+use Rattle.calls.proofs.Rows.{row-within}
 
 -- ---- where a landmark stands
 
@@ -52,19 +54,6 @@ index-below v (x ∷ vs) h = pick (eqb v x) (λ k. index-below v vs k) h
     pick true below k = omega arith
     pick false below k = let z = below k in omega arith
 
--- ---- where its row lies
-
--- the row of landmark i and property p is among the rows of k landmarks, in a list that has them
-pub row-within : (n i p k l : ℕ) → i < k → 0 < p → p ≤ 5 → k * 5 * n ≤ l → rowAt i p * n + n ≤ l
-row-within n i p k l h a b f =
-    let e : suc (rowAt i p) ≤ k * 5 = omega arith in
-    omega (arith, suc-mul (rowAt i p) n, mul-le-mul-right n e)
-
-pub row-fits : (n i p : ℕ) → n ≤ 256 → i < 4 → 0 < p → p ≤ 5 → rowAt i p * n ≤ 5120
-row-fits n i p a h b c =
-    let e : rowAt i p ≤ 20 = omega arith in
-    omega (arith, mul-le-mul-right n e)
-
 -- ---- the number
 
 module _ (n : ℕ) (ls f b : List ℕ) (side l p : ℕ) where
@@ -73,12 +62,8 @@ module _ (n : ℕ) (ls f b : List ℕ) (side l p : ℕ) where
   number-told r e = ap (λ (v : Verdict). replied v tt) e
 
   told-number : (r : Judged) → replied (told r) tt ≡ lookupNumber n ls (rowLists f b) side l p → told r ≡ lookupVerdict n ls (rowLists f b) side l p
-  unfolding lookupNumber verdictOf replied
-  told-number r e = sym (said (told r)) ∙ (ap verdictOf e ∙ said (lookupVerdict n ls (rowLists f b) side l p))
-    where
-      said : (v : Verdict) → verdictOf (replied v (tt {0})) ≡ v
-      said accept = refl
-      said (refuse k i) = refl
+  unfolding lookupNumber
+  told-number r e = sym (verdict-replied (told r) tt) ∙ (ap verdictOf e ∙ verdict-replied (lookupVerdict n ls (rowLists f b) side l p) tt)
 
   module _ (r : Judged) (e : replied (told r) tt ≡ lookupNumber n ls (rowLists f b) side l p) where
     pub row-refused : (k i : ℕ) → r ≡ Refused k i → [] ≡ lookupRow n ls (rowLists f b) side l p

@@ -8,7 +8,6 @@
 --   padded us                                         == the vertices us in the four places
 --   Holds us k xs                                     == xs are the four places with us in them, and k is how many
 --   Counted es ds                                     == word v of the list ds is the degree of v, for every v: it is 0 past the list
---   insertAt i v us                                   == us with v put in at index i
 use mathlib.Core.Path.{_≡_}
 use mathlib.Core.List.{List, [], _∷_, _++_}
 use Prim.Native.Nat.{ℕ, _-_}
@@ -51,6 +50,3 @@ pub record Holds (us : List ℕ) (k : ℕ) (xs : List ℕ) : Type 0 where
 
 abbrev pub Counted : List Edge → List ℕ → Type 0
 Counted es ds = (v : ℕ) → getD ds v 0 ≡ degree es v
-
-abbrev pub insertAt : ℕ → ℕ → List ℕ → List ℕ
-insertAt i v us = take i us ++ v ∷ drop i us

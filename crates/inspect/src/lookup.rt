@@ -1,16 +1,14 @@
 // Row look-up: one landmark row, shown as a part of the list that it belongs to.
 use graph::Judged;
-use graph::check;
+use graph::rules;
 ghost use mathlib.Core.Path.{_≡_};
-ghost use Prim.Native.Nat.{_*_, _<_, _≤_};
 ghost use Rattle.graph.specs.Refusal.{replied};
 ghost use Rattle.graph.specs.Code.{told};
-ghost use Rattle.network.specs.Query.{rowAt};
 ghost use Rattle.network.specs.Lookup.{indexOf, lookupRow, lookupNumber};
 ghost use Rattle.calls.specs.Code.{rowLists};
 
 // Where `v` stands among the vertices; past them where it does not.
-pub fn index_of(v: u32, vertices: &[u32]) -> usize
+fn index_of(v: u32, vertices: &[u32]) -> usize
     ensures { λ r. ⌜ r ≡ indexOf v (now (vertices .entry)) ⌝ }
 {
     let mut i = 0;
@@ -21,14 +19,6 @@ pub fn index_of(v: u32, vertices: &[u32]) -> usize
         i += 1;
     }
     i
-}
-
-// Where the row of landmark `i` of the list and of a property starts in a row list.
-pub fn row_start(n: u32, i: usize, property: u32) -> usize
-    requires { ⌜ (n ≤ 256) × (i < 4) × (0 < property) × (property ≤ 5) ⌝ }
-    ensures { λ r. ⌜ r ≡ rowAt i property * n ⌝ }
-{
-    (i * 5 + (property as usize - 1)) * (n as usize)
 }
 
 // The number that a look-up is refused with.
@@ -43,7 +33,7 @@ pub fn row_number(
 ) -> Judged
     ensures { λ r. ⌜ replied (told r) tt ≡ lookupNumber n (now (landmarks .entry)) (rowLists (now (forward .entry)) (now (backward .entry))) side landmark property ⌝ }
 {
-    let size = check::judge_size(n);
+    let size = rules::judge_size(n);
     let Judged::Fine = size else {
         return size;
     };
@@ -58,7 +48,7 @@ pub fn row_number(
     if !calls::is_in(landmark, landmarks, 0) {
         return Judged::Refused(3, 0);
     }
-    check::refuse_if(!calls::is_property(property) || side > 1, 5, 0)
+    rules::refuse_if(!calls::is_property(property) || side > 1, 5, 0)
 }
 
 // The row of a side (0 forward, 1 backward), a landmark and a property; a refused look-up shows the empty part.
@@ -77,7 +67,7 @@ pub fn row<'a>(
     let Judged::Fine = number else {
         return &forward[0..0];
     };
-    let start = row_start(n, index_of(landmark, landmarks), property);
+    let start = calls::row_start(property, n as usize, index_of(landmark, landmarks));
     let end = start + (n as usize);
     if side == 0 {
         return &forward[start..end];

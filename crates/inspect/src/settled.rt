@@ -10,8 +10,8 @@ ghost use Rattle.graph.specs.Refusal.{accept, accepted};
 ghost use Rattle.graph.specs.Edge.{edge, reverse};
 ghost use Rattle.graph.specs.Code.{edgeAt};
 ghost use Rattle.run.specs.Run.{relaxable};
-ghost use Rattle.network.specs.Network.{row, propertyOf};
-ghost use Rattle.network.specs.Settled.{check, settledVerdict, settledCall};
+ghost use Rattle.network.specs.Network.{row, propertyOf, faults};
+ghost use Rattle.network.specs.Settled.{check, settledCall};
 ghost use Rattle.inspect.specs.Code.{checking};
 ghost use Rattle.calls.specs.Code.{network};
 
@@ -65,7 +65,7 @@ fn first_spot(
     forward: &[u32],
     backward: &[u32],
 ) -> Checked
-    requires { ⌜ settledVerdict n (now landmarks) (network (now tails) (now heads) (now weights) (now forward) (now backward) count) ≡ accept ⌝ }
+    requires { ⌜ faults n (now landmarks) (network (now tails) (now heads) (now weights) (now forward) (now backward) count) ≡ accept ⌝ }
     ensures { λ r. ⌜ checking r ≡ accepted (check n (now (landmarks .entry)) (network (now (tails .entry)) (now (heads .entry)) (now (weights .entry)) (now (forward .entry)) (now (backward .entry)) count)) ⌝ }
 {
     let rows = landmarks.len() * 5;

@@ -20,9 +20,9 @@ use Rattle.affected.specs.Affected.{mark, sweep, sweeps, affected}
 use Rattle.affected.specs.Prepared.{cleared, reopened, prepared}
 use Rattle.network.specs.Network.{Rows, Memory, Network, edgesIn, isIn, areLandmarks, flat, unsettled, storesOf}
 use Rattle.network.specs.Open.{openCall}
-use Rattle.network.specs.Query.{Words, scheduled, queryCall}
-use Rattle.network.specs.Change.{Change, edit, item, items}
-use Rattle.network.specs.Batch.{Report, affectedOver, batchCall}
+use Rattle.network.specs.Query.{Words, scheduled, queryCall, queryFaults}
+use Rattle.network.specs.Change.{Change, edit, item, items, words, against}
+use Rattle.network.specs.Batch.{Report, affectedOver, batchCall, batchFaults}
 use Rattle.network.specs.Settled.{Check, settled, found, inRecords, inRows, settledCall}
 use Rattle.network.specs.Choice.{place, ranked, choiceCall}
 use Rattle.network.specs.Lookup.{indexOf, lookupRow}
@@ -132,7 +132,7 @@ batches =
     ∷ []
 
 batches-said : map (λ c. c .0) batches ≡ map (λ c. c .1) batches
-unfolding batchCall replied choose _▷_ refuseIf isIn areLandmarks edges zip rules follow item items edit insert delete exists unsettled flat storesOf affectedOver anyOf countOf range property settle round visit visitIf handle clear relax storeIf keep keepIf mark sweep sweeps affected cleared reopened prepared
+unfolding batchCall batchFaults replied choose _▷_ refuseIf isIn areLandmarks edges zip rules follow item words against items edit insert delete exists unsettled flat storesOf affectedOver anyOf countOf range property settle round visit visitIf handle clear relax storeIf keep keepIf mark sweep sweeps affected cleared reopened prepared
 batches-said = refl
 
 -- ---- affected vertices and stores of a batch
@@ -166,7 +166,7 @@ reports =
     ∷ []
 
 reports-said : map (λ c. c .0) reports ≡ map (λ c. c .1) reports
-unfolding openCall start.opened batchCall replied choose _▷_ refuseIf isIn areLandmarks edges zip rules follow item items edit insert delete exists unsettled flat storesOf affectedOver anyOf countOf range property settle round visit visitIf handle clear relax storeIf keep keepIf mark sweep sweeps affected cleared reopened prepared
+unfolding openCall start.opened batchCall batchFaults replied choose _▷_ refuseIf isIn areLandmarks edges zip rules follow item words against items edit insert delete exists unsettled flat storesOf affectedOver anyOf countOf range property settle round visit visitIf handle clear relax storeIf keep keepIf mark sweep sweeps affected cleared reopened prepared
 reports-said = refl
 
 -- ---- queries
@@ -230,7 +230,7 @@ queries =
     ∷ []
 
 queries-said : map (λ c. c .0) queries ≡ map (λ c. c .1) queries
-unfolding queryCall replied choose _▷_ refuseIf isIn areLandmarks scheduled edges zip rules follow anyOf range property bound asked run.take takeIf pass settle round visit visitIf handle clear relax storeIf keep keepIf
+unfolding queryCall queryFaults replied choose _▷_ refuseIf isIn areLandmarks scheduled edges zip rules follow anyOf range property bound asked run.take takeIf pass settle round visit visitIf handle clear relax storeIf keep keepIf
 queries-said = refl
 
 -- ---- the settled check
@@ -357,7 +357,7 @@ edgesNow = edge 0 1 3 ∷ edge 0 3 9 ∷ edge 1 0 2 ∷ edge 1 2 4 ∷ edge 2 1 
 
 -- "Accepted: item by item .. the list stays in table order. Refused: it stays"
 current-now : current 4 graphA history ≡ edgesNow
-unfolding after turnedBack choose item items edit insert delete exists _▷_ refuseIf
+unfolding after turnedBack choose item words against items edit insert delete exists _▷_ refuseIf
 current-now = refl
 
 -- "The table's records below the present count are this list, and the count is its length": a refused batch hands on words and count.
@@ -366,7 +366,7 @@ abbrev held : Network → List Edge × ℕ × List ℕ × List ℕ
 held w = (edgesIn w, w .count, list.take 4 (w .memory .rows .forward), list.take 4 (w .memory .rows .backward))
 
 lived-now : held (lived 4 (0 ∷ []) (withLandmark 0) history) ≡ (edgesNow, 6, 0 ∷ 3 ∷ 7 ∷ 9 ∷ [], 0 ∷ 2 ∷ 6 ∷ 8 ∷ [])
-unfolding openCall start.opened batchCall reported replied choose _▷_ refuseIf isIn areLandmarks edges zip rules follow item items edit insert delete exists unsettled flat anyOf range property settle round visit visitIf handle clear relax storeIf keep keepIf mark sweep sweeps affected cleared reopened prepared
+unfolding openCall start.opened batchCall batchFaults reported replied choose _▷_ refuseIf isIn areLandmarks edges zip rules follow item words against items edit insert delete exists unsettled flat anyOf range property settle round visit visitIf handle clear relax storeIf keep keepIf mark sweep sweeps affected cleared reopened prepared
 lived-now = refl
 
 -- "whether "Turned back" accepts the batch": reckoned from the edges alone it is what the call says, number and place
@@ -380,9 +380,9 @@ judgedBatches =
     ∷ []
 
 turnedBack-said : map (λ c. turnedBack 4 graphA (c .0)) judgedBatches ≡ map (λ c. c .1) judgedBatches
-unfolding turnedBack item items edit insert delete exists _▷_ refuseIf
+unfolding turnedBack item words against items edit insert delete exists _▷_ refuseIf
 turnedBack-said = refl
 
 batchCall-said : map (λ c. changes 4 (0 ∷ []) (withLandmark 0) (c .0)) judgedBatches ≡ map (λ c. c .1) judgedBatches
-unfolding openCall start.opened batchCall verdictOf replied choose _▷_ refuseIf isIn areLandmarks edges zip rules follow item items edit insert delete exists unsettled flat anyOf range property settle round visit visitIf handle clear relax storeIf keep keepIf mark sweep sweeps affected cleared reopened prepared
+unfolding openCall start.opened batchCall batchFaults verdictOf replied choose _▷_ refuseIf isIn areLandmarks edges zip rules follow item words against items edit insert delete exists unsettled flat anyOf range property settle round visit visitIf handle clear relax storeIf keep keepIf mark sweep sweeps affected cleared reopened prepared
 batchCall-said = refl

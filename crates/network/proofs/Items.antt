@@ -13,9 +13,11 @@ use Rattle.graph.specs.Refusal.{accept, refuseIf, over}
 use Rattle.graph.specs.Edge.{Edge, present, zip, edges}
 use Rattle.graph.specs.Table.{Columns, edgesOf, isWeight, rules, shortTable, table, insert, delete}
 use Rattle.graph.proofs.Tests.{both, and-true, neither}
+use Rattle.graph.proofs.Records.{room-less, edges-length}
+use Rattle.graph.proofs.Judging.{lengths-accept, table-accept}
 use Rattle.graph.proofs.Verdicts.{then-accept, accept-then, if-accept, accept-if}
 use Rattle.graph.proofs.Order.{Sound, rules-accept, accept-rules, insert-sound, delete-sound, length-insert, length-delete}
-use Rattle.network.specs.Change.{Change, named, inserts, edit, edits, item, items}
+use Rattle.network.specs.Change.{Change, named, inserts, edit, edits, words, against, item, items}
 use Rattle.network.specs.Batch.{column, rewritten}
 
 -- ---- the rules through changes
@@ -25,16 +27,16 @@ use Rattle.network.specs.Batch.{column, rewritten}
 -- none: that keeps the order too, and adds nothing.
 pub item-good : (n i : ℕ) (es : List Edge) (c : Change) → item n i es c ≡ accept → Sound n es → length es ≤ maxEdges
     → Sound n (edit es c) × (length (edit es c) ≤ maxEdges)
-unfolding item edit
+unfolding item words against edit
 item-good n i es c h s l =
-    let a = then-accept (refuseIf (not (ltb (c .tail) n && ltb (c .head) n)) 6 i) _ h in
+    let o = then-accept (words n i c) (against i es c) h in
+    let a = then-accept (refuseIf (not (ltb (c .tail) n && ltb (c .head) n)) 6 i) _ (o .0) in
     let b = then-accept (refuseIf (not (inserts c || eqb (c .kind) 2)) 7 i) _ (a .1) in
-    let d = then-accept (refuseIf (eqb (c .tail) (c .head)) 8 i) _ (b .1) in
-    let e = then-accept (refuseIf (not (cond (inserts c) (isWeight (c .weight)) (eqb (c .weight) 0))) 9 i) _ (d .1) in
-    let f = then-accept (refuseIf (inserts c && present es (named c)) 10 i) _ (e .1) in
+    let d = then-accept (refuseIf (eqb (c .tail) (c .head)) 8 i) (refuseIf (not (cond (inserts c) (isWeight (c .weight)) (eqb (c .weight) 0))) 9 i) (b .1) in
+    let f = then-accept (refuseIf (inserts c && present es (named c)) 10 i) _ (o .1) in
     let g = then-accept (refuseIf (not (inserts c) && not (present es (named c))) 11 i) (refuseIf (inserts c && full) 12 i) (f .1) in
     let z = both (ltb (c .tail) n) (ltb (c .head) n) (not-false _ (if-accept _ _ _ (a .0))) in
-    pick (inserts c) z (if-accept _ _ _ (d .0)) (not-false _ (if-accept _ _ _ (e .0))) (if-accept _ _ _ (f .0)) (if-accept _ _ _ (g .1))
+    pick (inserts c) z (if-accept _ _ _ (d .0)) (not-false _ (if-accept _ _ _ (d .1))) (if-accept _ _ _ (f .0)) (if-accept _ _ _ (g .1))
   where
     full : Bool
     full = not (ltb (length es) maxEdges)
@@ -61,35 +63,17 @@ items-good n i es (c ∷ cs) h s l =
 
 -- ---- what numbers 2 and 4 say
 
-table-long : (cs : Columns) → shortTable cs ≡ accept
-    → (maxEdges ≤ length (cs .tails)) × (maxEdges ≤ length (cs .heads)) × (maxEdges ≤ length (cs .weights))
-table-long cs h =
-    let a = neither (ltb (length (cs .tails)) maxEdges) _ (if-accept _ _ _ h) in
-    let b = neither (ltb (length (cs .heads)) maxEdges) (ltb (length (cs .weights)) maxEdges) (a .1) in
-    (ltb-false _ _ (a .0), ltb-false _ _ (b .0), ltb-false _ _ (b .1))
-
-pub table-accept : (n : ℕ) (cs : Columns) (m : ℕ) → table n cs m ≡ accept → (m ≤ maxEdges) × Sound n (edgesOf cs m)
-table-accept n cs m h =
-    let z = then-accept (refuseIf (ltb maxEdges m) 4 0) (rules n (edgesOf cs m)) h in
-    (ltb-false _ _ (if-accept _ _ _ (z .0)), rules-accept n (edgesOf cs m) (z .1))
+pub table-sound : (n : ℕ) (cs : Columns) (m : ℕ) → table n cs m ≡ accept → (m ≤ maxEdges) × Sound n (edgesOf cs m)
+table-sound n cs m h = let z = table-accept n cs m h in (z .0, rules-accept n (edgesOf cs m) (z .1))
 
 pub accept-table : (n : ℕ) (cs : Columns) (m : ℕ) → m ≤ maxEdges → Sound n (edgesOf cs m) → table n cs m ≡ accept
 accept-table n cs m h s = accept-then (accept-if 4 0 (le-ltb _ _ h)) ∙ accept-rules n (edgesOf cs m) s
 
 -- ---- as many edges as the count says
 
-length-edges : (m : ℕ) (ts hs ws : List ℕ) → m ≤ length ts → m ≤ length hs → m ≤ length ws → length (edges ts hs ws m) ≡ m
-unfolding edges zip
-length-edges zero ts hs ws a b c = refl
-length-edges (suc m) [] hs ws a b c = absurd (omega arith)
-length-edges (suc m) (t ∷ ts) [] ws a b c = absurd (omega arith)
-length-edges (suc m) (t ∷ ts) (h ∷ hs) [] a b c = absurd (omega arith)
-length-edges (suc m) (t ∷ ts) (h ∷ hs) (w ∷ ws) a b c = ap suc (length-edges m ts hs ws (omega arith) (omega arith) (omega arith))
-
 pub table-count : (cs : Columns) (m : ℕ) → shortTable cs ≡ accept → m ≤ maxEdges → length (edgesOf cs m) ≡ m
 table-count cs m h l =
-    let z = table-long cs h in
-    length-edges m (cs .tails) (cs .heads) (cs .weights) (omega (arith, z .0)) (omega (arith, z .1)) (omega (arith, z .2))
+    edges-length (cs .tails) (cs .heads) (cs .weights) m (room-less l (lengths-accept (cs .tails) (cs .heads) (cs .weights) h))
 
 -- ---- the table after a batch
 
@@ -118,5 +102,5 @@ module _ (fs : List Edge) (few : length fs ≤ maxEdges) where
   -- its lists are as long as before
   pub rewritten-long : (cs : Columns) → shortTable cs ≡ accept → shortTable (rewritten fs cs) ≡ accept
   rewritten-long cs h =
-      let z = table-long cs h in
-      rw (column-kept (λ e. e .tail) (cs .tails) (z .0), column-kept (λ e. e .head) (cs .heads) (z .1), column-kept (λ e. e .weight) (cs .weights) (z .2)) h
+      let z = lengths-accept (cs .tails) (cs .heads) (cs .weights) h in
+      rw (column-kept (λ e. e .tail) (cs .tails) (z .tails), column-kept (λ e. e .head) (cs .heads) (z .heads), column-kept (λ e. e .weight) (cs .weights) (z .weights)) h

@@ -8,54 +8,25 @@ use mathlib.Core.List.{List, [], _∷_, map}
 use Prim.Native.Nat.{ℕ, suc, _%_, _≤_}
 use native.Mathlib.Omega.{arith}
 use lib.ListN.{length}
-use lib.Dec.{ltb}
 use Rattle.property.specs.Property.{properties}
 use Rattle.property.proofs.Instances.{property-laws}
-use Rattle.graph.specs.Limits.{maxEdges, maxBatch}
+use Rattle.graph.specs.Limits.{maxEdges}
 use Rattle.graph.specs.Refusal.{Verdict, accept, refuse, refused, _▷_, refuseIf, replied, verdictOf, choose, Outcome, outcome, over}
 use Rattle.graph.specs.Edge.{Edge, reverse}
 use Rattle.graph.specs.Table.{size, shortTable, table}
 use Rattle.graph.proofs.Tests.{or-false}
-use Rattle.graph.proofs.Verdicts.{then-accept, accept-then, refuse-then, accept-if}
+use Rattle.graph.proofs.Verdicts.{then-accept, accept-then, refuse-then, accept-if, then-same, then-assoc, verdict-replied, choose-accept}
 use Rattle.graph.proofs.Order.{Sound, Within, within}
 use Rattle.theory.proofs.Reverse.{within-reverse}
-use Rattle.network.specs.Network.{Memory, Network, edgesIn, shortRows, landmarks, flat, unsettled}
-use Rattle.network.specs.Open.{openRow, openVerdict, openMemory, openCall}
+use Rattle.network.specs.Network.{Memory, Network, edgesIn, shortRows, landmarks, faults, flat, unsettled}
+use Rattle.network.specs.Open.{openRow, openRows, openVerdict, openMemory, openCall}
 use Rattle.network.specs.Change.{Change, items}
-use Rattle.network.specs.Batch.{batchRow, Report, newEdges, newForward, newBackward, batchVerdict, batchMemory, report, batchCall}
+use Rattle.network.specs.Batch.{batchRow, Report, newEdges, newForward, newBackward, stillWaiting, longBatch, batchFaults, batchVerdict, batchMemory, report, batchCall}
 use Rattle.network.specs.Caller.{opened, reported, handOn, lived}
 use Rattle.network.specs.Current.{turnedBack, after, current}
 use Rattle.network.specs.History.{Unworse, Applied, moment, now}
-use Rattle.network.proofs.Items.{items-good, table-accept, accept-table, table-count, rewritten-edges, rewritten-long}
+use Rattle.network.proofs.Items.{items-good, table-sound, accept-table, table-count, rewritten-edges, rewritten-long}
 use Rattle.network.proofs.Rows.{rows-long, open-sized, batch-sized, RowsBest, open-best, batch-rests, batch-best, batch-unworse}
-
--- ---- verdicts
-
--- what comes after an accepted verdict may be put otherwise
-pub then-same : (a : Verdict) {b c : Verdict} → (a ≡ accept → b ≡ c) → (a ▷ b) ≡ (a ▷ c)
-unfolding _▷_
-then-same accept h = h refl
-then-same (refuse k i) h = refl
-
--- a last refusal that never comes
-pub then-last : (a : Verdict) {b : Verdict} → (a ≡ accept → b ≡ accept) → (a ▷ b) ≡ a
-unfolding _▷_
-then-last accept h = h refl
-then-last (refuse k i) h = refl
-
-then-assoc : (a b c : Verdict) → (a ▷ b ▷ c) ≡ ((a ▷ b) ▷ c)
-unfolding _▷_
-then-assoc accept b c = refl
-then-assoc (refuse k i) b c = refl
-
-pub verdict-replied : {A : Type 0} (v : Verdict) (a : A) → verdictOf (replied v a) ≡ v
-unfolding replied verdictOf
-verdict-replied accept a = refl
-verdict-replied (refuse k i) a = refl
-
-pub choose-accept : {A : Type 0} {v : Verdict} (new old : A) → v ≡ accept → choose v new old ≡ new
-unfolding choose
-choose-accept new old e = rw e
 
 -- ---- the invariant
 
@@ -69,12 +40,23 @@ pub record Good (n : ℕ) (ls : List ℕ) (w : Network) : Type 0 where
   pub backward : RowsBest n ls (map reverse (edgesIn w)) (w .memory .rows .backward)
 
 pub good-within : (n : ℕ) (ls : List ℕ) (w : Network) → Good n ls w → Within n (edgesIn w)
-good-within n ls w g = within n (edgesIn w) ((table-accept n (w .memory .table) (w .count) (g .sound)) .1)
+good-within n ls w g = within n (edgesIn w) ((table-sound n (w .memory .table) (w .count) (g .sound)) .1)
 
 pub good-count : (n : ℕ) (ls : List ℕ) (w : Network) → Good n ls w → length (edgesIn w) ≡ w .count
-good-count n ls w g = table-count (w .memory .table) (w .count) (g .roomy) ((table-accept n (w .memory .table) (w .count) (g .sound)) .0)
+good-count n ls w g = table-count (w .memory .table) (w .count) (g .roomy) ((table-sound n (w .memory .table) (w .count) (g .sound)) .0)
 
 -- ---- the opening
+
+-- numbers 1 to 4, one by one
+pub faults-parts : (n : ℕ) (ls : List ℕ) (w : Network) → faults n ls w ≡ accept
+    → (size n ≡ accept) × (shortTable (w .memory .table) ≡ accept) × (shortRows n ls (w .memory .rows) ≡ accept) × (landmarks n ls ≡ accept)
+    × (table n (w .memory .table) (w .count) ≡ accept)
+faults-parts n ls w h =
+    let a = then-accept (size n) _ h in
+    let b = then-accept (shortTable (w .memory .table)) _ (a .1) in
+    let c = then-accept (shortRows n ls (w .memory .rows)) _ (b .1) in
+    let d = then-accept (landmarks n ls) (table n (w .memory .table) (w .count)) (c .1) in
+    (a .0, b .0, c .0, d .0, d .1)
 
 module _ (n : ℕ) (ls : List ℕ) (w : Network) where
   abbrev begun : Memory → Network
@@ -82,21 +64,17 @@ module _ (n : ℕ) (ls : List ℕ) (w : Network) where
 
   open-good : openVerdict n ls w ≡ accept → Good n ls (begun (openMemory n ls w))
   open-good h =
-      let a = then-accept (size n) _ h in
-      let b = then-accept (shortTable (w .memory .table)) _ (a .1) in
-      let c = then-accept (shortRows n ls (w .memory .rows)) _ (b .1) in
-      let d = then-accept (landmarks n ls) _ (c .1) in
-      let e = then-accept (table n (w .memory .table) (w .count)) _ (d .1) in
-      let i = within n (edgesIn w) ((table-accept n (w .memory .table) (w .count) (e .0)) .1) in
+      let o = faults-parts n ls w ((then-accept (faults n ls w) (refuseIf (unsettled (openRows n ls (edgesIn w)) || unsettled (openRows n ls (map reverse (edgesIn w)))) 13 0) h) .0) in
+      let i = within n (edgesIn w) ((table-sound n (w .memory .table) (w .count) (o .4)) .1) in
       record {
-        sized = a .0;
-        roomy = b .0;
+        sized = o .0;
+        roomy = o .1;
         long = rows-long n ls (openRow n ls (edgesIn w)) (openRow n ls (map reverse (edgesIn w))) (open-sized n ls (edgesIn w))
-            (open-sized n ls (map reverse (edgesIn w))) (w .memory .rows) (c .0);
-        chosen = d .0;
-        sound = e .0;
-        forward = open-best n ls (d .0) (edgesIn w) i (w .memory .rows .forward);
-        backward = open-best n ls (d .0) (map reverse (edgesIn w)) (within-reverse n (edgesIn w) i) (w .memory .rows .backward);
+            (open-sized n ls (map reverse (edgesIn w))) (w .memory .rows) (o .2);
+        chosen = o .3;
+        sound = o .4;
+        forward = open-best n ls (o .3) (edgesIn w) i (w .memory .rows .forward);
+        backward = open-best n ls (o .3) (map reverse (edgesIn w)) (within-reverse n (edgesIn w) i) (w .memory .rows .backward);
       }
 
   -- An accepted opening brings the invariant about. As it was accepted, size, lists, landmarks and table are as they must be. It leaves
@@ -121,7 +99,7 @@ module _ (n : ℕ) (ls : List ℕ) (w : Network) (b : List Change) (g : Good n l
   es = edgesIn w
 
   abbrev fs : List Edge
-  fs = newEdges n ls w b
+  fs = newEdges w b
 
   abbrev ahead : List ℕ
   ahead = w .memory .rows .forward
@@ -131,7 +109,7 @@ module _ (n : ℕ) (ls : List ℕ) (w : Network) (b : List Change) (g : Good n l
 
   -- its outcome under the verdict v
   abbrev out : Verdict → Outcome Report Memory
-  out v = outcome v (report n ls w b) (batchMemory n ls w b) (w .memory)
+  out v = outcome v (report n ls w fs) (batchMemory n ls w fs) (w .memory)
 
   called : (v : Verdict) → batchVerdict n ls w b ≡ v → batchCall n ls w b ≡ out v
   unfolding batchCall
@@ -142,12 +120,14 @@ module _ (n : ℕ) (ls : List ℕ) (w : Network) (b : List Change) (g : Good n l
   afterwards v e = ap (λ x. choose x fs es) e
 
   -- of the call's refusals those are left that document 01 has for a batch, and 13
-  judged : batchVerdict n ls w b ≡ (turnedBack n es b ▷ refuseIf (unsettled (newForward n ls w b) || unsettled (newBackward n ls w b)) 13 0)
-  unfolding turnedBack
-  judged = accept-then (g .sized)
-      ∙ then-same (refuseIf (ltb maxBatch (length b)) 1 0)
-      (λ _. accept-then (g .roomy) ∙ accept-then (g .long) ∙ accept-then (g .chosen) ∙ accept-then (g .sound))
-      ∙ then-assoc (refuseIf (ltb maxBatch (length b)) 1 0) (items n 0 es b) _
+  judged : batchVerdict n ls w b ≡ (turnedBack n es b ▷ stillWaiting n ls w fs)
+  unfolding turnedBack batchFaults
+  judged = then-assoc (size n) _ _ ∙ accept-then (g .sized)
+      ∙ (then-assoc (longBatch (length b)) _ _ ∙ then-same (longBatch (length b)) (λ _. accept-then whole))
+      ∙ sym (then-assoc (longBatch (length b)) (items n 0 es b) _)
+    where
+      whole : (shortTable (w .memory .table) ▷ shortRows n ls (w .memory .rows) ▷ landmarks n ls ▷ table n (w .memory .table) (w .count)) ≡ accept
+      whole = accept-then (g .roomy) ∙ accept-then (g .long) ∙ accept-then (g .chosen) ∙ g .sound
 
   refused-kept : (v : Verdict) (k i : ℕ) → (out v) .reply ≡ refused k i → handOn w (out v) ≡ w
   unfolding replied choose reported
@@ -167,7 +147,7 @@ module _ (n : ℕ) (ls : List ℕ) (w : Network) (b : List Change) (g : Good n l
         kept = subst (λ o. Good n ls (handOn w o)) (sym d) good;
         moved = ap (λ o. edgesIn (handOn w o)) d ∙ moved ∙ sym f;
         applied = record {
-          judged = ap (λ o. verdictOf (o .reply)) d ∙ verdict-replied v (report n ls w b) ∙ sym e;
+          judged = ap (λ o. verdictOf (o .reply)) d ∙ verdict-replied v (report n ls w fs) ∙ sym e;
           kept = λ k i r. ap (handOn w) d ∙ refused-kept v k i (ap (λ o. o .reply) (sym d) ∙ r);
           forward = subst (λ o. Unworse n ls es (after n es b) ahead (o .memory .rows .forward)) (sym d)
               (subst (λ x. Unworse n ls es x ahead ((out v) .memory .rows .forward)) (sym f) forward);
@@ -191,8 +171,8 @@ module _ (n : ℕ) (ls : List ℕ) (w : Network) (b : List Change) (g : Good n l
     new-good : Sound n fs × (length fs ≤ maxEdges)
     unfolding turnedBack
     new-good =
-        let z = then-accept (refuseIf (ltb maxBatch (length b)) 1 0) (items n 0 es b) e in
-        let y = table-accept n (w .memory .table) (w .count) (g .sound) in
+        let z = then-accept (longBatch (length b)) (items n 0 es b) e in
+        let y = table-sound n (w .memory .table) (w .count) (g .sound) in
         items-good n 0 es b (z .1) (y .1) (rw (good-count n ls w g) (y .0))
 
     old-in : Within n es
@@ -207,12 +187,12 @@ module _ (n : ℕ) (ls : List ℕ) (w : Network) (b : List Change) (g : Good n l
     new-back : Within n (map reverse fs)
     new-back = within-reverse n fs new-in
 
-    rests : (unsettled (newForward n ls w b) || unsettled (newBackward n ls w b)) ≡ false
+    rests : (unsettled (newForward n ls w fs) || unsettled (newBackward n ls w fs)) ≡ false
     rests = or-false (batch-rests n ls (g .chosen) es fs old-in new-in ahead (g .forward))
         (batch-rests n ls (g .chosen) (map reverse es) (map reverse fs) old-back new-back back (g .backward))
 
     abbrev next : Network
-    next = record { memory = batchMemory n ls w b; count = length fs }
+    next = record { memory = batchMemory n ls w fs; count = length fs }
 
     read : edgesIn next ≡ fs
     read = rewritten-edges fs (w .memory .table)
@@ -225,9 +205,9 @@ module _ (n : ℕ) (ls : List ℕ) (w : Network) (b : List Change) (g : Good n l
           (batch-sized n ls (map reverse es) (map reverse fs) back) (w .memory .rows) (g .long);
       chosen = g .chosen;
       sound = accept-table n (next .memory .table) (length fs) (new-good .1) (subst (Sound n) (sym read) (new-good .0));
-      forward = subst (λ x. RowsBest n ls x (over (flat (newForward n ls w b)) ahead)) (sym read)
+      forward = subst (λ x. RowsBest n ls x (over (flat (newForward n ls w fs)) ahead)) (sym read)
           (batch-best n ls (g .chosen) es fs old-in new-in ahead (g .forward));
-      backward = subst (λ x. RowsBest n ls (map reverse x) (over (flat (newBackward n ls w b)) back)) (sym read)
+      backward = subst (λ x. RowsBest n ls (map reverse x) (over (flat (newBackward n ls w fs)) back)) (sym read)
           (batch-best n ls (g .chosen) (map reverse es) (map reverse fs) old-back new-back back (g .backward));
     }
 

@@ -6,48 +6,42 @@
 --   queryNumber k         == k is 1, 2, 5 or 6
 --   Never r               == the reply r is not number 13
 use mathlib.Core.Path.{_≡_, refl, sym, _∙_}
-use mathlib.Core.Bool.{Bool, true, false, not, _&&_, _||_, true≢false}
+use mathlib.Core.Bool.{Bool, true, false, _&&_, _||_, true≢false}
 use mathlib.Core.List.{List, [], _∷_, map}
 use Prim.Native.Nat.{ℕ, suc, _<_}
 use lib.ListN.{length}
-use lib.Dec.{ltb, leb, eqb}
-use borrow.Author.Tests.{ltb-true, leb-true, not-false}
-use Rattle.property.specs.Property.{properties, isProperty}
-use Rattle.property.proofs.Instances.{property-laws}
+use lib.Dec.{leb, eqb}
 use Rattle.frontier.specs.Waiting.{anyOf}
-use Rattle.graph.specs.Limits.{maxSchedule}
 use Rattle.graph.specs.Refusal.{Verdict, accept, refuse, _▷_, refuseIf, Reply, refused, verdictOf}
 use Rattle.graph.specs.Edge.{Edge, reverse}
-use Rattle.graph.specs.Table.{follow, rules, size, shortTable, table}
-use Rattle.graph.proofs.Tests.{both, or-false}
-use Rattle.graph.proofs.Verdicts.{accept-then, if-accept, accept-if}
+use Rattle.graph.specs.Table.{follow, rules}
+use Rattle.graph.proofs.Tests.{or-false}
+use Rattle.graph.proofs.Verdicts.{accept-then, accept-if, then-same, then-last, verdict-replied}
 use Rattle.graph.proofs.Order.{within}
-use Rattle.theory.proofs.Rest.{settle-rests}
 use Rattle.theory.proofs.Reverse.{within-reverse}
-use Rattle.network.specs.Network.{Network, edgesIn, shortRows, landmarks}
+use Rattle.network.specs.Network.{Network, edgesIn, faults}
 use Rattle.network.specs.Open.{openVerdict, openCall}
-use Rattle.network.specs.Query.{Query, Words, scheduled, atRounds, atEnd, queryVerdict, queryCall}
-use Rattle.network.specs.Change.{Change, edit, item, items}
+use Rattle.network.specs.Query.{Query, Words, scheduled, longSchedule, shortWords, atEnd, queryFaults, queryVerdict, queryCall}
+use Rattle.network.specs.Change.{Change, edit, words, against, item, items}
 use Rattle.network.specs.Batch.{batchCall}
-use Rattle.network.specs.Current.{turnedBack, openBack, queryBack}
+use Rattle.network.specs.Current.{turnedBack, queryBack}
 use Rattle.network.specs.History.{moment}
-use Rattle.network.proofs.Items.{table-accept}
+use Rattle.network.proofs.Items.{table-sound}
 use Rattle.network.proofs.Rows.{open-rests}
-use Rattle.network.proofs.Moment.{then-same, then-last, verdict-replied, Good, good-within, steps, moment-good}
-use Rattle.network.proofs.Query.{rounds-good}
+use Rattle.network.proofs.Moment.{Good, faults-parts, steps, moment-good}
+use Rattle.network.proofs.Query.{query-request, query-rests}
 
 -- ---- what turns each call back
 
 -- An opening, on whatever lists, is turned back by numbers 1 to 4 alone. Where these accept, its landmarks are vertices and its edges lie
 -- within the n vertices. So each opened row keeps the invariant of runs, on the edges and on the reversed ones, and from such a state
 -- nothing waits after n rounds.
-pub open-judged : (n : ℕ) (ls : List ℕ) (w : Network) → verdictOf ((openCall n ls w) .reply) ≡ openBack n ls w
+pub open-judged : (n : ℕ) (ls : List ℕ) (w : Network) → verdictOf ((openCall n ls w) .reply) ≡ faults n ls w
 unfolding openCall
-open-judged n ls w = verdict-replied (openVerdict n ls w) tt
-    ∙ then-same (size n) (λ _. then-same (shortTable (w .memory .table)) (λ _. then-same (shortRows n ls (w .memory .rows)) (λ _.
-    then-same (landmarks n ls) (λ c. then-last (table n (w .memory .table) (w .count)) (λ d.
-    let i = within n (edgesIn w) ((table-accept n (w .memory .table) (w .count) d) .1) in
-    accept-if 13 0 (or-false (open-rests n ls c (edgesIn w) i) (open-rests n ls c (map reverse (edgesIn w)) (within-reverse n (edgesIn w) i))))))))
+open-judged n ls w = verdict-replied (openVerdict n ls w) tt ∙ then-last (faults n ls w) (λ h.
+    let f = faults-parts n ls w h in
+    let i = within n (edgesIn w) ((table-sound n (w .memory .table) (w .count) (f .4)) .1) in
+    accept-if 13 0 (or-false (open-rests n ls (f .3) (edgesIn w) i) (open-rests n ls (f .3) (map reverse (edgesIn w)) (within-reverse n (edgesIn w) i))))
 
 -- a batch on a network that keeps the invariant, by what document 01 has for a batch on its edges alone
 pub batch-judged : (n : ℕ) (ls : List ℕ) (w : Network) (b : List Change) → Good n ls w
@@ -59,21 +53,17 @@ batch-judged n ls w b g = (steps n ls w b g) .applied .judged
 -- waits after n rounds.
 pub query-judged : (n : ℕ) (ls : List ℕ) (w : Network) (q : Query) (out : Words) → Good n ls w
     → verdictOf ((queryCall n ls w q out) .reply) ≡ queryBack n q out
-unfolding queryCall
+unfolding queryCall queryFaults
 query-judged n ls w q out g = verdict-replied (queryVerdict n ls w q out) _
+    ∙ then-last (queryFaults n ls w q (length (out .starts)) (length (out .settled))) last
     ∙ accept-then (g .sized)
-    ∙ then-same (refuseIf (ltb maxSchedule (length (q .schedule))) 1 0) (λ _. accept-then (g .roomy) ∙ accept-then (g .long)
-    ∙ then-same (refuseIf (ltb (length (out .starts)) n || ltb (length (out .settled)) n) 2 0) (λ _. accept-then (g .chosen) ∙ accept-then (g .sound)
-    ∙ then-same (refuseIf (not (isProperty (q .property))) 5 0) (λ a. then-same (refuseIf (not (ltb (q .source) n)) 6 0) (λ b.
-    then-last (scheduled n 0 (q .schedule)) (λ _. accept-if 13 0 (rests a b))))))
+    ∙ then-same (longSchedule (length (q .schedule))) (λ _. accept-then (g .roomy) ∙ accept-then (g .long)
+    ∙ then-same (shortWords n (length (out .starts)) (length (out .settled))) (λ _. accept-then (g .chosen) ∙ accept-then (g .sound)))
   where
-    rests : refuseIf (not (isProperty (q .property))) 5 0 ≡ accept → refuseIf (not (ltb (q .source) n)) 6 0 ≡ accept
-        → anyOf ((atEnd n ls w q) .waiting) ≡ false
-    rests a b =
-        let p = both (ltb 0 (q .property)) (leb (q .property) properties) (not-false _ (if-accept _ _ _ a)) in
-        let s : q .source < n = ltb-true _ _ (not-false _ (if-accept _ _ _ b)) in
-        settle-rests (property-laws (q .property)) (edgesIn w) (q .source) n (good-within n ls w g) s (atRounds n ls w q)
-        (rounds-good n ls w g q (ltb-true _ _ (p .0)) (leb-true _ _ (p .1)) s)
+    last : queryFaults n ls w q (length (out .starts)) (length (out .settled)) ≡ accept → refuseIf (anyOf ((atEnd n ls w q) .waiting)) 13 0 ≡ accept
+    last h =
+        let r = query-request n ls w q (length (out .starts)) (length (out .settled)) h in
+        accept-if 13 0 (query-rests n ls w g q (r .0) (r .1) (r .2))
 
 -- ---- which numbers come
 
@@ -119,10 +109,11 @@ only-scheduled h n i [] = accepts
 only-scheduled h n i (v ∷ vs) = only-then (only-if _ 6 i h) (only-scheduled h n (suc i) vs)
 
 only-items : (n i : ℕ) (es : List Edge) (cs : List Change) → Only batchNumber (items n i es cs)
-unfolding items item
+unfolding items item words against
 only-items n i es [] = accepts
-only-items n i es (c ∷ cs) = only-then (only-then (only-if _ 6 i refl) (only-then (only-if _ 7 i refl) (only-then (only-if _ 8 i refl)
-    (only-then (only-if _ 9 i refl) (only-then (only-if _ 10 i refl) (only-then (only-if _ 11 i refl) (only-if _ 12 i refl)))))))
+only-items n i es (c ∷ cs) = only-then (only-then
+    (only-then (only-if _ 6 i refl) (only-then (only-if _ 7 i refl) (only-then (only-if _ 8 i refl) (only-if _ 9 i refl))))
+    (only-then (only-if _ 10 i refl) (only-then (only-if _ 11 i refl) (only-if _ 12 i refl))))
     (only-items n (suc i) (edit es c) cs)
 
 pub open-numbers : (n : ℕ) (ls : List ℕ) (w : Network) → Only openNumber (verdictOf ((openCall n ls w) .reply))

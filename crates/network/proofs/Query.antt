@@ -2,7 +2,7 @@
 -- settled words are settled and best. Assumes nothing.
 use mathlib.Core.Path.{_≡_, refl, sym, ap, _∙_, subst}
 use mathlib.Core.Logic.{_⊎_, inl, inr, _≢_}
-use mathlib.Core.Bool.{not, _||_, false}
+use mathlib.Core.Bool.{not, false}
 use mathlib.Core.List.{List, [], _∷_, map, List·Memᴰ, List·Memᴰ·head, List·Memᴰ·tail, Memᴰ·map, Memᴰ·of-map}
 use Prim.Native.Nat.{ℕ, zero, suc, _-_, _/_, _%_, _≤_, _<_}
 use native.Mathlib.Nat.{mul-add-div-right, mul-add-mod-self-right, mod-eq-of-lt, div-eq-of-lt}
@@ -14,26 +14,26 @@ use Rattle.property.specs.Property.{Property, property, properties, isProperty}
 use Rattle.property.specs.Laws.{Laws, Joins}
 use Rattle.property.proofs.Instances.{property-laws, property-joins}
 use Rattle.frontier.specs.Waiting.{anyOf}
-use Rattle.graph.specs.Limits.{maxSchedule}
-use Rattle.graph.specs.Refusal.{Verdict, accept, refuse, refuseIf, accepted, replied, verdictOf, over}
+use Rattle.graph.specs.Refusal.{accept, refuseIf, accepted, over}
 use Rattle.graph.specs.Edge.{Edge, reverse, range}
 use Rattle.graph.specs.Route.{Route, Best}
 use Rattle.graph.specs.Table.{size, shortTable, table}
 use Rattle.graph.proofs.Tests.{both, neither}
-use Rattle.graph.proofs.Lists.{mem-range-0, range-below}
-use Rattle.graph.proofs.Verdicts.{not-accept, then-accept, if-accept}
+use Rattle.graph.proofs.Lists.{mem-range-0, range-below, getD-mem}
+use Rattle.graph.proofs.Verdicts.{then-accept, if-accept, reply-accepted, choose-accept}
 use Rattle.graph.proofs.Order.{Within}
 use Rattle.run.specs.Run.{Tally, word, relaxable}
 use Rattle.run.specs.Start.{Landmark, bound, asked}
 use Rattle.theory.proofs.Settle.{Inv, pass-good, pass-rounds, settle-good, settle-rounds, settled}
 use Rattle.theory.proofs.Value.{value-before, settled-best}
+use Rattle.theory.proofs.Rest.{settle-rests}
 use Rattle.theory.proofs.Exists.{best-unique}
 use Rattle.theory.proofs.Reverse.{reversed-best}
 use Rattle.theory.proofs.Query.{by, Bounded, bound-under, bound-is, via, asked-source, asked-other, asked-good}
 use Rattle.network.specs.Network.{Network, edgesIn, rowCount, shortRows, landmarks, row, propertyOf, landmarkOf}
-use Rattle.network.specs.Query.{Query, Words, rowAt, scheduled, known, atStart, atRounds, atEnd, queryVerdict, answered, queryCall}
+use Rattle.network.specs.Query.{Query, Words, rowAt, scheduled, known, atStart, atRounds, atEnd, longSchedule, shortWords, requested, queryFaults, queryVerdict, answered, queryCall}
 use Rattle.network.specs.History.{Triangle, Answered}
-use Rattle.network.proofs.Moment.{choose-accept, Good, good-within}
+use Rattle.network.proofs.Moment.{Good, good-within}
 
 -- ---- lists and rows
 
@@ -41,11 +41,6 @@ use Rattle.network.proofs.Moment.{choose-accept, Good, good-within}
 index-of : {l : ℕ} {ls : List ℕ} → List·Memᴰ l ls → (i : ℕ) × (i < length ls) × (getD ls i 0 ≡ l)
 index-of (List·Memᴰ·head p) = (0, omega arith, sym p)
 index-of (List·Memᴰ·tail m) = let (i, h, e) = index-of m in (suc i, omega arith, e)
-
-at-index : (ls : List ℕ) (i : ℕ) → i < length ls → List·Memᴰ (getD ls i 0) ls
-at-index [] i h = absurd (omega arith)
-at-index (l ∷ ls) zero h = List·Memᴰ·head refl
-at-index (l ∷ ls) (suc i) h = List·Memᴰ·tail (at-index ls i (omega arith))
 
 -- the row of landmark i for property p is of that property and that landmark
 row-at : (ls : List ℕ) (p i : ℕ) → 0 < p → p ≤ properties → (Q : Property → ℕ → Type 0)
@@ -57,11 +52,22 @@ row-at ls p i h k Q q =
     let c : suc (rowAt i p % properties) ≡ p = omega arith in
     subst (λ x. Q (property p) (getD ls x 0)) b (subst (λ x. Q (property x) (landmarkOf ls (rowAt i p))) c q)
 
--- an accepted reply
-reply-accepted : {A : Type 0} (v : Verdict) (a b : A) → replied v a ≡ accepted b → (v ≡ accept) × (a ≡ b)
-unfolding replied verdictOf
-reply-accepted accept a b e = (refl, cc)
-reply-accepted (refuse k i) a b e = absurd (not-accept (ap verdictOf e))
+-- what is known of a request where no refusal applies
+pub query-request : (n : ℕ) (ls : List ℕ) (w : Network) (q : Query) (x y : ℕ) → queryFaults n ls w q x y ≡ accept
+    → (0 < q .property) × (q .property ≤ properties) × (q .source < n)
+unfolding queryFaults
+query-request n ls w q x y h =
+    let a = then-accept (size n) _ h in
+    let b = then-accept (longSchedule (length (q .schedule))) _ (a .1) in
+    let c = then-accept (shortTable (w .memory .table)) _ (b .1) in
+    let d = then-accept (shortRows n ls (w .memory .rows)) _ (c .1) in
+    let e = then-accept (shortWords n x y) _ (d .1) in
+    let f = then-accept (landmarks n ls) _ (e .1) in
+    let g = then-accept (table n (w .memory .table) (w .count)) (requested n q) (f .1) in
+    let i = then-accept (refuseIf (not (isProperty (q .property))) 5 0) _ (g .1) in
+    let j = then-accept (refuseIf (not (ltb (q .source) n)) 6 0) (scheduled n 0 (q .schedule)) (i .1) in
+    let p = both (ltb 0 (q .property)) (leb (q .property) properties) (not-false _ (if-accept _ _ _ (i .0))) in
+    (ltb-true _ _ (p .0), leb-true _ _ (p .1), ltb-true _ _ (not-false _ (if-accept _ _ _ (j .0))))
 
 module _ (n : ℕ) (ls : List ℕ) (w : Network) (g : Good n ls w) (q : Query) where
   abbrev P : Property
@@ -132,7 +138,7 @@ module _ (n : ℕ) (ls : List ℕ) (w : Network) (g : Good n ls w) (q : Query) w
     Found t = (l a b : ℕ) × List·Memᴰ l ls × Best P es s l a × Best P es l t b × (top t ≡ P .join a b)
 
     found : (t i : ℕ) → i < length ls → top t ≡ by P (know i) t → Found t
-    found t i h e = (getD ls i 0, (know i) .into, word P ((know i) .row) t, at-index ls i h, back i h, ahead i h t, e)
+    found t i h e = (getD ls i 0, (know i) .into, word P ((know i) .row) t, getD-mem ls i 0 h, back i h, ahead i h t, e)
 
     -- Where the bound is none, the word by way of the first landmark is none too: it is not better than the bound, and it is none or the
     -- value of a route, which is no worse than none.
@@ -161,8 +167,12 @@ module _ (n : ℕ) (ls : List ℕ) (w : Network) (g : Good n ls w) (q : Query) w
     start-good : Inv P es s n (atStart n ls w q)
     start-good = asked-good L J es s n inside source knowns ways rows
 
-    pub rounds-good : Inv P es s n (atRounds n ls w q)
+    rounds-good : Inv P es s n (atRounds n ls w q)
     rounds-good = pass-good L es s n inside (q .schedule) (atStart n ls w q) start-good
+
+    -- the schedule leaves the invariant of runs, so nothing waits after n rounds
+    pub query-rests : anyOf ((atEnd n ls w q) .waiting) ≡ false
+    query-rests = settle-rests L es s n inside source (atRounds n ls w q) rounds-good
 
     end-good : Inv P es s n (atEnd n ls w q)
     end-good = settle-good L es s n inside n (atRounds n ls w q) rounds-good
@@ -199,17 +209,8 @@ module _ (n : ℕ) (ls : List ℕ) (w : Network) (g : Good n ls w) (q : Query) w
   unfolding queryCall
   query-good out tally h =
       let z = reply-accepted (queryVerdict n ls w q out) ((atEnd n ls w q) .tally) tally h in
-      let a1 = then-accept (size n) _ (z .0) in
-      let a2 = then-accept (refuseIf (ltb maxSchedule (length (q .schedule))) 1 0) _ (a1 .1) in
-      let a3 = then-accept (shortTable (w .memory .table)) _ (a2 .1) in
-      let a4 = then-accept (shortRows n ls (w .memory .rows)) _ (a3 .1) in
-      let a5 = then-accept (refuseIf (ltb (length (out .starts)) n || ltb (length (out .settled)) n) 2 0) _ (a4 .1) in
-      let a6 = then-accept (landmarks n ls) _ (a5 .1) in
-      let a7 = then-accept (table n (w .memory .table) (w .count)) _ (a6 .1) in
-      let a8 = then-accept (refuseIf (not (isProperty (q .property))) 5 0) _ (a7 .1) in
-      let a9 = then-accept (refuseIf (not (ltb (q .source) n)) 6 0) _ (a8 .1) in
-      let a10 = then-accept (scheduled n 0 (q .schedule)) (refuseIf (anyOf ((atEnd n ls w q) .waiting)) 13 0) (a9 .1) in
-      let p = both (ltb 0 (q .property)) (leb (q .property) properties) (not-false _ (if-accept _ _ _ (a8 .0))) in
-      let y = well (ltb-true _ _ (p .0)) (leb-true _ _ (p .1)) (ltb-true _ _ (not-false _ (if-accept _ _ _ (a9 .0)))) out (if-accept _ _ _ (a10 .1)) in
+      let a = then-accept (queryFaults n ls w q (length (out .starts)) (length (out .settled))) (refuseIf (anyOf ((atEnd n ls w q) .waiting)) 13 0) (z .0) in
+      let r = query-request n ls w q (length (out .starts)) (length (out .settled)) (a .0) in
+      let y = well (r .0) (r .1) (r .2) out (if-accept _ _ _ (a .1)) in
       subst (Answered P n ls es s tally) (sym (choose-accept (answered n ls w q out) out (z .0)))
       (subst (λ x. Answered P n ls es s x (answered n ls w q out)) (z .1) y)

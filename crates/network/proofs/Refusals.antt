@@ -20,9 +20,9 @@ use Rattle.affected.specs.Affected.{sweep, sweeps, affected}
 use Rattle.affected.specs.Prepared.{cleared, reopened, prepared}
 use Rattle.network.specs.Network.{Network, isIn, areLandmarks, unsettled}
 use Rattle.network.specs.Open.{openCall}
-use Rattle.network.specs.Query.{scheduled, queryCall}
-use Rattle.network.specs.Change.{Change, edit, item, items}
-use Rattle.network.specs.Batch.{batchCall}
+use Rattle.network.specs.Query.{scheduled, queryCall, queryFaults}
+use Rattle.network.specs.Change.{Change, edit, item, items, words, against}
+use Rattle.network.specs.Batch.{batchCall, batchFaults}
 use Rattle.network.specs.Settled.{settled, settledCall}
 use Rattle.network.specs.Choice.{place, choiceCall}
 use Rattle.network.specs.Lookup.{lookupNumber}
@@ -156,13 +156,13 @@ refusals =
     ∷ []
 
 refusals-said : map (λ c. c .0) refusals ≡ map (λ c. c .1) refusals
-unfolding openCall queryCall batchCall settledCall choiceCall lookupNumber replied verdictOf _▷_ refuseIf isIn areLandmarks scheduled item items edges zip rules follow unsettled anyOf range property start.opened bound asked run.take takeIf pass settle round visit visitIf handle clear keep sweep sweeps affected cleared reopened prepared exists
+unfolding openCall queryCall queryFaults batchCall batchFaults settledCall choiceCall lookupNumber replied verdictOf _▷_ refuseIf isIn areLandmarks scheduled item words against items edges zip rules follow unsettled anyOf range property start.opened bound asked run.take takeIf pass settle round visit visitIf handle clear keep sweep sweeps affected cleared reopened prepared exists
 refusals-said = refl
 
 -- "a lent list .. is too short": each of the five lists counts in each call that takes a network
 shorts-said : map (opens 4 (0 ∷ [])) shorts ++ map (λ w. asks 4 (0 ∷ []) w 1 0 [] 4 4) shorts ++ map (λ w. changes 4 (0 ∷ []) w []) shorts ++ map (checks 4 (0 ∷ [])) shorts
     ≡ replicate 20 (refuse 2 0)
-unfolding openCall queryCall batchCall settledCall replied verdictOf _▷_ refuseIf
+unfolding openCall queryCall queryFaults batchCall batchFaults settledCall replied verdictOf _▷_ refuseIf
 shorts-said = refl
 
 -- ---- the changes of a batch: numbers 6 to 12
@@ -232,5 +232,5 @@ itemsJudged =
     ∷ []
 
 itemsJudged-said : map (λ c. c .0) itemsJudged ≡ map (λ c. c .1) itemsJudged
-unfolding item items edit insert delete exists _▷_ refuseIf range
+unfolding item words against items edit insert delete exists _▷_ refuseIf range
 itemsJudged-said = refl

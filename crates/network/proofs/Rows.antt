@@ -85,11 +85,11 @@ unsettled-map f (r ∷ rs) h = rw (h r (List·Memᴰ·head refl), unsettled) (un
 
 pub open-sized : (n : ℕ) (ls : List ℕ) (es : List Edge) (r : ℕ) → length ((openRow n ls es r) .words) ≡ n
 unfolding opened
-open-sized n ls es r = settle-sized (propertyOf r) es n n _ (length-set (replicate n ((propertyOf r) .none)) _ _ ∙ length-replicate n _)
+open-sized n ls es r = settle-sized (propertyOf r) es n _ _ (length-set (replicate n ((propertyOf r) .none)) _ _ ∙ length-replicate n _)
 
 pub batch-sized : (n : ℕ) (ls : List ℕ) (es fs : List Edge) (xs : List ℕ) (r : ℕ) → length ((batchRow n ls es fs xs r) .words) ≡ n
 unfolding prepared cleared
-batch-sized n ls es fs xs r = settle-sized (propertyOf r) fs n n _ (length-table _ 0 n)
+batch-sized n ls es fs xs r = settle-sized (propertyOf r) fs n _ _ (length-table _ 0 n)
 
 -- ---- landmarks are vertices
 

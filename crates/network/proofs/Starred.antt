@@ -11,12 +11,12 @@ use Rattle.affected.specs.Affected.{mark, sweep, sweeps, affected}
 use Rattle.affected.specs.Prepared.{cleared, reopened, prepared}
 use Rattle.network.specs.Network.{isIn, areLandmarks, flat, unsettled, storesOf}
 use Rattle.network.specs.Open.{openCall}
-use Rattle.network.specs.Query.{scheduled, queryCall}
-use Rattle.network.specs.Change.{edit, item, items}
-use Rattle.network.specs.Batch.{affectedOver, batchCall}
+use Rattle.network.specs.Query.{scheduled, queryCall, queryFaults}
+use Rattle.network.specs.Change.{edit, item, items, words, against}
+use Rattle.network.specs.Batch.{affectedOver, batchCall, batchFaults}
 use Rattle.network.specs.Caller.{reported}
 use Rattle.network.specs.Starred.{those, saidOfQuery, saidOfBatch, affectedList, answer, found, Starred}
 
 pub starred-found : Starred
-unfolding property anyOf countOf _▷_ refuseIf replied choose keepIf keep exists zip edges range follow rules insert delete storeIf relax clear handle visitIf visit takeIf take pass round settle opened bound asked mark sweep sweeps affected cleared reopened prepared isIn areLandmarks flat unsettled storesOf openCall scheduled queryCall edit item items affectedOver batchCall reported those saidOfQuery saidOfBatch affectedList answer found
+unfolding property anyOf countOf _▷_ refuseIf replied choose keepIf keep exists zip edges range follow rules insert delete storeIf relax clear handle visitIf visit takeIf take pass round settle opened bound asked mark sweep sweeps affected cleared reopened prepared isIn areLandmarks flat unsettled storesOf openCall scheduled queryCall queryFaults edit item words against items affectedOver batchCall batchFaults reported those saidOfQuery saidOfBatch affectedList answer found
 starred-found = refl

@@ -5,6 +5,8 @@
 --   inserts c           == c is of kind 1
 --   edit es c           == the edges after a change: an insert puts in its edge, a delete strikes the one it names
 --   edits es cs         == the edges after changes, in order
+--   words n i c         == numbers 6 to 9 of the change c, at place i: those of its own words
+--   against i es c      == numbers 10 to 12: those against the edges es
 --   item n i es c       == numbers 6 to 12 of the change c, at place i, against the edges es
 --   items n i es cs     == the first change, from place i, with any of them: each against the edges as earlier ones left them
 use mathlib.Core.Bool.{Bool, not, _&&_, _||_, cond}
@@ -35,15 +37,21 @@ edit es c = cond (inserts c) (insert (named c) es) (delete (named c) es)
 abbrev pub edits : List Edge → List Change → List Edge
 edits es cs = foldl edit es cs
 
-unfoldable pub item : ℕ → ℕ → List Edge → Change → Verdict
-item n i es c =
+unfoldable pub words : ℕ → ℕ → Change → Verdict
+words n i c =
     refuseIf (not (ltb (c .tail) n && ltb (c .head) n)) 6 i
     ▷ refuseIf (not (inserts c || eqb (c .kind) 2)) 7 i
     ▷ refuseIf (eqb (c .tail) (c .head)) 8 i
     ▷ refuseIf (not (cond (inserts c) (isWeight (c .weight)) (eqb (c .weight) 0))) 9 i
-    ▷ refuseIf (inserts c && present es (named c)) 10 i
+
+unfoldable pub against : ℕ → List Edge → Change → Verdict
+against i es c =
+    refuseIf (inserts c && present es (named c)) 10 i
     ▷ refuseIf (not (inserts c) && not (present es (named c))) 11 i
     ▷ refuseIf (inserts c && not (ltb (length es) maxEdges)) 12 i
+
+unfoldable pub item : ℕ → ℕ → List Edge → Change → Verdict
+item n i es c = words n i c ▷ against i es c
 
 unfoldable pub items : ℕ → ℕ → List Edge → List Change → Verdict
 items n i es [] = accept

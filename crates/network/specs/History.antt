@@ -29,13 +29,13 @@ use Rattle.graph.specs.Edge.{Edge, reverse}
 use Rattle.graph.specs.Route.{Best}
 use Rattle.run.specs.Run.{Tally, word, relaxable}
 use Rattle.affected.specs.Affected.{Affected}
-use Rattle.network.specs.Network.{Memory, Network, edgesIn, rowCount, row, propertyOf, landmarkOf}
+use Rattle.network.specs.Network.{Memory, Network, edgesIn, faults, rowCount, row, propertyOf, landmarkOf}
 use Rattle.network.specs.Open.{openCall}
 use Rattle.network.specs.Query.{Query, Words, queryCall}
 use Rattle.network.specs.Change.{Change}
 use Rattle.network.specs.Batch.{batchCall}
 use Rattle.network.specs.Caller.{opened, handOn, lived}
-use Rattle.network.specs.Current.{turnedBack, openBack, queryBack, after, current}
+use Rattle.network.specs.Current.{turnedBack, queryBack, after, current}
 
 -- ---- an accepted query
 
@@ -92,8 +92,8 @@ pub record Past (n : ℕ) (ls : List ℕ) (w : Network) (bs : List (List Change)
       → Applied n ls (now n w past) (moment n ls w past) b
 
 pub record Lifetime (n : ℕ) (ls : List ℕ) (w : Network) : Type 0 where
-  pub judged : verdictOf ((openCall n ls w) .reply) ≡ openBack n ls w
-  pub later : openBack n ls w ≡ accept → (bs : List (List Change)) → Past n ls w bs
+  pub judged : verdictOf ((openCall n ls w) .reply) ≡ faults n ls w
+  pub later : faults n ls w ≡ accept → (bs : List (List Change)) → Past n ls w bs
 
 abbrev pub History : Type 0
 History = (n : ℕ) (ls : List ℕ) (w : Network) → Lifetime n ls w
@@ -109,5 +109,5 @@ pub record RoutesBest (n : ℕ) (ls : List ℕ) (es : List Edge) (w : Network) :
       → Best (property (q .property)) es (q .source) t (word (property (q .property)) ((queryCall n ls w q out) .memory .settled) t)
 
 abbrev pub BestOverRoutes : Type 0
-BestOverRoutes = (n : ℕ) (ls : List ℕ) (w : Network) → openBack n ls w ≡ accept → (bs : List (List Change))
+BestOverRoutes = (n : ℕ) (ls : List ℕ) (w : Network) → faults n ls w ≡ accept → (bs : List (List Change))
     → RoutesBest n ls (now n w bs) (moment n ls w bs)

@@ -9,6 +9,7 @@
 --   shortRows n ls xs == number 2: a row list has fewer than landmarks × 5 × n words
 --   areLandmarks n ls == the vertices ls are below n and different
 --   landmarks n ls    == number 3: none, over 4, not a vertex, repeated
+--   faults n ls w     == numbers 1 to 4 of a network: what an opening and a settled check are refused for
 --   row n r xs        == row r of a row list: n words; rows go by landmark in list order, then property
 --   propertyOf r      == the property of row r
 --   landmarkOf ls r   == the landmark of row r
@@ -25,9 +26,9 @@ use lib.Dec.{ltb, eqb}
 use Rattle.property.specs.Property.{Property, property, properties}
 use Rattle.frontier.specs.Waiting.{anyOf}
 use Rattle.graph.specs.Limits.{maxLandmarks}
-use Rattle.graph.specs.Refusal.{Verdict, refuseIf}
+use Rattle.graph.specs.Refusal.{Verdict, _▷_, refuseIf}
 use Rattle.graph.specs.Edge.{Edge, range}
-use Rattle.graph.specs.Table.{Columns, edgesOf}
+use Rattle.graph.specs.Table.{Columns, edgesOf, size, shortTable, table}
 use Rattle.run.specs.Run.{State}
 
 -- ---- what is lent
@@ -50,7 +51,7 @@ edgesIn w = edgesOf (w .memory .table) (w .count)
 abbrev pub rowCount : List ℕ → ℕ
 rowCount ls = length ls * properties
 
--- ---- refusals 2 and 3
+-- ---- refusals 2 and 3, and the chain from 1 to 4
 
 abbrev pub shortRows : ℕ → List ℕ → Rows → Verdict
 shortRows n ls xs = refuseIf (ltb (length (xs .forward)) (rowCount ls * n) || ltb (length (xs .backward)) (rowCount ls * n)) 2 0
@@ -65,6 +66,14 @@ areLandmarks n (l ∷ ls) = ltb l n && (not (isIn l ls) && areLandmarks n ls)
 
 abbrev pub landmarks : ℕ → List ℕ → Verdict
 landmarks n ls = refuseIf (eqb (length ls) 0 || (ltb maxLandmarks (length ls) || not (areLandmarks n ls))) 3 0
+
+abbrev pub faults : ℕ → List ℕ → Network → Verdict
+faults n ls w =
+    size n
+    ▷ shortTable (w .memory .table)
+    ▷ shortRows n ls (w .memory .rows)
+    ▷ landmarks n ls
+    ▷ table n (w .memory .table) (w .count)
 
 -- ---- rows: row r is that of landmark r / 5 and property r % 5 + 1
 

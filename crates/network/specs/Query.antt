@@ -7,7 +7,11 @@
 --   atRounds n ls w q == the state after the schedule
 --   atEnd n ls w q    == the state after the rounds, at most n
 --   scheduled n i vs  == number 6 at the first entry of the schedule, from index i, that is no vertex
---   queryVerdict      == when the call is refused
+--   longSchedule k    == number 1 of a schedule of k entries
+--   shortWords n a b  == number 2 of lists of a and b words for the answer
+--   requested n q     == numbers 5 and 6 of what is asked
+--   queryFaults .. a b == every refusal that comes before the run, where the lists for the answer have a and b words
+--   queryVerdict out  == when the call is refused: those, then 13
 --   queryCall         == reply (the tally) and both lists at exit: words past n stay
 --   rowAt i p         == the row of landmark i (an index of the list) for property p
 --   asks              == the property that is asked
@@ -36,9 +40,22 @@ pub record Words : Type 0 where
   pub starts : List ℕ
   pub settled : List ℕ
 
+-- ---- its own refusals
+
 unfoldable pub scheduled : ℕ → ℕ → List ℕ → Verdict
 scheduled n i [] = accept
 scheduled n i (v ∷ vs) = refuseIf (not (ltb v n)) 6 i ▷ scheduled n (suc i) vs
+
+abbrev pub longSchedule : ℕ → Verdict
+longSchedule k = refuseIf (ltb maxSchedule k) 1 0
+
+abbrev pub shortWords : ℕ → ℕ → ℕ → Verdict
+shortWords n a b = refuseIf (ltb a n || ltb b n) 2 0
+
+abbrev pub requested : ℕ → Query → Verdict
+requested n q = refuseIf (not (isProperty (q .property))) 5 0 ▷ refuseIf (not (ltb (q .source) n)) 6 0 ▷ scheduled n 0 (q .schedule)
+
+-- ---- the run
 
 -- the row of landmark i (an index of the list) for property p
 abbrev pub rowAt : ℕ → ℕ → ℕ
@@ -64,19 +81,19 @@ module _ (n : ℕ) (ls : List ℕ) (w : Network) (q : Query) where
   abbrev pub atEnd : State
   atEnd = settle asks (edgesIn w) n n atRounds
 
-  abbrev pub queryVerdict : Words → Verdict
-  queryVerdict out =
+  unfoldable pub queryFaults : ℕ → ℕ → Verdict
+  queryFaults a b =
       size n
-      ▷ refuseIf (ltb maxSchedule (length (q .schedule))) 1 0
+      ▷ longSchedule (length (q .schedule))
       ▷ shortTable (w .memory .table)
       ▷ shortRows n ls (w .memory .rows)
-      ▷ refuseIf (ltb (length (out .starts)) n || ltb (length (out .settled)) n) 2 0
+      ▷ shortWords n a b
       ▷ landmarks n ls
       ▷ table n (w .memory .table) (w .count)
-      ▷ refuseIf (not (isProperty (q .property))) 5 0
-      ▷ refuseIf (not (ltb (q .source) n)) 6 0
-      ▷ scheduled n 0 (q .schedule)
-      ▷ refuseIf (anyOf (atEnd .waiting)) 13 0
+      ▷ requested n q
+
+  abbrev pub queryVerdict : Words → Verdict
+  queryVerdict out = queryFaults (length (out .starts)) (length (out .settled)) ▷ refuseIf (anyOf (atEnd .waiting)) 13 0
 
   abbrev pub answered : Words → Words
   answered out = record { starts = over (atStart .words) (out .starts); settled = over (atEnd .words) (out .settled) }

@@ -4,17 +4,15 @@
 --   inRecords .. j es later == the first of the records es, from index j, that could better a word of the row; later where none could
 --   inRows .. rs later      == the first in the rows rs of one side
 --   check n ls w            == in order forward, backward, then row, then record
---   settledCall n ls w      == the reply
---   settledVerdict n ls w   == when the call is refused: 1 to 4
+--   settledCall n ls w      == the reply; it is refused for 1 to 4
 use mathlib.Core.Bool.{cond}
 use mathlib.Core.List.{List, [], _∷_, map}
 use Prim.Native.Nat.{ℕ, suc}
 use Rattle.property.specs.Property.{Property}
-use Rattle.graph.specs.Refusal.{Verdict, _▷_, Reply, replied}
+use Rattle.graph.specs.Refusal.{Reply, replied}
 use Rattle.graph.specs.Edge.{Edge, reverse}
-use Rattle.graph.specs.Table.{size, shortTable, table}
 use Rattle.run.specs.Run.{relaxable}
-use Rattle.network.specs.Network.{Network, edgesIn, shortRows, landmarks, row, propertyOf, rowsOf}
+use Rattle.network.specs.Network.{Network, edgesIn, faults, row, propertyOf, rowsOf}
 
 pub data Check : Type 0 where
   settled : Check
@@ -33,8 +31,5 @@ check n ls w =
     inRows n (edgesIn w) (w .memory .rows .forward) 0 (rowsOf ls)
     (inRows n (map reverse (edgesIn w)) (w .memory .rows .backward) 1 (rowsOf ls) settled)
 
-abbrev pub settledVerdict : ℕ → List ℕ → Network → Verdict
-settledVerdict n ls w = size n ▷ shortTable (w .memory .table) ▷ shortRows n ls (w .memory .rows) ▷ landmarks n ls ▷ table n (w .memory .table) (w .count)
-
 unfoldable pub settledCall : ℕ → List ℕ → Network → Reply Check
-settledCall n ls w = replied (settledVerdict n ls w) (check n ls w)
+settledCall n ls w = replied (faults n ls w) (check n ls w)

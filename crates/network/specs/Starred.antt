@@ -85,9 +85,9 @@ saidOfBatch (refused k i) = turnedBack k i
 
 -- the affected vertices of a row of one side, 0 forward and 1 backward
 unfoldable pub affectedList : ℕ → List ℕ → Network → List Change → ℕ → ℕ → List ℕ
-affectedList n ls w b zero r = those 0 (affectedIn n ls (edgesIn w) (newEdges n ls w b) (w .memory .rows .forward) r)
+affectedList n ls w b zero r = those 0 (affectedIn n ls (edgesIn w) (newEdges w b) (w .memory .rows .forward) r)
 affectedList n ls w b (suc side) r =
-    those 0 (affectedIn n ls (map reverse (edgesIn w)) (map reverse (newEdges n ls w b)) (w .memory .rows .backward) r)
+    those 0 (affectedIn n ls (map reverse (edgesIn w)) (map reverse (newEdges w b)) (w .memory .rows .backward) r)
 
 unfoldable pub answer : ℕ → List ℕ → Network → Ask → Said
 answer n ls w (settled p s) =

@@ -23,17 +23,17 @@ use Rattle.graph.proofs.Verdicts.{then-accept, accept-then, refuse-then}
 use Rattle.run.specs.declared.Tally.{Tally}
 use Rattle.run.specs.Run.{settle}
 use Rattle.run.specs.Start.{opened}
-use Rattle.run.specs.Code.{Held, noCounts, state}
+use Rattle.run.specs.Code.{Marks, noCounts, state}
 use Rattle.run.proofs.States.{bits-any}
 use Rattle.open.specs.declared.Opened.the-variants.{Accepted, Refused}
-use Rattle.network.specs.Network.{Network, edgesIn, rowCount, shortRows, landmarks, unsettled}
+use Rattle.network.specs.Network.{Network, edgesIn, rowCount, shortRows, landmarks, faults, unsettled}
 use Rattle.network.specs.Open.{openRow, openRows, openVerdict, openCall}
-use Rattle.network.specs.Settled.{settledVerdict}
 use Rattle.open.specs.Code.{opening, openOutcome}
 use Rattle.calls.specs.Code.{rowLists, network, Openable, IsRow, AreRows}
 use Rattle.network.proofs.Rows.{landmark-below}
 use Rattle.calls.proofs.Flat.{paste-over}
-use Rattle.calls.proofs.Judging.{then-assoc, size-accept, lengths-accept, rows-accept, landmarks-accept, table-accept}
+use Rattle.graph.proofs.Judging.{size-accept, lengths-accept, table-accept}
+use Rattle.calls.proofs.Judging.{rows-accept, landmarks-accept}
 
 -- ---- a row
 
@@ -44,7 +44,7 @@ module _ (n r : ℕ) (ls : List ℕ) (es : List Edge) (ws bs ws′ bs′ : List 
   row-run : state n ws′ bs′ t ≡ openRow n ls es r
   row-run = run ∙ rw (start, add-one)
 
-  pub row-settled : (b : Bool) → Held n bs′ → b ≡ anyOf (waitingOf bs′) → IsRow (openRow n ls es r) ws′ b
+  pub row-settled : (b : Bool) → Marks n bs′ → b ≡ anyOf (waitingOf bs′) → IsRow (openRow n ls es r) ws′ b
   row-settled b h e = record {
     words = ap (λ st. st .words) row-run;
     waits = e ∙ sym (bits-any n bs′ h) ∙ ap (λ st. anyOf (st .waiting)) row-run;
@@ -52,7 +52,7 @@ module _ (n r : ℕ) (ls : List ℕ) (es : List Edge) (ws bs ws′ bs′ : List 
 
 -- ---- what numbers 1 to 4 leave: a network whose sides may be opened, and row lists that are long enough
 
-pub open-accept : (n : ℕ) (ls ts hs ws f b : List ℕ) (m : ℕ) → settledVerdict n ls (network ts hs ws f b m) ≡ accept
+pub open-accept : (n : ℕ) (ls ts hs ws f b : List ℕ) (m : ℕ) → faults n ls (network ts hs ws f b m) ≡ accept
     → Openable n m ls ts hs ws × (rowCount ls * n ≤ length f) × (rowCount ls * n ≤ length b)
 open-accept n ls ts hs ws f b m e =
     let a = then-accept (size n) _ e in
@@ -86,27 +86,24 @@ module _ (n : ℕ) (ls ts hs ws f b : List ℕ) (m : ℕ) where
   abbrev waits : Bool
   waits = unsettled (openRows n ls (edgesIn w)) || unsettled (openRows n ls (map reverse (edgesIn w)))
 
-  verdict-then : (settledVerdict n ls w ▷ refuseIf waits 13 0) ≡ openVerdict n ls w
-  verdict-then = simp then-assoc
-
-  outcome-refused : {k i : ℕ} → openVerdict n ls w ≡ refuse k i → openOutcome (Refused k i) ts hs ws f b ≡ openCall n ls w
+  call-refused : {k i : ℕ} → openVerdict n ls w ≡ refuse k i → openOutcome (Refused k i) ts hs ws f b ≡ openCall n ls w
   unfolding openCall opening replied choose
-  outcome-refused e = rw e
+  call-refused e = rw e
 
-  pub open-refused : {k i : ℕ} (a : Judged) → told a ≡ settledVerdict n ls w → a ≡ judged.Refused k i → openOutcome (Refused k i) ts hs ws f b ≡ openCall n ls w
+  pub open-refused : {k i : ℕ} (a : Judged) → told a ≡ faults n ls w → a ≡ judged.Refused k i → openOutcome (Refused k i) ts hs ws f b ≡ openCall n ls w
   unfolding told
-  open-refused a e q = outcome-refused (sym verdict-then ∙ refuse-then _ _ (sym e ∙ ap told q))
+  open-refused a e q = call-refused (refuse-then _ _ (sym e ∙ ap told q))
 
   -- xs and ys are the rows of the two sides, and c and d whether some vertex waits in them
-  module _ (fine : settledVerdict n ls w ≡ accept) (xs ys : List ℕ) (c d : Bool)
+  module _ (fine : faults n ls w ≡ accept) (xs ys : List ℕ) (c d : Bool)
       (fwd : AreRows (openRows n ls (edgesIn w)) xs c) (bwd : AreRows (openRows n ls (map reverse (edgesIn w))) ys d) where
     last : (e : Bool) → (c || d) ≡ e → openVerdict n ls w ≡ refuseIf e 13 0
-    last e h = sym verdict-then ∙ accept-then fine ∙ ap (λ (x : Bool). refuseIf x 13 0) (sym (ap₂ _||_ (fwd .waits) (bwd .waits)) ∙ h)
+    last e h = accept-then fine ∙ ap (λ (x : Bool). refuseIf x 13 0) (sym (ap₂ _||_ (fwd .waits) (bwd .waits)) ∙ h)
 
     -- some vertex waits still
-    pub open-restless : (c || d) ≡ true → openOutcome (Refused 13 0) ts hs ws f b ≡ openCall n ls w
+    pub open-unsettled : (c || d) ≡ true → openOutcome (Refused 13 0) ts hs ws f b ≡ openCall n ls w
     unfolding refuseIf
-    open-restless h = outcome-refused (last true h)
+    open-unsettled h = call-refused (last true h)
 
     -- none does: the rows are copied
     pub open-written : (k : ℕ) (f′ b′ : List ℕ) → (c || d) ≡ false → length xs ≡ k → length ys ≡ k → f′ ≡ paste f 0 xs k → b′ ≡ paste b 0 ys k

@@ -11,9 +11,8 @@ ghost use lib.ListN.{length};
 ghost use Rattle.graph.specs.Edge.{Edge, reverse, edges};
 ghost use Rattle.graph.specs.Own.{Own};
 ghost use Rattle.graph.specs.Refusal.{accept};
-ghost use Rattle.network.specs.Network.{rowCount};
+ghost use Rattle.network.specs.Network.{rowCount, faults};
 ghost use Rattle.network.specs.Open.{openRow, openRows, openCall};
-ghost use Rattle.network.specs.Settled.{settledVerdict};
 ghost use Rattle.calls.specs.Code.{network, Openable, IsRow, AreRows};
 ghost use Rattle.open.specs.Code.{Runnable, openOutcome};
 
@@ -104,7 +103,7 @@ fn open_forward(
     requires { ⌜ length (now out) ≡ rowCount (now landmarks) * n ⌝ }
     ensures { λ b. ⌜ AreRows (openRows n (now (landmarks .entry)) (edges (now (tails .entry)) (now (heads .entry)) (now (weights .entry)) count)) (now (out .exit)) b ⌝ }
 {
-    let mut firsts = [0u32; 257];
+    let mut firsts = [0u32; graph::INDEX_WORDS];
     index::index(n, count, tails, &mut firsts);
     open_rows(n, count, landmarks, &firsts, heads, weights, out)
 }
@@ -123,11 +122,11 @@ fn open_backward(
     requires { ⌜ length (now out) ≡ rowCount (now landmarks) * n ⌝ }
     ensures { λ b. ⌜ AreRows (openRows n (now (landmarks .entry)) (map reverse (edges (now (tails .entry)) (now (heads .entry)) (now (weights .entry)) count))) (now (out .exit)) b ⌝ }
 {
-    let mut free = [0u32; 257];
-    let mut firsts = [0u32; 257];
-    let mut rtails = [0u32; 2048];
-    let mut rheads = [0u32; 2048];
-    let mut rweights = [0u32; 2048];
+    let mut free = [0u32; graph::INDEX_WORDS];
+    let mut firsts = [0u32; graph::INDEX_WORDS];
+    let mut rtails = [0u32; graph::MAX_EDGES];
+    let mut rheads = [0u32; graph::MAX_EDGES];
+    let mut rweights = [0u32; graph::MAX_EDGES];
     index::reverse_table(
         n,
         count,
@@ -156,7 +155,7 @@ fn open_in(
     forward: &mut [u32],
     backward: &mut [u32],
 ) -> Opened
-    requires { ⌜ settledVerdict n (now landmarks) (network (now tails) (now heads) (now weights) (now forward) (now backward) count) ≡ accept ⌝ }
+    requires { ⌜ faults n (now landmarks) (network (now tails) (now heads) (now weights) (now forward) (now backward) count) ≡ accept ⌝ }
     requires { ⌜ (length (now fwd) ≡ rowCount (now landmarks) * n) × (length (now bwd) ≡ rowCount (now landmarks) * n) ⌝ }
     ensures { λ r. ⌜ openOutcome r (now (tails .entry)) (now (heads .entry)) (now (weights .entry)) (now (forward .exit)) (now (backward .exit)) ≡ openCall n (now (landmarks .entry)) (network (now (tails .entry)) (now (heads .entry)) (now (weights .entry)) (now (forward .entry)) (now (backward .entry)) count) ⌝ }
 {
@@ -199,8 +198,8 @@ pub fn open(
     }
     let size = n as usize;
     let k = landmarks.len() * 5 * size;
-    let mut fwd = [0u32; 5120];
-    let mut bwd = [0u32; 5120];
+    let mut fwd = [0u32; graph::ROW_WORDS];
+    let mut bwd = [0u32; graph::ROW_WORDS];
     open_in(
         size,
         landmarks,

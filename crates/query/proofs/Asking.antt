@@ -4,28 +4,24 @@ use mathlib.Core.Logic.{⊎-elim, _≢_}
 use mathlib.Core.Bool.{cond}
 use mathlib.Core.List.{List, map}
 use Prim.Native.Nat.{ℕ, suc, _+_, _-_, _*_, _<_, _≤_}
-use native.Mathlib.Nat.{mul-le-mul, mul-le-mul-right, add-mul, one-mul, sub-zero}
+use native.Mathlib.Nat.{sub-zero}
 use native.Mathlib.Numerals.{add-one}
 use native.Mathlib.Omega.{arith}
 use lib.ListN.{length, getD, set, drop, drop-of-length-le}
-use lib.Seq.{getD-take, getD-drop, drop-cons, ext-getD}
+use lib.Seq.{drop-cons, ext-getD}
 use lib.Dec.{eqb}
 use borrow.Author.Tests.{lt-ltb, le-ltb, eq-eqb, ne-eqb}
-use mir.Syntax.{w64}
-use mir.Val.{Fits}
-use mir.Facts.{fits-le, fits-lit}
-use Rattle.property.specs.Property.{Property, property, properties}
+use Rattle.property.specs.Property.{Property, property}
 use Rattle.graph.specs.declared.Judged.the-variants.{Fine, Refused}
 use Rattle.graph.specs.Refusal.{Verdict, _▷_, refuseIf}
 use Rattle.graph.specs.Edge.{range}
-use Rattle.graph.specs.Limits.{maxVertices, maxLandmarks}
 use Rattle.graph.specs.Code.{told}
 use Rattle.graph.proofs.Lists.{at-set, length-table, table-at}
 use Rattle.run.specs.Run.{word}
 use Rattle.run.specs.Start.{Landmark, finer, bound}
-use Rattle.run.proofs.Folds.{getD-within}
 use Rattle.network.specs.Network.{row}
 use Rattle.network.specs.Query.{scheduled, rowAt}
+use Rattle.calls.proofs.Rows.{row-word}
 
 -- ---- the words of a row
 
@@ -36,22 +32,6 @@ entry n ls p s f b i = record {
   into = word (property p) (row n (rowAt i p) b) s;
   row = row n (rowAt i p) f;
 }
-
--- where a row starts is no great number
-pub row-fits : (r n : ℕ) → r ≤ maxLandmarks * properties → n ≤ maxVertices → Fits w64 (r * n)
-row-fits r n a b = fits-le (mul-le-mul a b) (fits-lit tt)
-
--- a word of a row is a word of a list that has the row
-pub row-inside : (n k p i t : ℕ) (xs : List ℕ) → 0 < p → p ≤ properties → i < k → t < n → k * properties * n ≤ length xs → rowAt i p * n + t < length xs
-row-inside n k p i t xs a b c d e =
-    let l : rowAt i p + 1 ≤ k * properties = omega arith in
-    let m = mul-le-mul-right {m = rowAt i p + 1} {n = k * properties} n l in
-    let s = add-mul (rowAt i p) 1 n in
-    let o = one-mul n in
-    omega arith
-
-pub row-word : (P : Property) (n r t : ℕ) (xs : List ℕ) → t < n → r * n + t < length xs → getD xs (r * n + t) 0 ≡ word P (row n r xs) t
-row-word P n r t xs h l = getD-within xs (r * n + t) 0 (P .none) l ∙ sym (getD-take n (drop (r * n) xs) t (P .none) h ∙ getD-drop (r * n) xs t (P .none))
 
 -- the words that are read are those that the landmark tells
 pub entry-join : (n : ℕ) (ls : List ℕ) (p s : ℕ) (f b : List ℕ) (i t at v : ℕ) → at ≡ rowAt i p * n → s < n → t < n → at + s < length b → at + t < length f
@@ -109,14 +89,14 @@ module _ (f : ℕ → ℕ) (out : List ℕ) (t : ℕ) (h : (j : ℕ) → j < t �
 -- ---- the schedule
 
 module _ (n : ℕ) (vs : List ℕ) (i : ℕ) {v : Verdict} (h : scheduled n i (drop i vs) ≡ v) where
-  pub picks-more : i < length vs → getD vs i 0 < n → scheduled n (i + 1) (drop (i + 1) vs) ≡ v
+  pub schedule-more : i < length vs → getD vs i 0 < n → scheduled n (i + 1) (drop (i + 1) vs) ≡ v
   unfolding scheduled refuseIf _▷_
-  picks-more l e = rw add-one (rw (drop-cons vs i 0 l, lt-ltb (getD vs i 0) n e) at h)
+  schedule-more l e = rw add-one (rw (drop-cons vs i 0 l, lt-ltb (getD vs i 0) n e) at h)
 
-  pub picks-broken : i < length vs → n ≤ getD vs i 0 → told (Refused 6 i) ≡ v
+  pub schedule-broken : i < length vs → n ≤ getD vs i 0 → told (Refused 6 i) ≡ v
   unfolding told scheduled refuseIf _▷_
-  picks-broken l e = rw (drop-cons vs i 0 l, le-ltb (getD vs i 0) n e) at h
+  schedule-broken l e = rw (drop-cons vs i 0 l, le-ltb (getD vs i 0) n e) at h
 
-  pub picks-none : length vs ≤ i → told Fine ≡ v
+  pub schedule-none : length vs ≤ i → told Fine ≡ v
   unfolding told scheduled
-  picks-none l = rw (drop-of-length-le vs {i = i} l) at h
+  schedule-none l = rw (drop-of-length-le vs {i = i} l) at h

@@ -13,17 +13,16 @@ use Rattle.graph.specs.declared.Judged.{Judged}
 use Rattle.graph.specs.declared.Judged.the-variants as judged
 use Rattle.graph.specs.Refusal.{Verdict, accept, refuse, refuseIf, accepted, refused, replied, choose, outcome, over}
 use Rattle.graph.specs.Code.{told}
-use Rattle.graph.proofs.Verdicts.{accept-then, refuse-then}
+use Rattle.graph.proofs.Verdicts.{accept-then, refuse-then, outcome-refused, outcome-accepted}
 use Rattle.run.specs.declared.Tally.{Tally}
 use Rattle.run.specs.Run.{State}
 use Rattle.run.specs.Start.{Landmark, asked}
 use Rattle.run.specs.Code.{bits, counts, noCounts, state}
 use Rattle.query.specs.declared.Answered.the-variants.{Settled, Refused}
 use Rattle.network.specs.Network.{Network}
-use Rattle.network.specs.Query.{Query, atStart, atEnd, queryVerdict, queryCall}
-use Rattle.query.specs.Code.{answering, wordsOf, asOutcome, faults}
+use Rattle.network.specs.Query.{Query, atStart, atEnd, queryFaults, queryVerdict, queryCall}
+use Rattle.query.specs.Code.{answering, wordsOf, asOutcome}
 use Rattle.calls.proofs.Flat.{paste-over}
-use Rattle.query.proofs.AskingFaults.{faults-then}
 
 -- ---- a whole list copied
 
@@ -40,26 +39,18 @@ asked-state P ls n s ws bs e w = rw (e, w)
 
 -- ---- the outcome
 
-outcome-refused : {A L : Type 0} (v : Verdict) (a : A) (new old : L) {k i : ℕ} → v ≡ refuse k i → outcome v a new old ≡ record { reply = refused k i; memory = old }
-unfolding replied choose
-outcome-refused v a new old e = rw e
-
-outcome-accepted : {A L : Type 0} (v : Verdict) (a : A) (new old : L) → v ≡ accept → outcome v a new old ≡ record { reply = accepted a; memory = new }
-unfolding replied choose
-outcome-accepted v a new old e = rw e
-
 module _ (n : ℕ) (ls : List ℕ) (w : Network) (q : Query) (xs ys : List ℕ) where
   -- a refusal before the run
-  pub query-refused : (a : Judged) {k i : ℕ} → told a ≡ faults n ls w q (length xs) (length ys) → a ≡ judged.Refused k i
+  pub query-refused : (a : Judged) {k i : ℕ} → told a ≡ queryFaults n ls w q (length xs) (length ys) → a ≡ judged.Refused k i
       → asOutcome (Refused k i) xs ys ≡ queryCall n ls w q (wordsOf xs ys)
   unfolding queryCall answering told
   query-refused a e f =
-      sym (outcome-refused (queryVerdict n ls w q (wordsOf xs ys)) _ _ _ (sym (faults-then n ls w q (wordsOf xs ys)) ∙ refuse-then _ _ (sym e ∙ ap told f)))
+      sym (outcome-refused (queryVerdict n ls w q (wordsOf xs ys)) _ _ _ (refuse-then _ _ (sym e ∙ ap told f)))
 
-  module _ (fine : faults n ls w q (length xs) (length ys) ≡ accept) (ws bs : List ℕ) (t : Tally) (ended : state n ws bs t ≡ atEnd n ls w q) where
+  module _ (fine : queryFaults n ls w q (length xs) (length ys) ≡ accept) (ws bs : List ℕ) (t : Tally) (ended : state n ws bs t ≡ atEnd n ls w q) where
     last : (b : Bool) → anyOf (bits n bs) ≡ b → queryVerdict n ls w q (wordsOf xs ys) ≡ refuseIf b 13 0
     last b h =
-        sym (faults-then n ls w q (wordsOf xs ys)) ∙ accept-then fine
+        accept-then fine
         ∙ ap (λ (c : Bool). refuseIf c 13 0) (ap (λ (st : State). anyOf (st .waiting)) (sym ended) ∙ h)
 
     -- some vertex waits still

@@ -4,28 +4,21 @@
 --   wordsOf xs ys             == two lists as those lent for the answer
 --   answering r               == the program's reply as document 01's
 --   asOutcome r xs ys         == the program's reply r and the two lists at exit, as an outcome
---   sizes n k                 == number 1: of n vertices, and of a schedule of k entries
---   outputs n a b             == number 2: of lists of a and b words for the answer
---   requested n q             == numbers 5 and 6: of what is asked
---   faults n ls w q a b       == every refusal that comes before the run: `queryVerdict` but for its 13
 --   knownBy n ls p s f b      == what the row lists f and b tell of the landmarks ls: a query's `known`, which reads nothing else
 --   Rowed n ls p s f b        == p is a property, s one of not too many vertices, and both row lists have every row of the landmarks ls
-use mathlib.Core.Bool.{not, _||_}
 use mathlib.Core.List.{List, []}
 use Prim.Native.Nat.{ℕ, _*_, _<_, _≤_}
 use lib.ListN.{length}
-use lib.Dec.{ltb}
-use Rattle.property.specs.Property.{properties, isProperty}
-use Rattle.graph.specs.Limits.{maxVertices, maxLandmarks, maxSchedule}
-use Rattle.graph.specs.Refusal.{Verdict, _▷_, refuseIf, Reply, accepted, refused, Outcome}
-use Rattle.graph.specs.Table.{size, shortTable, table}
+use Rattle.property.specs.Property.{properties}
+use Rattle.graph.specs.Limits.{maxVertices, maxLandmarks}
+use Rattle.graph.specs.Refusal.{Reply, accepted, refused, Outcome}
 use Rattle.run.specs.Run.{Tally}
 use Rattle.run.specs.Code.{counts}
 use Rattle.run.specs.Start.{Landmark}
 use Rattle.query.specs.declared.Answered.{Answered}
 use Rattle.query.specs.declared.Answered.the-variants.{Settled, Refused}
-use Rattle.network.specs.Network.{Network, rowCount, shortRows, landmarks}
-use Rattle.network.specs.Query.{Query, Words, scheduled, known}
+use Rattle.network.specs.Network.{rowCount}
+use Rattle.network.specs.Query.{Query, Words, known}
 use Rattle.calls.specs.Code.{network}
 
 abbrev pub asking : ℕ → ℕ → List ℕ → Query
@@ -40,25 +33,6 @@ answering (Refused k i) = refused k i
 
 abbrev pub asOutcome : Answered → List ℕ → List ℕ → Outcome Tally Words
 asOutcome r xs ys = record { reply = answering r; memory = wordsOf xs ys }
-
--- ---- refusals
-
-abbrev pub sizes : ℕ → ℕ → Verdict
-sizes n k = size n ▷ refuseIf (ltb maxSchedule k) 1 0
-
-abbrev pub outputs : ℕ → ℕ → ℕ → Verdict
-outputs n a b = refuseIf (ltb a n || ltb b n) 2 0
-
-abbrev pub requested : ℕ → Query → Verdict
-requested n q = refuseIf (not (isProperty (q .property))) 5 0 ▷ refuseIf (not (ltb (q .source) n)) 6 0 ▷ scheduled n 0 (q .schedule)
-
-abbrev pub faults : ℕ → List ℕ → Network → Query → ℕ → ℕ → Verdict
-faults n ls w q a b =
-    sizes n (length (q .schedule))
-    ▷ (shortTable (w .memory .table) ▷ shortRows n ls (w .memory .rows))
-    ▷ outputs n a b
-    ▷ (landmarks n ls ▷ table n (w .memory .table) (w .count))
-    ▷ requested n q
 
 -- ---- start words
 

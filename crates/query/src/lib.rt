@@ -1,26 +1,26 @@
 // A query: its refusals, its start words, its run.
 use frontier::Words;
 use graph::Judged;
-use graph::check;
+use graph::rules;
 use run::Tally;
 ghost use mathlib.Core.Path.{_≡_};
 ghost use mathlib.Core.Bool.{cond};
 ghost use mathlib.Core.List.{List};
-ghost use Prim.Native.Nat.{_*_, _<_, _≤_};
+ghost use Prim.Native.Nat.{_<_};
 ghost use lib.ListN.{length};
 ghost use lib.Dec.{eqb};
-ghost use Rattle.property.specs.Property.{property, properties};
-ghost use Rattle.graph.specs.Limits.{maxVertices, maxLandmarks};
-ghost use Rattle.graph.specs.Refusal.{accept};
+ghost use Rattle.property.specs.Property.{property};
+ghost use Rattle.graph.specs.Refusal.{accept, _▷_};
+ghost use Rattle.graph.specs.Table.{size};
 ghost use Rattle.graph.specs.Code.{told};
 ghost use Rattle.graph.specs.Edge.{Edge};
 ghost use Rattle.graph.specs.Own.{Fit, Own};
 ghost use Rattle.run.specs.Run as runs;
 ghost use Rattle.run.specs.Start as start;
 ghost use Rattle.run.specs.Code.{state, noCounts, Sized, Scheduled};
-ghost use Rattle.network.specs.Query.{rowAt, scheduled, queryCall};
+ghost use Rattle.network.specs.Query.{scheduled, longSchedule, shortWords, requested, queryFaults, queryCall};
 ghost use Rattle.calls.specs.Code.{network};
-ghost use Rattle.query.specs.Code.{asking, wordsOf, asOutcome, sizes, outputs, requested, faults, knownBy, Rowed};
+ghost use Rattle.query.specs.Code.{asking, wordsOf, asOutcome, knownBy, Rowed};
 
 // The reply to a query: its tally.
 pub enum Answered {
@@ -44,21 +44,21 @@ fn judge_schedule(n: u32, schedule: &[u32]) -> Judged
 
 // Number 1: n is 0 or over 256, or the schedule has over 4,096 entries.
 fn judge_sizes(n: u32, entries: usize) -> Judged
-    ensures { λ r. ⌜ told r ≡ sizes n entries ⌝ }
+    ensures { λ r. ⌜ told r ≡ (size n ▷ longSchedule entries) ⌝ }
 {
-    let size = check::judge_size(n);
+    let size = rules::judge_size(n);
     let Judged::Fine = size else {
         return size;
     };
-    check::refuse_if(entries > 4096, 1, 0)
+    rules::refuse_if(entries > graph::MAX_SCHEDULE, 1, 0)
 }
 
 // Number 2: a list lent for the answer has fewer than `n` words.
 fn judge_outputs(n: u32, starts: usize, settled: usize) -> Judged
-    ensures { λ r. ⌜ told r ≡ outputs n starts settled ⌝ }
+    ensures { λ r. ⌜ told r ≡ shortWords n starts settled ⌝ }
 {
     let words = n as usize;
-    check::refuse_if(starts < words || settled < words, 2, 0)
+    rules::refuse_if(starts < words || settled < words, 2, 0)
 }
 
 // Numbers 5 and 6: no property, a source or an entry of the schedule that is no vertex.
@@ -90,7 +90,7 @@ fn judge_query(
     starts: usize,
     settled: usize,
 ) -> Judged
-    ensures { λ r. ⌜ told r ≡ faults n (now (landmarks .entry)) (network (now (tails .entry)) (now (heads .entry)) (now (weights .entry)) (now (forward .entry)) (now (backward .entry)) count) (asking property source (now (schedule .entry))) starts settled ⌝ }
+    ensures { λ r. ⌜ told r ≡ queryFaults n (now (landmarks .entry)) (network (now (tails .entry)) (now (heads .entry)) (now (weights .entry)) (now (forward .entry)) (now (backward .entry)) count) (asking property source (now (schedule .entry))) starts settled ⌝ }
 {
     let sizes = judge_sizes(n, schedule.len());
     let Judged::Fine = sizes else {
@@ -118,14 +118,6 @@ fn finer(p: u32, a: u32, b: u32) -> u32
     if property::better(p, a, b) { a } else { b }
 }
 
-// Where the row of landmark `i` of the list for property `p` starts.
-fn row_start(p: u32, n: usize, i: usize) -> usize
-    requires { ⌜ (0 < p) × (p ≤ properties) × (n ≤ maxVertices) × (i < maxLandmarks) ⌝ }
-    ensures { λ r. ⌜ r ≡ rowAt i p * n ⌝ }
-{
-    (i * 5 + (p as usize - 1)) * n
-}
-
 // The best, over the landmarks, of the backward word of the source joined with the forward word of `t`.
 fn bound(
     p: u32,
@@ -143,7 +135,7 @@ fn bound(
     let mut i = landmarks.len();
     while i > 0 {
         i -= 1;
-        let at = row_start(p, n, i);
+        let at = calls::row_start(p, n, i);
         let v = property::join(p, backward[at + source], forward[at + t]);
         best = finer(p, v, best);
     }
@@ -245,7 +237,7 @@ fn query_in(
     starts: &mut [u32],
     settled: &mut [u32],
 ) -> Answered
-    requires { ⌜ faults n (now landmarks) (network (now tails) (now heads) (now weights) (now forward) (now backward) count) (asking property source (now schedule)) (length (now starts)) (length (now settled)) ≡ accept ⌝ }
+    requires { ⌜ queryFaults n (now landmarks) (network (now tails) (now heads) (now weights) (now forward) (now backward) count) (asking property source (now schedule)) (length (now starts)) (length (now settled)) ≡ accept ⌝ }
     requires { ⌜ (n < length (now firsts)) × (length (now start) ≡ n) × (length (now row) ≡ n) ⌝ }
     ensures { λ r. ⌜ asOutcome r (now (starts .exit)) (now (settled .exit)) ≡ queryCall n (now (landmarks .entry)) (network (now (tails .entry)) (now (heads .entry)) (now (weights .entry)) (now (forward .entry)) (now (backward .entry)) count) (asking property source (now (schedule .entry))) (wordsOf (now (starts .entry)) (now (settled .entry))) ⌝ }
 {
@@ -310,9 +302,9 @@ pub fn query(
         return Answered::Refused(number, place);
     }
     let size = n as usize;
-    let mut firsts = [0u32; 257];
-    let mut start = [0u32; 256];
-    let mut row = [0u32; 256];
+    let mut firsts = [0u32; graph::INDEX_WORDS];
+    let mut start = [0u32; graph::VERTEX_WORDS];
+    let mut row = [0u32; graph::VERTEX_WORDS];
     query_in(
         size,
         landmarks,

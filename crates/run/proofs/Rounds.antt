@@ -13,10 +13,11 @@ use Rattle.frontier.specs.Waiting.{waitingOf, anyOf}
 use Rattle.frontier.proofs.Laws.{First}
 use Rattle.graph.specs.Edge.{Edge, range}
 use Rattle.run.specs.declared.Tally.{Tally}
-use Rattle.run.specs.Code.{Held, Ran, state}
+use Rattle.run.specs.Code.{Marks, Ran, state}
 use Rattle.run.specs.Run.{State, waits, handle, visitIf, visit, round, settle}
-use Rattle.run.proofs.Folds.{fold-turn, fold-done, range-more, range-none}
-use Rattle.run.proofs.States.{bits-at, held-within}
+use Rattle.graph.proofs.Lists.{fold-turn, fold-done}
+use Rattle.run.proofs.Folds.{range-more, range-none}
+use Rattle.run.proofs.States.{bits-at, marks-within}
 
 -- ---- visits
 
@@ -56,7 +57,7 @@ module _ (P : Property) (es : List Edge) where
     visit-next : (v : ℕ) (st′ : State) → i ≤ v → v < n → ((j : ℕ) → i ≤ j → j < v → waits st j ≡ false) → waits st v ≡ true
         → st′ ≡ handle P es st v → foldl (visit P es) st′ (range (v + 1) (n - (v + 1))) ≡ z
     visit-next v st′ a b f w e =
-        fold-turn (visit P es) v (range v (n - v)) (range (v + 1) (n - (v + 1))) st st′ z (range-more v n b)
+        fold-turn (visit P es) v (range-more v n b)
         (e ∙ sym (visit-waiting st v w)) (sym (visit-skip st i v n a (omega arith) f) ∙ left)
 
     -- none of those left waits
@@ -65,18 +66,18 @@ module _ (P : Property) (es : List Edge) where
       where
         pick : Dec (i ≤ n) → st ≡ z
         pick (yes h) =
-            fold-done (visit P es) (range n (n - n)) st z (range-none n n (omega arith))
+            fold-done (visit P es) (range-none n n (omega arith))
             (sym (visit-skip st i n n h (omega arith) f) ∙ left)
-        pick (no h) = fold-done (visit P es) (range i (n - i)) st z (range-none i n (omega arith)) left
+        pick (no h) = fold-done (visit P es) (range-none i n (omega arith)) left
 
 -- ---- a turn of a round, by the waiting bits
 
 module _ (P : Property) (es : List Edge) (n i : ℕ) (ws bs : List ℕ) (t : Tally) (z : State) (left : foldl (visit P es) (state n ws bs t) (range i (n - i)) ≡ z) where
   -- the next that waits, v, was handled
-  pub round-next : (v : ℕ) (st : State) → Held n bs → First (waitingOf bs) i v → st ≡ handle P es (state n ws bs t) v
+  pub round-next : (v : ℕ) (st : State) → Marks n bs → First (waitingOf bs) i v → st ≡ handle P es (state n ws bs t) v
       → foldl (visit P es) st (range (v + 1) (n - (v + 1))) ≡ z
   round-next v st h f e =
-      let l = held-within n bs v h (f .waits) in
+      let l = marks-within n bs v h (f .waits) in
       visit-next P es (state n ws bs t) z i n left v st (f .from) l (λ j a b. bits-at n bs j (omega arith) ∙ f .before j a b)
       (bits-at n bs v l ∙ f .waits) e
 

@@ -6,17 +6,17 @@ use Prim.Native.Nat.{ℕ, _+_, _≤_, _<_}
 use native.Mathlib.Decide.{decLt}
 use native.Mathlib.Numerals.{add-one}
 use native.Mathlib.Omega.{arith}
-use lib.ListN.{length, getD, set, take, length-set, length-take, List·getD-eq-default}
+use lib.ListN.{length, getD, set, take, replicate, length-set, length-take, length-replicate, List·getD-eq-default}
 use lib.Seq.{take-set-lt, getD-take, getD-set-other}
 use Rattle.property.specs.Property.{Property}
-use Rattle.frontier.specs.Waiting.{waitingOf, anyOf}
+use Rattle.frontier.specs.Waiting.{waitingOf, capacity, anyOf}
 use Rattle.frontier.proofs.Laws.{any-none, none-any, any-some, some-any}
 use Rattle.graph.specs.Edge.{Edge, leaving}
+use Rattle.graph.proofs.Lists.{getD-within, take-replicate, replicate-at}
 use Rattle.run.specs.declared.Tally.{Tally}
 use Rattle.run.specs.Run as run
 use Rattle.run.specs.Run.{State, word, relaxable, storeIf, relax, clear, handle}
-use Rattle.run.specs.Code.{bits, Held, Sized, Ran, state}
-use Rattle.run.proofs.Folds.{getD-within}
+use Rattle.run.specs.Code.{bits, Marks, Sized, Ran, state}
 
 -- ---- bits
 
@@ -25,11 +25,23 @@ module _ (n i : ℕ) (bs cs : List ℕ) (b : Bool) (h : i < n) (e : waitingOf cs
   pub bits-set : bits n cs ≡ set (bits n bs) i b
   bits-set = ap (take n) e ∙ take-set-lt n (waitingOf bs) i b h
 
-  pub held-set : Held n bs → Held n cs
-  held-set f = record {
+  pub marks-set : Marks n bs → Marks n cs
+  marks-set f = record {
     few = f .few;
     bits = ap length e ∙ length-set (waitingOf bs) i b ∙ f .bits;
     idle = λ k l. ap (λ m. getD m k false) e ∙ getD-set-other (waitingOf bs) i k b false (λ q. omega arith) ∙ f .idle k l;
+  }
+
+-- every bit is cleared
+module _ (n : ℕ) (bs : List ℕ) (few : n ≤ capacity) (e : waitingOf bs ≡ replicate capacity false) where
+  pub bits-clear : bits n bs ≡ replicate n false
+  bits-clear = ap (take n) e ∙ take-replicate n capacity false few
+
+  pub marks-clear : Marks n bs
+  marks-clear = record {
+    few = few;
+    bits = ap length e ∙ length-replicate capacity false;
+    idle = λ k l. ap (λ m. getD m k false) e ∙ replicate-at capacity k false;
   }
 
 -- a vertex waits by its bit
@@ -37,15 +49,15 @@ pub bits-at : (n : ℕ) (bs : List ℕ) (i : ℕ) → i < n → getD (bits n bs)
 bits-at n bs i h = getD-take n (waitingOf bs) i false h
 
 -- who waits is one of the n
-pub held-within : (n : ℕ) (bs : List ℕ) (i : ℕ) → Held n bs → getD (waitingOf bs) i false ≡ true → i < n
-held-within n bs i f e = pick (decLt i n)
+pub marks-within : (n : ℕ) (bs : List ℕ) (i : ℕ) → Marks n bs → getD (waitingOf bs) i false ≡ true → i < n
+marks-within n bs i f e = pick (decLt i n)
   where
     pick : Dec (i < n) → i < n
     pick (yes h) = h
     pick (no h) = absurd (true≢false (sym e ∙ f .idle i (omega arith)))
 
 -- past the n vertices no bit is set, so that any of the n waits where any bit is set
-pub bits-any : (n : ℕ) (bs : List ℕ) → Held n bs → anyOf (bits n bs) ≡ anyOf (waitingOf bs)
+pub bits-any : (n : ℕ) (bs : List ℕ) → Marks n bs → anyOf (bits n bs) ≡ anyOf (waitingOf bs)
 bits-any n bs f = pick (anyOf (waitingOf bs)) refl
   where
     none : ((k : ℕ) → getD (waitingOf bs) k false ≡ false) → (k : ℕ) → Dec (k < n) → getD (bits n bs) k false ≡ false
@@ -55,7 +67,7 @@ bits-any n bs f = pick (anyOf (waitingOf bs)) refl
     pick : (b : Bool) → anyOf (waitingOf bs) ≡ b → anyOf (bits n bs) ≡ anyOf (waitingOf bs)
     pick true e =
         let (v, l, w) = any-some (waitingOf bs) e in
-        some-any (bits n bs) v (bits-at n bs v (held-within n bs v f w) ∙ w) ∙ sym e
+        some-any (bits n bs) v (bits-at n bs v (marks-within n bs v f w) ∙ w) ∙ sym e
     pick false e = none-any (bits n bs) (λ k. none (any-none (waitingOf bs) e) k (decLt k n)) ∙ sym e
 
 -- ---- what a run leaves, one step after the other
@@ -79,7 +91,7 @@ storing t = record { taken = t .taken; rounds = t .rounds; stores = t .stores + 
 pub ran-store : (n h a : ℕ) (ws bs cs : List ℕ) (t : Tally) → Sized n ws bs → h < n → waitingOf cs ≡ set (waitingOf bs) h true
     → Ran n (set ws h a) cs t (storing t) 0 0 1
 ran-store n h a ws bs cs t s l e = record {
-  sized = record { words = length-set ws h a ∙ s .words; waiting = held-set n h bs cs true l e (s .waiting) };
+  sized = record { words = length-set ws h a ∙ s .words; waiting = marks-set n h bs cs true l e (s .waiting) };
   taken = omega arith;
   rounds = omega arith;
   stores = omega arith;

@@ -5,7 +5,7 @@
 --   counts t                       == the program's Tally as a tally
 --   noCounts                       == the program's Tally of a run that starts
 --   state n ws bs t                == the words ws, the waiting bits in the words bs and the Tally t, as a state
---   Held n bs                      == bs has a bit for each of n vertices, and none past them is set
+--   Marks n bs                      == bs has a bit for each of n vertices, and none past them is set
 --   Sized n ws bs                  == there are n words, and bits for n vertices
 --   Low k t                        == each count of t is below 2 ^ k
 --   Ready k n m fs hs vs ws bs t   == a run may go on: the index of m edges fits n vertices, the state is sized, the counts are low
@@ -41,14 +41,14 @@ state n ws bs t = record { words = ws; waiting = bits n bs; tally = counts t }
 
 -- ---- what a run asks, and what it keeps
 
-pub record Held (n : ℕ) (bs : List ℕ) : Type 0 where
+pub record Marks (n : ℕ) (bs : List ℕ) : Type 0 where
   pub few : n ≤ capacity
   pub bits : length (waitingOf bs) ≡ capacity
   pub idle : Idle n bs
 
 pub record Sized (n : ℕ) (ws bs : List ℕ) : Type 0 where
   pub words : length ws ≡ n
-  pub waiting : Held n bs
+  pub waiting : Marks n bs
 
 pub record Low (k : ℕ) (t : Tally) : Type 0 where
   pub taken : t .taken < 2 ^ k

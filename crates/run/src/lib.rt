@@ -12,7 +12,7 @@ ghost use Rattle.graph.specs.Edge.{Edge};
 ghost use Rattle.graph.specs.Own.{Own};
 ghost use Rattle.run.specs.Run as spec;
 ghost use Rattle.run.specs.Start.{opened};
-ghost use Rattle.run.specs.Code.{bits, noCounts, state, Held, Sized, Low, Ready, Ran, Scheduled};
+ghost use Rattle.run.specs.Code.{bits, noCounts, state, Marks, Sized, Low, Ready, Ran, Scheduled};
 
 pub struct Tally {
     pub taken: u64,
@@ -201,7 +201,7 @@ pub fn pass(
 pub fn start_at(n: usize, s: usize, waiting: &mut Words)
     requires { ⌜ (s < n) × (n ≤ capacity) ⌝ }
     ensures { λ _. ⌜ bits n (now (waiting .exit)) ≡ set (replicate n false) s true ⌝ }
-    ensures { λ _. ⌜ Held n (now (waiting .exit)) ⌝ }
+    ensures { λ _. ⌜ Marks n (now (waiting .exit)) ⌝ }
 {
     *waiting = frontier::empty();
     frontier::insert(waiting, s);

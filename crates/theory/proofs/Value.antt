@@ -16,11 +16,10 @@ use Rattle.property.specs.Laws.{Laws}
 use Rattle.frontier.specs.Waiting.{anyOf}
 use Rattle.graph.specs.Edge.{Edge}
 use Rattle.graph.specs.Route.{Route, here, step, Best}
-use Rattle.graph.proofs.Lists.{at-set}
+use Rattle.graph.proofs.Lists.{at-set, replicate-at}
 use Rattle.graph.proofs.Order.{Within}
 use Rattle.run.specs.Run.{State, word, relaxable, settle}
 use Rattle.run.specs.Start.{opened}
-use Rattle.run.proofs.Starts.{replicate-at}
 use Rattle.theory.proofs.Walk.{Walk, walk?, walk-of, route-of}
 use Rattle.theory.proofs.Settle.{Settled, Backed, Sound, Inv, settled-complete, settled, settle-good}
 

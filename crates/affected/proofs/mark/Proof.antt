@@ -8,7 +8,8 @@ use lib.ListN.{getD}
 use Rattle.property.specs.Property.{property}
 use Rattle.frontier.specs.Waiting.{waitingOf}
 use Rattle.affected.specs.Code.{Spread}
-use Rattle.affected.proofs.Bits.{bits-more, marks-insert}
+use Rattle.run.proofs.States.{marks-set}
+use Rattle.affected.proofs.Bits.{bits-more}
 use Rattle.affected.proofs.Marking.{mark-kept, mark-unreached, mark-loose, mark-added}
 use Rattle.affected.proofs.mark.Statement.{statement}
 use Rattle.affected.proofs.mark.Tie as tie
@@ -84,9 +85,9 @@ returns-4 c =
       mark-added (property (a .p)) (a .n) (a .s) (a .t) (a .h) (a .w) (a .gone) (a .words .now) (a .marks .now) (s .pre .0) (s .pre .1) (s .pre .3)
           cs (sym (h .is-held .ensures) ∙ not-false _ (c .before .before .if4 .left)) (reached j) (c .insert .ensures),
       record {
-        marks = marks-insert (a .n) (a .marks .now) cs (a .h) (s .pre .1) (c .insert .ensures) (s .pre .4);
+        marks = marks-set (a .n) (a .h) (a .marks .now) cs true (s .pre .1) (c .insert .ensures) (s .pre .4);
         still = λ q. absurd (true≢false q);
-        more = λ q. bits-more (a .n) (a .marks .now) cs (a .h) (s .pre .1) (c .insert .ensures) (s .pre .2) (s .pre .4) unmarked;
+        more = λ q. bits-more (a .n) (a .marks .now) cs (a .h) (s .pre .1) (c .insert .ensures) (s .pre .4) unmarked;
       },
     )
 

@@ -16,7 +16,7 @@ clear-requires : tie.Need-clear-requires Inv-loop μ-loop
 clear-requires c κs = search needs
 
 loop-holds : tie.Need-loop-holds Inv-loop μ-loop
-loop-holds c = wake-start (c .clear .ensures)
+loop-holds c = wake-start (c .before .before .before .before .before .pre .ends .few) (c .clear .ensures)
 
 mul-wake : tie.Need-mul-wake Inv-loop μ-loop
 mul-wake c = search needs

@@ -1,4 +1,4 @@
--- `network::batch::batch` meets its contract. Assumes nothing.
+-- `batch::batch` meets its contract. Assumes nothing.
 use borrow.Author.Needs.{needs}
 use native.Mathlib.Omega.{arith}
 use mathlib.Core.Path.{sym, ap, _∙_}

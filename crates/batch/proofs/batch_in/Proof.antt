@@ -1,16 +1,17 @@
--- `network::batch::batch_in` meets its contract. Assumes nothing.
+-- `batch::batch_in` meets its contract. Assumes nothing.
 use borrow.Author.Needs.{needs}
 use native.Mathlib.Omega.{arith}
 use mathlib.Core.Path.{_≡_, sym, ap, _∙_}
 use Prim.Native.Nat.{_≤_}
 use lib.ListN.{length}
+use Rattle.network.specs.Batch.{batchFaults}
 use Rattle.graph.specs.Limits.{maxEdges}
 use Rattle.graph.specs.Refusal.{accept}
 use Rattle.graph.specs.Edge.{edges}
 use Rattle.graph.proofs.Records.{room-less}
 use Rattle.network.specs.Change.{items}
 use Rattle.calls.specs.Code.{network}
-use Rattle.batch.specs.Code.{changes, verdict, Tabled, Fair, faults}
+use Rattle.batch.specs.Code.{changes, verdict, Tabled, Fair}
 use Rattle.batch.proofs.BatchingCall.{faults-as, faults-fair, edges-copied, call-item, call-committed}
 use Rattle.batch.proofs.batch_in.Statement.{statement}
 use Rattle.batch.proofs.batch_in.Tie as tie
@@ -45,7 +46,7 @@ tabled c =
 
 -- what numbers 1 to 4 say, and what the items say of the lent table
 passed : (c : tie.After-copy3) → let g = begin c .args in
-    faults (g .n) (g .landmarks .now) (network (g .tails .now) (g .heads .now) (g .weights .now) (g .forward .now) (g .backward .now) (g .count)) (length (changes (g .kinds .now) (g .froms .now) (g .tos .now) (g .values .now)))
+    batchFaults (g .n) (g .landmarks .now) (network (g .tails .now) (g .heads .now) (g .weights .now) (g .forward .now) (g .backward .now) (g .count)) (length (changes (g .kinds .now) (g .froms .now) (g .tos .now) (g .values .now)))
     ≡ accept
 passed c = faults-as _ _ _ (begin c .pre .0) (begin c .pre .1 .0)
 

@@ -1,4 +1,4 @@
--- `network::batch::count_changes` meets its contract. Assumes nothing.
+-- `batch::count_changes` meets its contract. Assumes nothing.
 use borrow.Author.Needs.{needs}
 use mathlib.Core.Path.{_∙_}
 use Rattle.batch.proofs.BatchingCall.{changes-length}

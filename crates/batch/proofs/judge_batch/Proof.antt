@@ -1,9 +1,9 @@
--- `network::batch::judge_batch` meets its contract. Assumes nothing.
+-- `batch::judge_batch` meets its contract. Assumes nothing.
 use borrow.Author.Needs.{needs}
 use mathlib.Core.Path.{sym, ap, _∙_}
 use Rattle.graph.specs.Code.{told}
 use Rattle.graph.proofs.Verdicts.{then-accept}
-use Rattle.calls.proofs.Judging.{lengths-accept}
+use Rattle.graph.proofs.Judging.{lengths-accept}
 use Rattle.batch.proofs.BatchingCall.{faults-size, faults-many, faults-short, faults-rest}
 use Rattle.batch.proofs.judge_batch.Statement.{statement}
 use Rattle.batch.proofs.judge_batch.Tie as tie

@@ -1,4 +1,4 @@
--- `network::judge::are_landmarks` meets its contract: what is left of the list decides. Assumes nothing.
+-- `calls::are_landmarks` meets its contract: what is left of the list decides. Assumes nothing.
 use borrow.Author.Needs.{needs}
 use native.Mathlib.Omega.{arith}
 use Prim.Native.Nat.{_-_, _≤_}

@@ -1,4 +1,4 @@
--- `network::judge::is_in` meets its contract: what is left of the list decides. Assumes nothing.
+-- `calls::is_in` meets its contract: what is left of the list decides. Assumes nothing.
 use borrow.Author.Needs.{needs}
 use Prim.Native.Nat.{_-_}
 use mathlib.Core.Path.{_≡_, refl}

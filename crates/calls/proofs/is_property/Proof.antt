@@ -1,4 +1,4 @@
--- `network::judge::is_property` meets its contract. Assumes nothing.
+-- `calls::is_property` meets its contract. Assumes nothing.
 use borrow.Author.Tests.{lt-ltb, le-ltb}
 use Rattle.calls.proofs.is_property.Statement.{statement}
 use Rattle.calls.proofs.is_property.Tie as tie

@@ -1,4 +1,4 @@
--- `network::judge::is_short` meets its contract. Assumes nothing.
+-- `calls::is_short` meets its contract. Assumes nothing.
 use borrow.Author.Needs.{needs}
 use native.Mathlib.Omega.{arith}
 use Prim.Native.Nat.{_<_}

@@ -1,4 +1,4 @@
--- `network::judge::judge_lists` meets its contract. Assumes nothing.
+-- `calls::judge_lists` meets its contract. Assumes nothing.
 use borrow.Author.Needs.{needs}
 use Rattle.calls.proofs.Judging.{then-refused, then-judged}
 use Rattle.calls.proofs.judge_lists.Statement.{statement}

@@ -1,4 +1,4 @@
--- `network::judge::judge_rows` meets its contract. Assumes nothing.
+-- `calls::judge_rows` meets its contract. Assumes nothing.
 use borrow.Author.Needs.{needs}
 use mathlib.Core.Path.{_≡_, sym, ap, _∙_}
 use mathlib.Core.Logic.{⊎-elim}

@@ -1,4 +1,4 @@
--- `network::open::open` meets its contract. Assumes nothing.
+-- `open::open` meets its contract. Assumes nothing.
 use mathlib.Core.Path.{_≡_, sym}
 use Prim.Native.Nat.{ℕ, _*_, _≤_}
 use native.Mathlib.Omega.{arith}
@@ -7,7 +7,7 @@ use lib.Seq.{length-take-le}
 use borrow.Author.Needs.{needs}
 use Rattle.graph.specs.Refusal.{accept}
 use Rattle.network.specs.Network.{rowCount}
-use Rattle.network.specs.Settled.{settledVerdict}
+use Rattle.network.specs.Network.{faults}
 use Rattle.calls.specs.Code.{network}
 use Rattle.calls.proofs.Judging.{fine-accept}
 use Rattle.open.proofs.Opening.{open-accept, rows-few, open-refused}
@@ -19,7 +19,7 @@ begin j = j .before .before .before .before .before .before .before .before .bef
 
 -- numbers 1 to 4 do not apply
 fine : (c : tie.After-enum-told) → let g = begin (c .before .before) .args in
-    settledVerdict (g .n) (g .landmarks .now) (network (g .tails .now) (g .heads .now) (g .weights .now) (g .forward .now) (g .backward .now) (g .count)) ≡ accept
+    faults (g .n) (g .landmarks .now) (network (g .tails .now) (g .heads .now) (g .weights .now) (g .forward .now) (g .backward .now) (g .count)) ≡ accept
 fine c = fine-accept _ _ (c .before .before .judge-all .ensures) (c .enum-told .given .1)
 
 -- .. so that the rows fit the scratch lists

@@ -1,4 +1,4 @@
--- `network::open::open_backward` meets its contract. Assumes nothing.
+-- `open::open_backward` meets its contract. Assumes nothing.
 use Prim.Native.Nat.{_<_}
 use native.Mathlib.Omega.{arith}
 use lib.ListN.{length, replicate}

@@ -1,4 +1,4 @@
--- `network::open::open_forward` meets its contract. Assumes nothing.
+-- `open::open_forward` meets its contract. Assumes nothing.
 use Prim.Native.Nat.{_<_}
 use native.Mathlib.Omega.{arith}
 use lib.ListN.{length}

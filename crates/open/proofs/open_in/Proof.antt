@@ -1,4 +1,4 @@
--- `network::open::open_in` meets its contract. Assumes nothing.
+-- `open::open_in` meets its contract. Assumes nothing.
 use mathlib.Core.Path.{_≡_, refl, sym, _∙_}
 use Prim.Native.Nat.{_*_, _≤_}
 use native.Mathlib.Omega.{arith}
@@ -6,7 +6,7 @@ use lib.ListN.{length}
 use borrow.Author.Needs.{needs}
 use Rattle.network.specs.Network.{rowCount}
 use Rattle.calls.specs.Code.{Openable}
-use Rattle.open.proofs.Opening.{open-accept, open-restless, open-written}
+use Rattle.open.proofs.Opening.{open-accept, open-unsettled, open-written}
 use Rattle.open.proofs.open_in.Statement.{statement}
 use Rattle.open.proofs.open_in.Tie as tie
 
@@ -44,7 +44,7 @@ returns c =
     let f = b .before .before .before .before in
     let s = begin f in
     let g = s .args in
-    open-restless (g .n) (g .landmarks .now) (g .tails .now) (g .heads .now) (g .weights .now) (g .forward .now) (g .backward .now) (g .count) (s .pre .0)
+    open-unsettled (g .n) (g .landmarks .now) (g .tails .now) (g .heads .now) (g .weights .now) (g .forward .now) (g .backward .now) (g .count) (s .pre .0)
     _ _ (f .open-forward .result) (b .open-backward .result) (f .open-forward .ensures) (b .open-backward .ensures) (c .if1 .taken)
 
 -- the scratch lists have the words of all rows

@@ -1,4 +1,4 @@
--- `network::open::open_rows` meets its contract. The loop's invariant: the rows so far stand one after the other in the list, and the answer is whether
+-- `open::open_rows` meets its contract. The loop's invariant: the rows so far stand one after the other in the list, and the answer is whether
 -- some vertex waits in one of them. Assumes nothing.
 use mathlib.Core.Path.{_≡_, refl, _∙_}
 use mathlib.Core.List.{List, map}

@@ -1,4 +1,4 @@
--- `network::query::bound` meets its contract. Assumes nothing.
+-- `query::bound` meets its contract. Assumes nothing.
 use borrow.Author.Needs.{needs}
 use native.Mathlib.Omega.{arith}
 use mathlib.Core.Path.{_≡_, sym, _∙_}
@@ -6,7 +6,8 @@ use Prim.Native.Nat.{ℕ, _+_, _-_, _<_, _≤_}
 use lib.ListN.{length}
 use Rattle.property.specs.Property.{property}
 use Rattle.run.specs.Start.{Landmark}
-use Rattle.query.proofs.Asking.{entry, boundFrom, bound-none, bound-turn, bound-done, row-inside, entry-join}
+use Rattle.query.proofs.Asking.{entry, boundFrom, bound-none, bound-turn, bound-done, entry-join}
+use Rattle.calls.proofs.Rows.{row-within}
 use Rattle.query.proofs.bound.Statement.{statement}
 use Rattle.query.proofs.bound.Tie as tie
 
@@ -44,8 +45,8 @@ inside c x l =
     let b = c .before .before in
     let a = start b .args in
     let h = start b .pre .1 in
-    let y = row-inside (a .n) (length (a .landmarks .now)) (a .p) (b .loop .i - 1) x (a .backward .now) (h .first) (h .last) (omega arith) l (h .backward) in
-    let z = row-inside (a .n) (length (a .landmarks .now)) (a .p) (b .loop .i - 1) x (a .forward .now) (h .first) (h .last) (omega arith) l (h .forward) in
+    let y = row-within (a .n) (b .loop .i - 1) (a .p) (length (a .landmarks .now)) (length (a .backward .now)) (omega arith) (h .first) (h .last) (h .backward) in
+    let z = row-within (a .n) (b .loop .i - 1) (a .p) (length (a .landmarks .now)) (length (a .forward .now)) (omega arith) (h .first) (h .last) (h .forward) in
     (omega (arith, c .row-start .ensures), omega (arith, c .row-start .ensures))
 
 -- those of the source and of the target

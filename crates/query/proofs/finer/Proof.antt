@@ -1,4 +1,4 @@
--- `network::query::finer` meets its contract. Assumes nothing.
+-- `query::finer` meets its contract. Assumes nothing.
 use borrow.Author.Needs.{needs}
 use mathlib.Core.Path.{sym, _∙_}
 use Rattle.query.proofs.finer.Statement.{statement}

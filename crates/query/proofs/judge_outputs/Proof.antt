@@ -1,4 +1,4 @@
--- `network::query::judge_outputs` meets its contract. Assumes nothing.
+-- `query::judge_outputs` meets its contract. Assumes nothing.
 use borrow.Author.Needs.{needs}
 use borrow.Author.Tests.{lt-ltb, le-ltb}
 use mathlib.Core.Path.{_≡_, ap, _∙_}

@@ -1,7 +1,10 @@
--- `network::query::judge_query` meets its contract. Assumes nothing.
+-- `query::judge_query` meets its contract. Assumes nothing.
+use mathlib.Core.Path.{_∙_}
 use Rattle.graph.proofs.Verdicts.{then-accept}
-use Rattle.calls.proofs.Judging.{then-refused, then-judged, fine-accept, lengths-accept}
+use Rattle.graph.proofs.Judging.{lengths-accept}
+use Rattle.calls.proofs.Judging.{then-refused, then-judged, fine-accept}
 use borrow.Author.Needs.{needs}
+use Rattle.query.proofs.AskingFaults.{faults-flat}
 use Rattle.query.proofs.judge_query.Statement.{statement}
 use Rattle.query.proofs.judge_query.Tie as tie
 
@@ -15,7 +18,7 @@ enum-told-2 : tie.Need-enum-told-2
 enum-told-2 c = search needs
 
 returns : tie.Need-returns
-returns c = then-refused _ _ _ _ _ (c .before .before .judge-sizes .ensures) (c .enum-told2 .given .1)
+returns c = then-refused _ _ _ _ _ (c .before .before .judge-sizes .ensures) (c .enum-told2 .given .1) ∙ faults-flat _ _ _ _ _ _
 
 judge-lists-requires : tie.Need-judge-lists-requires
 judge-lists-requires c κs = search needs
@@ -30,7 +33,7 @@ returns-2 : tie.Need-returns-2
 returns-2 c =
     let l = c .before .before in
     let s = l .before in
-    then-judged _ _ _ _ (s .before .before .judge-sizes .ensures) (s .enum-told .given .1) (then-refused _ _ _ _ _ (l .judge-lists .ensures) (c .enum-told4 .given .1))
+    then-judged _ _ _ _ (s .before .before .judge-sizes .ensures) (s .enum-told .given .1) (then-refused _ _ _ _ _ (l .judge-lists .ensures) (c .enum-told4 .given .1)) ∙ faults-flat _ _ _ _ _ _
 
 judge-outputs-requires : tie.Need-judge-outputs-requires
 judge-outputs-requires c κs = search needs
@@ -47,7 +50,7 @@ returns-3 c =
     let l = o .before in
     let s = l .before .before .before in
     then-judged _ _ _ _ (s .before .before .judge-sizes .ensures) (s .enum-told .given .1)
-    (then-judged _ _ _ _ (l .before .before .judge-lists .ensures) (l .enum-told3 .given .1) (then-refused _ _ _ _ _ (o .judge-outputs .ensures) (c .enum-told6 .given .1)))
+    (then-judged _ _ _ _ (l .before .before .judge-lists .ensures) (l .enum-told3 .given .1) (then-refused _ _ _ _ _ (o .judge-outputs .ensures) (c .enum-told6 .given .1))) ∙ faults-flat _ _ _ _ _ _
 
 judge-network-requires : tie.Need-judge-network-requires
 judge-network-requires c κs =
@@ -69,7 +72,7 @@ returns-4 c =
     let s = l .before .before .before in
     then-judged _ _ _ _ (s .before .before .judge-sizes .ensures) (s .enum-told .given .1)
     (then-judged _ _ _ _ (l .before .before .judge-lists .ensures) (l .enum-told3 .given .1)
-    (then-judged _ _ _ _ (o .before .before .judge-outputs .ensures) (o .enum-told5 .given .1) (then-refused _ _ _ _ _ (m .judge-network .ensures) (c .enum-told8 .given .1))))
+    (then-judged _ _ _ _ (o .before .before .judge-outputs .ensures) (o .enum-told5 .given .1) (then-refused _ _ _ _ _ (m .judge-network .ensures) (c .enum-told8 .given .1)))) ∙ faults-flat _ _ _ _ _ _
 
 judge-request-requires : tie.Need-judge-request-requires
 judge-request-requires c κs = search needs
@@ -83,7 +86,7 @@ returns-5 c =
     then-judged _ _ _ _ (s .before .before .judge-sizes .ensures) (s .enum-told .given .1)
     (then-judged _ _ _ _ (l .before .before .judge-lists .ensures) (l .enum-told3 .given .1)
     (then-judged _ _ _ _ (o .before .before .judge-outputs .ensures) (o .enum-told5 .given .1)
-    (then-judged _ _ _ _ (m .before .before .judge-network .ensures) (m .enum-told7 .given .1) (c .judge-request .ensures))))
+    (then-judged _ _ _ _ (m .before .before .judge-network .ensures) (m .enum-told7 .given .1) (c .judge-request .ensures)))) ∙ faults-flat _ _ _ _ _ _
 
 pub judge-query-spec : {M : Type 1} → statement M
 judge-query-spec =

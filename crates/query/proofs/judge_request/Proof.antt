@@ -1,4 +1,4 @@
--- `network::query::judge_request` meets its contract. Assumes nothing.
+-- `query::judge_request` meets its contract. Assumes nothing.
 use borrow.Author.Needs.{needs}
 use borrow.Author.Tests.{lt-ltb, le-ltb}
 use native.Mathlib.Omega.{arith}

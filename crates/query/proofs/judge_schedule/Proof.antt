@@ -1,11 +1,11 @@
--- `network::query::judge_schedule` meets its contract. Assumes nothing.
+-- `query::judge_schedule` meets its contract. Assumes nothing.
 use borrow.Author.Needs.{needs}
 use native.Mathlib.Omega.{arith}
 use mathlib.Core.Path.{_≡_, refl}
 use Prim.Native.Nat.{_-_, _≤_}
 use lib.ListN.{length, drop}
 use Rattle.network.specs.Query.{scheduled}
-use Rattle.query.proofs.Asking.{picks-more, picks-broken, picks-none}
+use Rattle.query.proofs.Asking.{schedule-more, schedule-broken, schedule-none}
 use Rattle.query.proofs.judge_schedule.Statement.{statement}
 use Rattle.query.proofs.judge_schedule.Tie as tie
 
@@ -27,7 +27,7 @@ shared-slice-read-if1 c = search needs
 returns : tie.Need-returns Inv-loop μ-loop
 returns c =
     let l = c .before .before .before in
-    picks-broken (l .before .args .n) (l .before .args .schedule .now) (l .loop .i) (l .loop .inv .0) (omega arith) (c .if1 .taken)
+    schedule-broken (l .before .args .n) (l .before .args .schedule .now) (l .loop .i) (l .loop .inv .0) (omega arith) (c .if1 .taken)
 
 add-i : tie.Need-add-i Inv-loop μ-loop
 add-i c = search needs
@@ -38,12 +38,12 @@ loop-less c = search needs
 loop-again : tie.Need-loop-again Inv-loop μ-loop
 loop-again c =
     let l = c .before .before .before in
-    (picks-more (l .before .args .n) (l .before .args .schedule .now) (l .loop .i) (l .loop .inv .0) (omega arith) (c .if1 .left), omega arith)
+    (schedule-more (l .before .args .n) (l .before .args .schedule .now) (l .loop .i) (l .loop .inv .0) (omega arith) (c .if1 .left), omega arith)
 
 returns-2 : tie.Need-returns-2 Inv-loop μ-loop
 returns-2 c =
     let l = c .before in
-    picks-none (l .before .args .n) (l .before .args .schedule .now) (l .loop .i) (l .loop .inv .0) (c .loop-test .left)
+    schedule-none (l .before .args .n) (l .before .args .schedule .now) (l .loop .i) (l .loop .inv .0) (c .loop-test .left)
 
 pub judge-schedule-spec : {M : Type 1} → statement M
 judge-schedule-spec =

@@ -1,4 +1,4 @@
--- `network::query::judge_sizes` meets its contract. Assumes nothing.
+-- `query::judge_sizes` meets its contract. Assumes nothing.
 use borrow.Author.Needs.{needs}
 use Rattle.calls.proofs.Judging.{then-refused, then-judged}
 use Rattle.query.proofs.judge_sizes.Statement.{statement}

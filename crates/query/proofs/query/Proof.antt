@@ -1,4 +1,4 @@
--- `network::query::query` meets its contract. Assumes nothing.
+-- `query::query` meets its contract. Assumes nothing.
 use borrow.Author.Needs.{needs}
 use native.Mathlib.Omega.{arith}
 use mathlib.Core.Path.{_≡_, sym}
@@ -10,7 +10,8 @@ use Rattle.graph.specs.Refusal.{accept}
 use Rattle.network.specs.Network.{Network}
 use Rattle.network.specs.Query.{Query}
 use Rattle.calls.specs.Code.{network}
-use Rattle.query.specs.Code.{asking, faults}
+use Rattle.network.specs.Query.{queryFaults}
+use Rattle.query.specs.Code.{asking}
 use Rattle.calls.proofs.Judging.{fine-accept}
 use Rattle.query.proofs.AskingFaults.{faults-accept}
 use Rattle.query.proofs.AskingRun.{query-refused}
@@ -27,7 +28,7 @@ abbrev ask : tie.Start → Query
 ask s = let a = s .args in asking (a .property) (a .source) (a .schedule .now)
 
 -- where none is refused
-fine : (c : tie.After-enum-told) → let s = begin (c .before .before) in faults (s .args .n) (s .args .landmarks .now) (net s) (ask s) (length (s .args .starts .now)) (length (s .args .settled .now)) ≡ accept
+fine : (c : tie.After-enum-told) → let s = begin (c .before .before) in queryFaults (s .args .n) (s .args .landmarks .now) (net s) (ask s) (length (s .args .starts .now)) (length (s .args .settled .now)) ≡ accept
 fine c = fine-accept _ _ (c .before .before .judge-query .ensures) (c .enum-told .given .1)
 
 few : (c : tie.After-enum-told) → begin (c .before .before) .args .n ≤ maxVertices

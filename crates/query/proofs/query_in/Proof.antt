@@ -1,4 +1,4 @@
--- `network::query::query_in` meets its contract. Assumes nothing.
+-- `query::query_in` meets its contract. Assumes nothing.
 use borrow.Author.Needs.{needs}
 use native.Mathlib.Omega.{arith}
 use mathlib.Core.Path.{_≡_, sym, ap, _∙_}

@@ -1,4 +1,4 @@
--- `network::query::run_query` meets its contract. Assumes nothing.
+-- `query::run_query` meets its contract. Assumes nothing.
 use borrow.Author.Needs.{needs}
 use mathlib.Core.Path.{ap, _∙_}
 use Rattle.property.specs.Property.{property}

@@ -1,4 +1,4 @@
--- `network::query::start_word` meets its contract. Assumes nothing.
+-- `query::start_word` meets its contract. Assumes nothing.
 use borrow.Author.Needs.{needs}
 use Rattle.query.proofs.Asking.{start-source, start-other}
 use Rattle.query.proofs.start_word.Statement.{statement}

@@ -1,4 +1,4 @@
--- `network::query::start_words` meets its contract. Assumes nothing.
+-- `query::start_words` meets its contract. Assumes nothing.
 use borrow.Author.Needs.{needs}
 use native.Mathlib.Omega.{arith}
 use mathlib.Core.Path.{_≡_, _∙_}

@@ -12,8 +12,9 @@ use Rattle.graph.specs.Edge.{edge}
 use Rattle.graph.specs.Own.{part}
 use Rattle.run.specs.Run as spec
 use Rattle.run.specs.Code.{state, Ran}
-use Rattle.run.proofs.Folds.{fold-turn, fold-done, part-more, part-none, getD-within}
-use Rattle.run.proofs.States.{held-set, ran-none, ran-then, ran-within, clear-bit, handle-own}
+use Rattle.graph.proofs.Lists.{fold-turn, fold-done, getD-within}
+use Rattle.run.proofs.Folds.{part-more, part-none}
+use Rattle.run.proofs.States.{marks-set, ran-none, ran-then, ran-within, clear-bit, handle-own}
 use Rattle.run.proofs.handle.Statement.{statement}
 use Rattle.run.proofs.handle.Tie as tie
 
@@ -57,7 +58,7 @@ loop-holds c =
     let a = s .args in
     let f = s .pre .1 .index in
     let z = s .pre .1 .sized in
-    let h = held-set (a .n) (a .u) (a .waiting .now) (r .remove .last .0) false (s .pre .0) (r .remove .ensures) (z .waiting) in (
+    let h = marks-set (a .n) (a .u) (a .waiting .now) (r .remove .last .0) false (s .pre .0) (r .remove .ensures) (z .waiting) in (
       refl,
       f .rising (a .u) (s .pre .0),
       f .within (a .u) (s .pre .0),
@@ -119,7 +120,7 @@ loop-again c =
     let z = at .inv .3 .sized .words in
     let w = getD-within (at .words) (g .u) (P .none) 0 (omega (arith, s .pre .0)) in
     let v = ap (λ (x : ℕ). P .along x (e .weight)) w ∙ sym (a .along .ensures) in (
-      fold-turn (spec.relax P) e _ _ _ _ _ (part-more _ _ _ _ _ (t .loop-test .taken)) (r .relax .ensures .0 e refl v) (at .inv .0),
+      fold-turn (spec.relax P) e (part-more _ _ _ _ _ (t .loop-test .taken)) (r .relax .ensures .0 e refl v) (at .inv .0),
       omega arith,
       omega arith,
       ran-then (at .inv .3) (r .relax .ensures .1) (omega arith) (omega arith) (omega arith),
@@ -136,7 +137,7 @@ returns c =
     let P = property (g .p) in
     let r = l .before .before .before in (
       λ es o.
-          fold-done (spec.relax P) _ _ _ (part-none _ _ _ _ _ (c .loop-test .left)) (l .loop .inv .0)
+          fold-done (spec.relax P) (part-none _ _ _ _ _ (c .loop-test .left)) (l .loop .inv .0)
           ∙ handle-own P es _ (state (g .n) (g .words .now) (g .waiting .now) (g .tally)) _ (g .u)
           (clear-bit (g .n) (g .u) (g .words .now) (g .waiting .now) (r .remove .last .0) (g .tally) (s .pre .0) (r .remove .ensures)) (o (g .u) (s .pre .0)),
       ran-within (l .loop .inv .3) (omega arith) (omega arith) (omega (arith, s .pre .1 .index .records)),

@@ -11,7 +11,8 @@ use Rattle.graph.specs.Edge.{Edge}
 use Rattle.graph.specs.Own.{Own}
 use Rattle.run.specs.Run as spec
 use Rattle.run.specs.Code.{state, Ran}
-use Rattle.run.proofs.Folds.{fold-turn, fold-done, drop-more}
+use Rattle.graph.proofs.Lists.{fold-turn, fold-done}
+use Rattle.run.proofs.Folds.{drop-more}
 use Rattle.run.proofs.States.{ran-none, ran-then, ran-within}
 use Rattle.run.proofs.pass.Statement.{statement}
 use Rattle.run.proofs.pass.Tie as tie
@@ -66,7 +67,7 @@ loop-again c =
     let g = s .args in
     let at = l .loop in (
       λ es o.
-          fold-turn (spec.take (property (g .p)) es) _ _ _ _ _ _ (drop-more (g .schedule .now) (at .entry) (t .loop-test .taken)) (r .take .ensures .0 es o) (at .inv .0 es o),
+          fold-turn (spec.take (property (g .p)) es) _ (drop-more (g .schedule .now) (at .entry) (t .loop-test .taken)) (r .take .ensures .0 es o) (at .inv .0 es o),
       omega arith,
       ran-then (at .inv .2) (r .take .ensures .1) (omega arith) (omega arith) (omega arith),
     )
@@ -80,7 +81,7 @@ returns c =
     let s = l .before .before .before .before .before .before in
     let g = s .args in
     let v = s .pre .1 .few in (
-      λ es o. fold-done (spec.take (property (g .p)) es) _ _ _ (drop-of-length-le (g .schedule .now) (c .loop-test .left)) (l .loop .inv .0 es o),
+      λ es o. fold-done (spec.take (property (g .p)) es) (drop-of-length-le (g .schedule .now) (c .loop-test .left)) (l .loop .inv .0 es o),
       ran-within (l .loop .inv .2) (omega arith) (omega arith) (omega arith),
     )
 

@@ -13,7 +13,7 @@ use Rattle.graph.specs.Edge.{Edge, range}
 use Rattle.graph.specs.Own.{Own}
 use Rattle.run.specs.Run as spec
 use Rattle.run.specs.Code.{state, Ran}
-use Rattle.run.proofs.States.{held-within, ran-none, ran-then}
+use Rattle.run.proofs.States.{marks-within, ran-none, ran-then}
 use Rattle.run.proofs.Rounds.{round-next, round-none, round-ends, round-begins, ran-round}
 use Rattle.run.proofs.round.Statement.{statement}
 use Rattle.run.proofs.round.Tie as tie
@@ -34,7 +34,7 @@ found c = next-first _ _ _ (sym (c .before .before .next-from .ensures .0) ∙ c
 
 -- it is one of the vertices
 found-within : (c : tie.After-next Inv-loop μ-loop) → c .next .given .0 .0 < c .before .before .before .before .before .before .before .before .before .before .before .args .n
-found-within c = held-within _ (c .before .before .before .before .before .loop .waiting) _ (c .before .before .before .before .before .loop .inv .2 .sized .waiting) (found c .waits)
+found-within c = marks-within _ (c .before .before .before .before .before .loop .waiting) _ (c .before .before .before .before .before .loop .inv .2 .sized .waiting) (found c .waits)
 
 add-t14 : tie.Need-add-t14 Inv-loop μ-loop
 add-t14 c = search needs

@@ -1,4 +1,4 @@
--- `network::commit::batch_runs` meets its contract. Assumes nothing.
+-- `batch::commit::batch_runs` meets its contract. Assumes nothing.
 use borrow.Author.Needs.{needs}
 use Rattle.batch.proofs.commit.batch_runs.Statement.{statement}
 use Rattle.batch.proofs.commit.batch_runs.Tie as tie

@@ -1,4 +1,4 @@
--- `network::commit::batch_sides` meets its contract. Assumes nothing.
+-- `batch::commit::batch_sides` meets its contract. Assumes nothing.
 use borrow.Author.Needs.{needs}
 use mathlib.Core.Path.{refl}
 use Rattle.batch.proofs.BatchingCall.{sides-done}

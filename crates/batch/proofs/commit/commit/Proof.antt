@@ -1,4 +1,4 @@
--- `network::commit::commit` meets its contract. Assumes nothing.
+-- `batch::commit::commit` meets its contract. Assumes nothing.
 use borrow.Author.Needs.{needs}
 use mathlib.Core.Path.{sym}
 use Prim.Native.Nat.{ℕ, _*_, _≤_}

@@ -1,4 +1,4 @@
--- `network::commit::commit_in` meets its contract. Assumes nothing.
+-- `batch::commit::commit_in` meets its contract. Assumes nothing.
 use borrow.Author.Needs.{needs}
 use native.Mathlib.Omega.{arith}
 use mathlib.Core.Path.{_≡_, refl, sym, _∙_}

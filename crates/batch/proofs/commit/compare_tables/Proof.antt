@@ -1,4 +1,4 @@
--- `network::commit::compare_tables` meets its contract. Assumes nothing.
+-- `batch::commit::compare_tables` meets its contract. Assumes nothing.
 use borrow.Author.Needs.{needs}
 use native.Mathlib.Omega.{arith}
 use Prim.Native.Nat.{_≤_}

@@ -1,4 +1,4 @@
--- `network::commit::write_table` meets its contract. Assumes nothing.
+-- `batch::commit::write_table` meets its contract. Assumes nothing.
 use borrow.Author.Needs.{needs}
 use Rattle.batch.proofs.Batching.{table-written}
 use Rattle.batch.proofs.commit.write_table.Statement.{statement}

@@ -1,4 +1,4 @@
--- `network::commit::write_words` meets its contract. Assumes nothing.
+-- `batch::commit::write_words` meets its contract. Assumes nothing.
 use borrow.Author.Needs.{needs}
 use Rattle.batch.proofs.Batching.{words-written}
 use Rattle.batch.proofs.commit.write_words.Statement.{statement}

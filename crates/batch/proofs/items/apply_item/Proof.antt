@@ -1,10 +1,11 @@
--- `network::items::apply_item` meets its contract. Assumes nothing.
+-- `batch::items::apply_item` meets its contract. Assumes nothing.
 use borrow.Author.Needs.{needs}
 use mathlib.Core.Path.{_≡_, refl, sym, ap, _∙_}
 use Prim.Native.Nat.{ℕ}
+use Rattle.network.specs.Change.{words}
 use Rattle.graph.specs.Refusal.{accept}
 use Rattle.graph.specs.Code.{told}
-use Rattle.batch.specs.Code.{change, words, verdict}
+use Rattle.batch.specs.Code.{change, verdict}
 use Rattle.batch.proofs.Editing.{leaves-refused, words-delete, item-words, item-as, leaves-as}
 use Rattle.batch.proofs.items.apply_item.Statement.{statement}
 use Rattle.batch.proofs.items.apply_item.Tie as tie

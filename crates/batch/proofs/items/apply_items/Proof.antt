@@ -1,4 +1,4 @@
--- `network::items::apply_items` meets its contract: what is left of the changes gives, from here, the verdict and the edges of all.
+-- `batch::items::apply_items` meets its contract: what is left of the changes gives, from here, the verdict and the edges of all.
 -- Assumes nothing.
 use borrow.Author.Needs.{needs}
 use native.Mathlib.Omega.{arith}

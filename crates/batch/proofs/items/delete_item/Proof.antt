@@ -1,4 +1,4 @@
--- `network::items::delete_item` meets its contract. Assumes nothing.
+-- `batch::items::delete_item` meets its contract. Assumes nothing.
 use borrow.Author.Needs.{needs}
 use native.Mathlib.Omega.{arith}
 use mathlib.Core.Path.{_≡_, refl, sym, _∙_}

@@ -1,4 +1,4 @@
--- `network::items::is_suited` meets its contract. Assumes nothing.
+-- `batch::items::is_suited` meets its contract. Assumes nothing.
 use borrow.Author.Needs.{needs}
 use borrow.Author.Tests.{eq-eqb, ne-eqb}
 use Rattle.batch.proofs.items.is_suited.Statement.{statement}

@@ -1,4 +1,4 @@
--- `network::items::judge_words` meets its contract. Assumes nothing.
+-- `batch::items::judge_words` meets its contract. Assumes nothing.
 use borrow.Author.Needs.{needs}
 use borrow.Author.Tests.{leb-true, leb-false, eqb-true, eqb-false, not-true, not-false}
 use Prim.Native.Nat.{_<_}

@@ -1,4 +1,4 @@
--- `network::sides::batch_forward` meets its contract. Assumes nothing.
+-- `batch::sides::batch_forward` meets its contract. Assumes nothing.
 use borrow.Author.Needs.{needs}
 use native.Mathlib.Omega.{arith}
 use Rattle.batch.proofs.BatchingSides.{indexed-table}

@@ -1,4 +1,4 @@
--- `network::sides::batch_row` meets its contract. Assumes nothing.
+-- `batch::sides::batch_row` meets its contract. Assumes nothing.
 use borrow.Author.Needs.{needs}
 use native.Mathlib.Omega.{arith}
 use mathlib.Core.Path.{refl, _∙_}

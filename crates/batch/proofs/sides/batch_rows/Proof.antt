@@ -1,4 +1,4 @@
--- `network::sides::batch_rows` meets its contract. Assumes nothing.
+-- `batch::sides::batch_rows` meets its contract. Assumes nothing.
 use borrow.Author.Needs.{needs}
 use native.Mathlib.Omega.{arith}
 use mathlib.Core.Path.{refl, sym, _∙_}

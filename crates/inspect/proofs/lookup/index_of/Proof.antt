@@ -1,4 +1,4 @@
--- `network::lookup::index_of` meets its contract: what is left of the list decides. Assumes nothing.
+-- `inspect::lookup::index_of` meets its contract: what is left of the list decides. Assumes nothing.
 use borrow.Author.Needs.{needs}
 use native.Mathlib.Nat.{zero-add}
 use Prim.Native.Nat.{_+_, _-_}

@@ -1,4 +1,4 @@
--- `network::lookup::row` meets its contract. Assumes nothing.
+-- `inspect::lookup::row` meets its contract. Assumes nothing.
 use borrow.Author.Needs.{needs}
 use native.Mathlib.Omega.{arith}
 use mathlib.Core.Path.{_≡_, ap, _∙_}
@@ -60,7 +60,7 @@ index-of-requires c κs = search needs
 row-start-requires : tie.Need-row-start-requires
 row-start-requires c κs =
     let s = shown (c .before) in
-    (s .few, omega (arith, s .listed, c .index-of .ensures), s .first, s .last)
+    (s .first, s .last, s .few, omega (arith, s .listed, c .index-of .ensures))
 
 add-end : tie.Need-add-end
 add-end c = omega (arith, lies c)

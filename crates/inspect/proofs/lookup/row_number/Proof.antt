@@ -1,4 +1,4 @@
--- `network::lookup::row_number` meets its contract: one refusal after the other. Assumes nothing.
+-- `inspect::lookup::row_number` meets its contract: one refusal after the other. Assumes nothing.
 use borrow.Author.Needs.{needs}
 use mathlib.Core.Path.{_≡_, sym, ap, _∙_}
 use mathlib.Core.Logic.{⊎-elim}

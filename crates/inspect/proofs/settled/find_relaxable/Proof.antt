@@ -1,4 +1,4 @@
--- `network::settled::find_relaxable` meets its contract. Assumes nothing.
+-- `inspect::settled::find_relaxable` meets its contract. Assumes nothing.
 use borrow.Author.Needs.{needs}
 use Rattle.network.specs.Settled.{settledCall}
 use Rattle.calls.proofs.Judging.{fine-accept}

@@ -1,4 +1,4 @@
--- `network::settled::first_spot` meets its contract: each loop's invariant says that what is left from here on gives the whole
+-- `inspect::settled::first_spot` meets its contract: each loop's invariant says that what is left from here on gives the whole
 -- check. Assumes nothing.
 use borrow.Author.Needs.{needs}
 use native.Mathlib.Omega.{arith}
@@ -16,7 +16,8 @@ use Rattle.network.specs.Network.{row, rowCount, propertyOf}
 use Rattle.network.specs.Settled.{Check, check, inRecords, inRows}
 use Rattle.calls.specs.Code.{network}
 use Rattle.calls.proofs.Judging.{Accepted, network-accept}
-use Rattle.inspect.proofs.Checking.{edgesOn, row-inside, records-more, records-found, records-none, rows-more, rows-none, inSides, sides-all, sides-more, sides-none, checking-found, checking-settled}
+use Rattle.inspect.proofs.Checking.{edgesOn, records-more, records-found, records-none, rows-more, rows-none, inSides, sides-all, sides-more, sides-none, checking-found, checking-settled}
+use Rattle.calls.proofs.Rows.{row-ends}
 use Rattle.inspect.proofs.settled.first_spot.Statement.{statement}
 use Rattle.inspect.proofs.settled.first_spot.Tie as tie
 
@@ -92,7 +93,7 @@ is-spot-requires c κs =
     let j : c .before .loop2 .j < s .args .count = c .loop2-test .taken in
     let r = a .room in (
       (omega arith, omega arith, omega arith),
-      (a .ends (c .before .loop2 .j) j, (row-inside _ _ _ _ k (a .forward), row-inside _ _ _ _ k (a .backward))),
+      (a .ends (c .before .loop2 .j) j, (row-ends _ _ _ _ k (a .forward), row-ends _ _ _ _ k (a .backward))),
     )
 
 add-j : tie.Need-add-j Inv-loop2 μ-loop2 Inv-loop μ-loop Inv-sides μ-sides

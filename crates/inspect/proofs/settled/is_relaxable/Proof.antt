@@ -1,4 +1,4 @@
--- `network::settled::is_relaxable` meets its contract. Assumes nothing.
+-- `inspect::settled::is_relaxable` meets its contract. Assumes nothing.
 use borrow.Author.Needs.{needs}
 use Rattle.inspect.proofs.Checking.{relaxable-told}
 use Rattle.inspect.proofs.settled.is_relaxable.Statement.{statement}

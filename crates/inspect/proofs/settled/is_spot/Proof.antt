@@ -1,4 +1,4 @@
--- `network::settled::is_spot` meets its contract. Assumes nothing.
+-- `inspect::settled::is_spot` meets its contract. Assumes nothing.
 use borrow.Author.Needs.{needs}
 use mathlib.Core.Path.{_∙_}
 use Rattle.graph.specs.Code.{edgeAt}

@@ -1,0 +1,32 @@
+-- Where a row lies in a list of rows, and its words. Assumes nothing.
+use mathlib.Core.Path.{_≡_, sym, _∙_}
+use mathlib.Core.List.{List}
+use Prim.Native.Nat.{ℕ, _+_, _*_, _<_, _≤_}
+use native.Mathlib.Nat.{mul-le-mul, mul-le-mul-right, suc-mul}
+use native.Mathlib.Omega.{arith}
+use lib.ListN.{length, getD, drop}
+use lib.Seq.{getD-take, getD-drop}
+use mir.Syntax.{w64}
+use mir.Val.{Fits}
+use mir.Facts.{fits-le, fits-lit}
+use Rattle.property.specs.Property.{Property, properties}
+use Rattle.graph.specs.Limits.{maxVertices, maxLandmarks}
+use Rattle.graph.proofs.Lists.{getD-within}
+use Rattle.run.specs.Run.{word}
+use Rattle.network.specs.Network.{row}
+use Rattle.network.specs.Query.{rowAt}
+
+-- where a row starts is no great number
+pub row-fits : (r n : ℕ) → r ≤ maxLandmarks * properties → n ≤ maxVertices → Fits w64 (r * n)
+row-fits r n a b = fits-le (mul-le-mul a b) (fits-lit tt)
+
+-- row r of k rows ends within a list that has them
+pub row-ends : (r k n l : ℕ) → r < k → k * n ≤ l → r * n + n ≤ l
+row-ends r k n l h f = omega (arith, suc-mul r n, mul-le-mul-right n h)
+
+-- the row of landmark i and property p, in a list that has the rows of k landmarks
+pub row-within : (n i p k l : ℕ) → i < k → 0 < p → p ≤ properties → k * properties * n ≤ l → rowAt i p * n + n ≤ l
+row-within n i p k l h a b f = row-ends (rowAt i p) (k * properties) n l (omega arith) f
+
+pub row-word : (P : Property) (n r t : ℕ) (xs : List ℕ) → t < n → r * n + t < length xs → getD xs (r * n + t) 0 ≡ word P (row n r xs) t
+row-word P n r t xs h l = getD-within xs (r * n + t) 0 (P .none) l ∙ sym (getD-take n (drop (r * n) xs) t (P .none) h ∙ getD-drop (r * n) xs t (P .none))

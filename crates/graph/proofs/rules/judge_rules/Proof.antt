@@ -1,0 +1,98 @@
+-- `graph::rules::judge_rules` meets its contract. Assumes nothing.
+use borrow.Author.Needs.{needs}
+use borrow.Author.Tests.{not-true, not-false}
+use native.Mathlib.Omega.{arith}
+use mathlib.Core.Path.{_≡_, sym, _∙_}
+use Prim.Native.Nat.{_-_, _≤_}
+use lib.ListN.{drop}
+use Rattle.graph.specs.Edge.{edges}
+use Rattle.graph.specs.Table.{follow, rules}
+use Rattle.graph.specs.Code.{edgeAt}
+use Rattle.graph.proofs.Judging.{rules-none, rules-broken, rules-first, follow-more, follow-broken, follow-none}
+use Rattle.graph.proofs.rules.judge_rules.Statement.{statement}
+use Rattle.graph.proofs.rules.judge_rules.Tie as tie
+
+abbrev Inv-loop : tie.InvT-loop
+Inv-loop n tails heads weights count k₀ k =
+    (follow n k (edgeAt tails heads weights (k - 1)) (drop k (edges tails heads weights count)) ≡ rules n (edges tails heads weights count)) × (1 ≤ k) × (k ≤ count)
+
+abbrev μ-loop : tie.MeasureT-loop
+μ-loop n tails heads weights count k₀ k = count - k
+
+abbrev start : tie.At-loop Inv-loop μ-loop → tie.Start Inv-loop μ-loop
+start l = l .before .before .before .before .before .before .before .before .before .before
+
+returns : tie.Need-returns Inv-loop μ-loop
+returns c =
+    let s = c .before .before .before .before in
+    rules-none _ _ _ _ (s .pre) (s .args .n) (c .if1 .taken)
+
+shared-slice-read-is-edge : tie.Need-shared-slice-read-is-edge Inv-loop μ-loop
+shared-slice-read-is-edge c = search needs
+
+shared-slice-read-is-edge-2 : tie.Need-shared-slice-read-is-edge-2 Inv-loop μ-loop
+shared-slice-read-is-edge-2 c = search needs
+
+shared-slice-read-is-edge-3 : tie.Need-shared-slice-read-is-edge-3 Inv-loop μ-loop
+shared-slice-read-is-edge-3 c = search needs
+
+is-edge-requires : tie.Need-is-edge-requires Inv-loop μ-loop
+is-edge-requires c κs = search needs
+
+returns-2 : tie.Need-returns-2 Inv-loop μ-loop
+returns-2 c =
+    let s = c .before .before .before .before .before .before .before .before .before in
+    let e = c .before .is-edge .ensures in
+    rules-broken _ _ _ _ (s .pre) (s .args .n) (omega arith) (sym e ∙ not-true _ (c .if2 .taken))
+
+loop-holds : tie.Need-loop-holds Inv-loop μ-loop
+loop-holds c =
+    let s = c .before .before .before .before .before .before .before .before .before in
+    let e = c .before .is-edge .ensures in
+    (rules-first _ _ _ _ (s .pre) (s .args .n) (omega arith) (sym e ∙ not-false _ (c .if2 .left)), omega arith, omega arith)
+
+follows-requires : tie.Need-follows-requires Inv-loop μ-loop
+follows-requires c κs = search needs
+
+returns-3 : tie.Need-returns-3 Inv-loop μ-loop
+returns-3 c =
+    let f = c .before in
+    let l = f .before .before in
+    follow-broken _ _ _ _ (start l .pre) (start l .args .n) (l .loop .k) (l .loop .inv .0) (omega arith) (sym (f .follows .ensures) ∙ not-true _ (c .if3 .taken))
+
+add-k : tie.Need-add-k Inv-loop μ-loop
+add-k c = search needs
+
+loop-less : tie.Need-loop-less Inv-loop μ-loop
+loop-less c = search needs
+
+loop-again : tie.Need-loop-again Inv-loop μ-loop
+loop-again c =
+    let f = c .before in
+    let l = f .before .before in
+    (follow-more _ _ _ _ (start l .pre) (start l .args .n) (l .loop .k) (l .loop .inv .0) (omega arith) (sym (f .follows .ensures) ∙ not-false _ (c .if3 .left)), omega arith, omega arith)
+
+returns-4 : tie.Need-returns-4 Inv-loop μ-loop
+returns-4 c =
+    let l = c .before in
+    follow-none _ _ _ _ (start l .pre) (start l .args .n) (l .loop .k) (l .loop .inv .0) (c .loop-test .left)
+
+pub judge-rules-spec : {M : Type 1} → statement M
+judge-rules-spec =
+    tie.close
+    (tie.spec
+    Inv-loop
+    μ-loop
+    returns
+    shared-slice-read-is-edge
+    shared-slice-read-is-edge-2
+    shared-slice-read-is-edge-3
+    is-edge-requires
+    returns-2
+    loop-holds
+    follows-requires
+    returns-3
+    add-k
+    loop-less
+    loop-again
+    returns-4)

@@ -1,0 +1,112 @@
+// Refusals 1, 2 and 4 of a table, and the rules of its edges.
+use super::Judged;
+use super::MAX_EDGES;
+use super::MAX_VERTICES;
+use super::MAX_WEIGHT;
+ghost use mathlib.Core.Path.{_≡_};
+ghost use Prim.Native.Nat.{_+_, _<_};
+ghost use Rattle.graph.specs.Limits.{maxEdges};
+ghost use Rattle.graph.specs.Refusal.{refuseIf};
+ghost use Rattle.graph.specs.Edge.{edge, edges, precedes};
+ghost use Rattle.graph.specs.Table.{isWeight, isEdge, rules, size, shortTable, table};
+ghost use Rattle.graph.specs.Code.{told, Room, columns, keeps};
+
+// Number `k` at place `i` where the test holds.
+pub fn refuse_if(test: bool, k: u32, i: usize) -> Judged
+    ensures { λ r. ⌜ told r ≡ refuseIf test k i ⌝ }
+{
+    if test {
+        Judged::Refused(k, i)
+    } else {
+        Judged::Fine
+    }
+}
+
+// Whether a weight is 1 to 65,535.
+pub fn is_weight(w: u32) -> bool
+    ensures { λ r. ⌜ r ≡ isWeight w ⌝ }
+{
+    0 < w && w <= MAX_WEIGHT
+}
+
+// Whether an edge by itself keeps the rules of a table of `n` vertices.
+pub fn is_edge(n: u32, t: u32, h: u32, w: u32) -> bool
+    ensures { λ r. ⌜ r ≡ isEdge n (edge t h w) ⌝ }
+{
+    t < n && h < n && t != h && is_weight(w)
+}
+
+// Table order: by tail, then head.
+pub fn in_order(t: u32, h: u32, w: u32, u: u32, g: u32, x: u32) -> bool
+    ensures { λ r. ⌜ r ≡ precedes (edge t h w) (edge u g x) ⌝ }
+{
+    t < u || (t == u && h < g)
+}
+
+// Number 1: n is 0 or over 256.
+pub fn judge_size(n: u32) -> Judged
+    ensures { λ r. ⌜ told r ≡ size n ⌝ }
+{
+    refuse_if(n == 0 || n > MAX_VERTICES, 1, 0)
+}
+
+// Number 2: a list of the table has fewer than 2,048 words.
+pub fn judge_lengths(tails: &[u32], heads: &[u32], weights: &[u32]) -> Judged
+    ensures { λ r. ⌜ told r ≡ shortTable (columns (now (tails .entry)) (now (heads .entry)) (now (weights .entry))) ⌝ }
+{
+    refuse_if(
+        tails.len() < MAX_EDGES || heads.len() < MAX_EDGES || weights.len() < MAX_EDGES,
+        2,
+        0,
+    )
+}
+
+// Whether record `k`, which is not the first, comes after the one before it and is an edge.
+fn follows(n: u32, tails: &[u32], heads: &[u32], weights: &[u32], k: usize) -> bool
+    requires { ⌜ (0 < k) × Room (k + 1) (now tails) (now heads) (now weights) ⌝ }
+    ensures { λ r. ⌜ r ≡ keeps n (now (tails .entry)) (now (heads .entry)) (now (weights .entry)) k ⌝ }
+{
+    let j = k - 1;
+    in_order(
+        tails[j],
+        heads[j],
+        weights[j],
+        tails[k],
+        heads[k],
+        weights[k],
+    )
+        && is_edge(n, tails[k], heads[k], weights[k])
+}
+
+// The table's rules: number 4 at the first record below the count that breaks them.
+pub fn judge_rules(n: u32, tails: &[u32], heads: &[u32], weights: &[u32], count: usize) -> Judged
+    requires { ⌜ Room count (now tails) (now heads) (now weights) ⌝ }
+    ensures { λ r. ⌜ told r ≡ rules n (edges (now (tails .entry)) (now (heads .entry)) (now (weights .entry)) count) ⌝ }
+{
+    if count == 0 {
+        return Judged::Fine;
+    }
+    if !is_edge(n, tails[0], heads[0], weights[0]) {
+        return Judged::Refused(4, 0);
+    }
+    let mut k = 1;
+    while k < count {
+        if !follows(n, tails, heads, weights, k) {
+            return Judged::Refused(4, k);
+        }
+        k += 1;
+    }
+    Judged::Fine
+}
+
+// Number 4: a count over 2,048, or the first record that breaks the rules.
+pub fn judge_table(n: u32, tails: &[u32], heads: &[u32], weights: &[u32], count: u32) -> Judged
+    requires { ⌜ Room maxEdges (now tails) (now heads) (now weights) ⌝ }
+    ensures { λ r. ⌜ told r ≡ table n (columns (now (tails .entry)) (now (heads .entry)) (now (weights .entry))) count ⌝ }
+{
+    let records = count as usize;
+    if records > MAX_EDGES {
+        return Judged::Refused(4, 0);
+    }
+    judge_rules(n, tails, heads, weights, records)
+}
