@@ -1,1 +1,15 @@
+pub mod Options
+pub mod Split
+pub mod Digits
+pub mod Fields
+pub mod Positions
+pub mod Reading
+pub mod Places
+pub mod Sorted
+pub mod Count
+pub mod Network
+pub mod Sources
+pub mod Caps
+pub mod Written
+pub mod Theorems
 pub mod Examples

@@ -4,3 +4,4 @@ pub mod Read
 pub mod Network
 pub mod Sources
 pub mod Call
+pub mod Claims

@@ -19,10 +19,10 @@ use Rattle.graph.proofs.Verdicts.{then-accept, accept-then, if-accept, 
 
 -- ---- the order of edges
 
-abbrev Less : Edge → Edge → Type 0
+abbrev pub Less : Edge → Edge → Type 0
 Less e f = (e .tail < f .tail) ⊎ ((e .tail ≡ f .tail) × (e .head < f .head))
 
-less-of : (e f : Edge) → precedes e f ≡ true → Less e f
+pub less-of : (e f : Edge) → precedes e f ≡ true → Less e f
 less-of e f h = pick (ltb (e .tail) (f .tail)) refl h
   where
     pick : (b : Bool) → ltb (e .tail) (f .tail) ≡ b → (b || (eqb (e .tail) (f .tail) && ltb (e .head) (f .head))) ≡ true → Less e f

@@ -1,7 +1,7 @@
 -- The edges below a count of three lists: their number, each of them, what is left from an index on, one more, one less.
 -- Assumes nothing.
 use mathlib.Core.Path.{_≡_, refl, ap, _∙_}
-use mathlib.Core.List.{List, [], _∷_, map}
+use mathlib.Core.List.{List, [], _∷_, _++_, map}
 use Prim.Native.Nat.{ℕ, zero, suc, _+_, _-_, _<_, _≤_}
 use native.Mathlib.Numerals.{add-one}
 use native.Mathlib.Omega.{arith}
@@ -138,3 +138,10 @@ module _ (ts hs ws : List ℕ) (m : ℕ) (r : Room m ts hs ws) where
   pub edges-heads : headsOf (edges ts hs ws m) ≡ take m hs
   unfolding edges
   edges-heads = zip-columns m (take m ts) (take m hs) (take m ws) (length-take-le m ts (r .tails)) (length-take-le m hs (r .heads)) (length-take-le m ws (r .weights)) .1
+
+-- edges that stand in three lists are read from them, whatever follows
+pub edges-back : (fs : List Edge) (a b c : List ℕ)
+    → edges (map (λ e. e .tail) fs ++ a) (map (λ e. e .head) fs ++ b) (map (λ e. e .weight) fs ++ c) (length fs) ≡ fs
+unfolding edges zip
+edges-back [] a b c = refl
+edges-back (e ∷ fs) a b c = ap (λ l. e ∷ l) (edges-back fs a b c)

@@ -13,7 +13,7 @@ use Rattle.graph.specs.Refusal.{accept, refuseIf, over}
 use Rattle.graph.specs.Edge.{Edge, present, zip, edges}
 use Rattle.graph.specs.Table.{Columns, edgesOf, isWeight, rules, shortTable, table, insert, delete}
 use Rattle.graph.proofs.Tests.{both, and-true, neither}
-use Rattle.graph.proofs.Records.{room-less, edges-length}
+use Rattle.graph.proofs.Records.{room-less, edges-length, edges-back}
 use Rattle.graph.proofs.Judging.{lengths-accept, table-accept}
 use Rattle.graph.proofs.Verdicts.{then-accept, accept-then, if-accept, accept-if}
 use Rattle.graph.proofs.Order.{Sound, rules-accept, accept-rules, insert-sound, delete-sound, length-insert, length-delete}
@@ -79,13 +79,6 @@ table-count cs m h l =
 
 pub length-over : (new old : List ℕ) → length new ≤ length old → length (over new old) ≡ length old
 length-over new old h = length-append new (drop (length new) old) ∙ (let e = length-drop (length new) old in omega arith)
-
--- edges that stand in three lists are read from them, whatever follows
-edges-back : (fs : List Edge) (a b c : List ℕ)
-    → edges (map (λ e. e .tail) fs ++ a) (map (λ e. e .head) fs ++ b) (map (λ e. e .weight) fs ++ c) (length fs) ≡ fs
-unfolding edges zip
-edges-back [] a b c = refl
-edges-back (e ∷ fs) a b c = ap (λ l. e ∷ l) (edges-back fs a b c)
 
 pub rewritten-edges : (fs : List Edge) (cs : Columns) → edgesOf (rewritten fs cs) (length fs) ≡ fs
 rewritten-edges fs cs =

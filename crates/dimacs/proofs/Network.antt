@@ -1,0 +1,247 @@
+-- Network text is an instance of Reading: its items are spelled as lines, no state is a dead end, and the items that lead to a complete state are those of a good
+-- text. Assumes nothing.
+use mathlib.Core.Path.{_≡_, refl, sym, ap, subst, _∙_}
+use mathlib.Core.Logic.{_⊎_, inl, inr}
+use mathlib.Core.Bool.{Bool, true, false, not, cond, false≢true}
+use mathlib.Core.List.{List, [], _∷_, _++_, map}
+use mathlib.Core.Option.{none, some, bind}
+use Prim.Native.Nat.{ℕ, zero, suc, _+_, _-_, _*_, _≤_, _<_}
+use native.Mathlib.Omega.{arith}
+use lib.Dec.{leb, ltb}
+use lib.ListN.{length}
+use borrow.Author.Tests.{lt-ltb, le-leb, ltb-true, leb-true, eqb-true, eq-eqb, not-true}
+use Rattle.graph.specs.Limits.{maxVertices, maxEdges}
+use Rattle.graph.specs.Edge.{Edge, edge, present}
+use Rattle.graph.specs.Table.{isEdge, insert}
+use Rattle.graph.proofs.Tests.{both, and-true}
+use Rattle.graph.proofs.Order.{length-insert}
+use Rattle.dimacs.proofs.Options.{none-some, some-same, bind-some, cond-some}
+use Rattle.dimacs.proofs.Fields.{plain-fields, marked-fields, either-spells}
+use Rattle.dimacs.proofs.Reading.{acts, speaks, Ends, Spelling, NoDeadEnd, accepts, accepted}
+use Rattle.dimacs.proofs.Sorted.{into, length-sorted, Fresh, fresh-insert, insert-fresh, fresh-none, sorted-sound}
+use Rattle.dimacs.proofs.Count.{sound-length, unused}
+use Rattle.dimacs.specs.Lines.{plain, fieldsOf, Spelled}
+use Rattle.dimacs.specs.Read.{after, good}
+use Rattle.dimacs.specs.Network.{Item, problem, arc, problemMark, arcMark, itemOf, Distinct, Edges, sorted, problemFrom, arcOf, arcFrom, orElse, itemIn, State, start, within, opens, takes, act, complete, Good, readNetwork}
+
+-- ---- lines
+
+item-reads : (x : Item) → itemIn (itemOf x) ≡ some x
+unfolding itemIn itemOf
+item-reads (problem n m) = rw (marked-fields problemMark (n ∷ m ∷ []) problemFrom) (unfold problemFrom orElse in refl)
+item-reads (arc e) = rw (marked-fields arcMark (suc (e .tail) ∷ suc (e .head) ∷ e .weight ∷ []) arcFrom) (unfold after bind orElse arcFrom arcOf in refl)
+
+problem-spells : (vs : List ℕ) (x : Item) → problemFrom vs ≡ some x → problemMark ++ fieldsOf vs ≡ itemOf x
+unfolding problemFrom itemOf
+problem-spells [] x h = absurd (none-some h)
+problem-spells (n ∷ []) x h = absurd (none-some h)
+problem-spells (n ∷ m ∷ []) x h = let w : problem n m ≡ x = some-same h in rw (← w)
+problem-spells (n ∷ m ∷ k ∷ ks) x h = absurd (none-some h)
+
+arc-of-spells : (t h w : ℕ) (x : Item) → arcOf t h w ≡ some x → arcMark ++ fieldsOf (t ∷ h ∷ w ∷ []) ≡ itemOf x
+unfolding arcOf itemOf
+arc-of-spells zero h w x e = absurd (none-some e)
+arc-of-spells (suc t) zero w x e = absurd (none-some e)
+arc-of-spells (suc t) (suc h) w x e = let z : arc (edge t h w) ≡ x = some-same e in rw (← z)
+
+arc-spells : (vs : List ℕ) (x : Item) → arcFrom vs ≡ some x → arcMark ++ fieldsOf vs ≡ itemOf x
+unfolding arcFrom
+arc-spells [] x h = absurd (none-some h)
+arc-spells (a ∷ []) x h = absurd (none-some h)
+arc-spells (a ∷ b ∷ []) x h = absurd (none-some h)
+arc-spells (a ∷ b ∷ c ∷ []) x h = arc-of-spells a b c x h
+arc-spells (a ∷ b ∷ c ∷ d ∷ ds) x h = absurd (none-some h)
+
+item-spells : (l : List ℕ) (x : Item) → itemIn l ≡ some x → l ≡ itemOf x
+unfolding itemIn
+item-spells l x h = either-spells itemOf problemMark 2 problemFrom problem-spells arcMark 3 arcFrom arc-spells l x h
+
+item-speaks : (x : Item) → speaks (itemOf x) ≡ true
+unfolding itemOf speaks
+item-speaks (problem n m) = refl
+item-speaks (arc e) = refl
+
+item-plain : (x : Item) → plain (itemOf x) ≡ true
+unfolding itemOf plain
+item-plain (problem n m) = plain-fields (n ∷ m ∷ [])
+item-plain (arc e) = plain-fields (suc (e .tail) ∷ suc (e .head) ∷ e .weight ∷ [])
+
+pub network-spelling : Spelling itemOf itemIn
+network-spelling = record { reads-spelled = item-reads; spells-read = item-spells; no-comment = item-speaks; one-line = item-plain }
+
+-- ---- what a state takes
+
+pub opens-facts : (n m : ℕ) → opens n m ≡ true → (0 < n) × (n ≤ maxVertices) × (m ≤ maxEdges) × (m ≤ n * (n - 1))
+unfolding opens
+opens-facts n m h =
+    let (p, h₁) = both (ltb 0 n) _ h in
+    let (q, h₂) = both (leb n maxVertices) _ h₁ in
+    let (r, s) = both (leb m maxEdges) _ h₂ in
+    (ltb-true _ _ p, leb-true _ _ q, leb-true _ _ r, leb-true _ _ s)
+
+pub opens-true : (n m : ℕ) → 0 < n → n ≤ maxVertices → m ≤ maxEdges → m ≤ n * (n - 1) → opens n m ≡ true
+unfolding opens
+opens-true n m p q r s = rw (lt-ltb 0 n p, le-leb n maxVertices q, le-leb m maxEdges r, le-leb m (n * (n - 1)) s)
+
+pub takes-facts : (n m : ℕ) (es : List Edge) (e : Edge) → takes n m es e ≡ true → (length es < m) × (isEdge n e ≡ true) × (present es e ≡ false)
+unfolding takes
+takes-facts n m es e h =
+    let (p, q) = both (ltb (length es) m) _ h in
+    let (r, s) = both (isEdge n e) _ q in
+    (ltb-true _ _ p, r, not-true _ s)
+
+pub takes-true : (n m : ℕ) (es : List Edge) (e : Edge) → length es < m → isEdge n e ≡ true → present es e ≡ false → takes n m es e ≡ true
+unfolding takes
+takes-true n m es e p q r = and-true (lt-ltb (length es) m p) (and-true q (ap not r))
+
+-- ---- items after the p line
+
+-- edges that keep the rules are all taken
+arcs-taken : (n m : ℕ) (es fs : List Edge) → Edges n fs → Fresh es fs → Distinct fs → length es + length fs ≤ m → acts act (within n m es) (map arc fs) ≡ some (within n m (into es fs))
+unfolding acts act bind
+arcs-taken n m es [] a f d h = refl
+arcs-taken n m es (e ∷ fs) a f d h =
+    ap (λ (b : Bool). bind (cond b (some (within n m (insert e es))) none) (λ s. acts act s (map arc fs))) (takes-true n m es e (omega arith) (a .0) (f .0))
+    ∙ arcs-taken n m (insert e es) fs (a .1) (fresh-insert e es fs (f .1) (d .0)) (d .1) (omega (arith, length-insert e es))
+
+-- and what is taken keeps them
+record Taken (n m : ℕ) (es : List Edge) (xs : List Item) (s : State) : Type 0 where
+  pub arcs : List Edge
+  pub items : xs ≡ map arc arcs
+  pub edges : Edges n arcs
+  pub fresh : Fresh es arcs
+  pub distinct : Distinct arcs
+  pub few : length es ≤ m → length es + length arcs ≤ m
+  pub state : s ≡ within n m (into es arcs)
+
+taken-arc : (n m : ℕ) (es : List Edge) (e : Edge) (xs : List Item) (s : State) → length es < m → isEdge n e ≡ true → present es e ≡ false → Taken n m (insert e es) xs s → Taken n m es (arc e ∷ xs) s
+taken-arc n m es e xs s l p q t =
+    let i = length-insert e es in
+    let (u, v) = insert-fresh e es (t .arcs) (t .fresh) in
+    record {
+      arcs = e ∷ t .arcs;
+      items = ap (λ (ys : List Item). arc e ∷ ys) (t .items);
+      edges = (p, t .edges);
+      fresh = (q, u);
+      distinct = (v, t .distinct);
+      few = λ z. (let y = t .few (omega arith) in omega arith);
+      state = t .state;
+    }
+
+taken : (xs : List Item) (n m : ℕ) (es : List Edge) (s : State) → acts act (within n m es) xs ≡ some s → Taken n m es xs s
+unfolding acts act bind
+taken [] n m es s h = record { arcs = []; items = refl; edges = tt; fresh = tt; distinct = tt; few = λ z. omega arith; state = sym (some-same h) }
+taken (problem v k ∷ xs) n m es s h = absurd (none-some h)
+taken (arc e ∷ xs) n m es s h =
+    let (t, p, q) = bind-some (cond (takes n m es e) (some (within n m (insert e es))) none) _ s h in
+    let (b, w) = cond-some (takes n m es e) (within n m (insert e es)) t p in
+    let (x, y, z) = takes-facts n m es e b in
+    taken-arc n m es e xs s x y z (taken xs n m (insert e es) s (subst (λ (u : State). acts act u xs ≡ some s) (sym w) q))
+
+-- ---- all items
+
+record Opened (xs : List Item) (s : State) : Type 0 where
+  pub n : ℕ
+  pub m : ℕ
+  pub rest : List Item
+  pub items : xs ≡ problem n m ∷ rest
+  pub opens : opens n m ≡ true
+  pub taken : Taken n m [] rest s
+
+opened : (xs : List Item) (s : State) → acts act start xs ≡ some s → (s ≡ start) ⊎ Opened xs s
+unfolding acts act bind
+opened [] s h = inl (sym (some-same h))
+opened (arc e ∷ xs) s h = absurd (none-some h)
+opened (problem n m ∷ xs) s h =
+    let (t, p, q) = bind-some (cond (opens n m) (some (within n m [])) none) _ s h in
+    let (b, w) = cond-some (opens n m) (within n m []) t p in
+    inr (record { n = n; m = m; rest = xs; items = refl; opens = b; taken = taken xs n m [] s (subst (λ (u : State). acts act u xs ≡ some s) (sym w) q) })
+
+-- ---- each state that is reached can be completed
+
+more-arc : (n m : ℕ) (es : List Edge) (e : Edge) → length es < m → isEdge n e ≡ true → present es e ≡ false → Ends act complete (within n m (insert e es)) → Ends act complete (within n m es)
+unfolding acts act bind
+more-arc n m es e l p q d = record {
+  items = arc e ∷ d .items;
+  end = d .end;
+  reached = ap (λ (b : Bool). bind (cond b (some (within n m (insert e es))) none) (λ s. acts act s (d .items))) (takes-true n m es e l p q) ∙ d .reached;
+  completed = d .completed;
+}
+
+-- M2 is at most n × (n − 1), so that while edges are to come a pair is unused: `a` lines of unused pairs follow
+fill : (k n m : ℕ) (es : List Edge) → opens n m ≡ true → length es + k ≡ m → Ends act complete (within n m es)
+unfolding acts complete
+fill zero n m es o h = record { items = []; end = within n m es; reached = refl; completed = eq-eqb (length es) m (omega arith) }
+fill (suc k) n m es o h =
+    let (a, b, c, d) = opens-facts n m o in
+    let (e, p, q) = unused n es a (omega arith) in
+    more-arc n m es e (omega arith) p q (fill k n m (insert e es) o (omega (arith, length-insert e es)))
+
+-- before the p line, `p sp 1 0` completes the text
+pub network-goes-on : NoDeadEnd act complete start
+network-goes-on xs s h = pick (opened xs s h)
+  where
+    first : Ends act complete start
+    first = unfold acts act opens complete bind in record { items = problem 1 0 ∷ []; end = within 1 0 []; reached = refl; completed = refl }
+
+    pick : (s ≡ start) ⊎ Opened xs s → Ends act complete s
+    pick (inl q) = rw q first
+    pick (inr o) =
+        let t = o .taken in
+        let l : length (into [] (t .arcs)) ≡ length (t .arcs) = length-sorted (t .arcs) in
+        let f : length (t .arcs) ≤ o .m = omega (arith, t .few (omega arith)) in
+        rw (t .state) (fill (o .m - length (t .arcs)) (o .n) (o .m) (into [] (t .arcs)) (o .opens) (omega arith))
+
+-- ---- the items of a good text, and no others, lead to a complete state
+
+good-acts : (n : ℕ) (fs : List Edge) → 0 < n → n ≤ maxVertices → length fs ≤ maxEdges → Edges n fs → Distinct fs
+    → acts act start (problem n (length fs) ∷ map arc fs) ≡ some (within n (length fs) (sorted fs))
+unfolding acts act bind
+good-acts n fs p q r a d =
+    let l : length fs ≤ n * (n - 1) = omega (arith, length-sorted fs, sound-length n (sorted fs) (sorted-sound n fs a d)) in
+    ap (λ (b : Bool). bind (cond b (some (within n (length fs) [])) none) (λ s. acts act s (map arc fs))) (opens-true n (length fs) p q r l)
+    ∙ arcs-taken n (length fs) [] fs a (fresh-none fs) d (omega arith)
+
+pub good-read : (text : List ℕ) (n : ℕ) (es : List Edge) → Good text n es → readNetwork text ≡ good (within n (length es) es)
+unfolding readNetwork complete
+good-read text n es g =
+    let l : length (g .arcs) ≡ length es = sym (length-sorted (g .arcs)) ∙ ap length (sym (g .table)) in
+    accepts network-spelling act complete start (within n (length es) es) (g .spelled)
+    (good-acts n (g .arcs) (g .some-vertex) (g .vertices) (g .few) (g .edges) (g .distinct)
+    ∙ ap (λ (fs : List Edge). some (within n (length (g .arcs)) fs)) (sym (g .table))
+    ∙ ap (λ (m : ℕ). some (within n m es)) l)
+    (eq-eqb (length es) (length es) refl)
+
+-- what an accepted text says
+opened-good : (text : List ℕ) (xs : List Item) (s : State) → Spelled itemOf text xs → Opened xs s → complete s ≡ true → (n : ℕ) × (es : List Edge) × (s ≡ within n (length es) es) × Good text n es
+unfolding complete
+opened-good text xs s d o c =
+    let t = o .taken in
+    let (a, b, m, z) = opens-facts (o .n) (o .m) (o .opens) in
+    let l : length (sorted (t .arcs)) ≡ o .m = eqb-true _ _ (subst (λ (u : State). complete u ≡ true) (t .state) c) in
+    let k : o .m ≡ length (t .arcs) = sym l ∙ length-sorted (t .arcs) in (
+      o .n,
+      sorted (t .arcs),
+      t .state ∙ ap (λ (j : ℕ). within (o .n) j (sorted (t .arcs))) (sym l),
+      record {
+        arcs = t .arcs;
+        spelled = subst (λ (ys : List Item). Spelled itemOf text ys) (o .items ∙ ap (λ (ys : List Item). problem (o .n) (o .m) ∷ ys) (t .items) ∙ ap (λ (j : ℕ). problem (o .n) j ∷ map arc (t .arcs)) k) d;
+        some-vertex = a;
+        vertices = b;
+        few = omega arith;
+        edges = t .edges;
+        distinct = t .distinct;
+        table = refl;
+      },
+    )
+
+pub read-good : (text : List ℕ) (s : State) → readNetwork text ≡ good s → (n : ℕ) × (es : List Edge) × (s ≡ within n (length es) es) × Good text n es
+unfolding readNetwork
+read-good text s h = let (xs, d, p, c) = accepted network-spelling act complete start text s h in pick xs d c (opened xs s p)
+  where
+    never : s ≡ start → complete s ≡ true → ⊥
+    never p c = unfold complete in false≢true (rw p at c)
+
+    pick : (xs : List Item) → Spelled itemOf text xs → complete s ≡ true → (s ≡ start) ⊎ Opened xs s → (n : ℕ) × (es : List Edge) × (s ≡ within n (length es) es) × Good text n es
+    pick xs d c (inl q) = absurd (never q c)
+    pick xs d c (inr o) = opened-good text xs s d o c

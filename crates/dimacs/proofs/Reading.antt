@@ -1,0 +1,369 @@
+-- Reading any text of lines, for every list of bytes. Where items are spelled as lines, the reader accepts exactly the texts whose
+-- items lead to a complete state; where also no state is a dead end, it refuses at the place of document 01, number 14.
+-- Network text and source files are two instances. Assumes nothing.
+--
+--   acts act s as            == the state after the items as
+--   speaks l                 == l is there and is no comment
+--   Ends act complete s      == items lead from s to a complete state
+--   Spelling spell parse     == each item has one spelling, which is one line and no comment, and is read from that alone
+--   NoDeadEnd                == each state that is reached can be completed
+--   readFrom .. k s x        == the reader with x left, after k lines
+--   steps s ls               == the state after the lines ls
+--   Accepts text             == the reader accepts text
+use mathlib.Core.Path.{_≡_, refl, sym, ap, subst, _∙_}
+use mathlib.Core.Bool.{Bool, true, false, not, false≢true}
+use mathlib.Core.List.{List, [], _∷_, _++_, map}
+use mathlib.Core.Option.{Option, none, some, bind}
+use Prim.Native.Nat.{ℕ, suc, _+_, _-_, _≤_, _<_}
+use native.Mathlib.Numerals.{add-one}
+use native.Mathlib.Omega.{arith}
+use lib.Dec.{eqb}
+use lib.ListN.{length, getD, take, drop}
+use borrow.Author.Tests.{eqb-true, eqb-false, not-true}
+use Rattle.dimacs.proofs.Options.{none-some, some-same, bind-some}
+use Rattle.dimacs.proofs.Positions.{line-item, split-feed, split-rest}
+use Rattle.dimacs.proofs.Split.{Plains, joined-append, split-joined, split-spelled, split-plain, split-lines, plains-append, plains-take}
+use Rattle.dimacs.specs.Lines.{joined, Split, split, plain, Line, bare, comment, says, lineOf, spoken, Plain, Spelled, Begins, Place}
+use Rattle.dimacs.specs.Read.{commentOf, spokenBy, lineIn, Read, good, bad, heard, step, ended, reading, read}
+
+-- ---- items
+
+unfoldable pub acts : {A S : Type 0} → (S → A → Option S) → S → List A → Option S
+acts act s [] = some s
+acts act s (a ∷ as′) = bind (act s a) (λ t. acts act t as′)
+
+pub spoken-says : {A : Type 0} (as′ : List A) → spoken (map says as′) ≡ as′
+unfolding spoken
+spoken-says [] = refl
+spoken-says (a ∷ as′) = ap (λ (bs : List _). a ∷ bs) (spoken-says as′)
+
+pub map-says : {A : Type 0} (f : A → List ℕ) (as′ : List A) → map (lineOf f) (map says as′) ≡ map f as′
+unfolding lineOf
+map-says f [] = refl
+map-says f (a ∷ as′) = ap (λ (ls : List (List ℕ)). f a ∷ ls) (map-says f as′)
+
+-- a line that is there and is no comment
+unfoldable pub speaks : List ℕ → Bool
+speaks [] = false
+speaks (b ∷ s) = not (eqb b 99)
+
+pub record Ends {A S : Type 0} (act : S → A → Option S) (complete : S → Bool) (s : S) : Type 0 where
+  pub items : List A
+  pub end : S
+  pub reached : acts act s items ≡ some end
+  pub completed : complete end ≡ true
+
+-- items spelled as lines
+pub record Spelling {A : Type 0} (spell : A → List ℕ) (parse : List ℕ → Option A) : Type 0 where
+  -- each item is read from its bytes, and from no others
+  pub reads-spelled : (a : A) → parse (spell a) ≡ some a
+  pub spells-read : (l : List ℕ) (a : A) → parse l ≡ some a → l ≡ spell a
+  -- its bytes are one line and no comment
+  pub no-comment : (a : A) → speaks (spell a) ≡ true
+  pub one-line : (a : A) → plain (spell a) ≡ true
+
+-- each state that is reached can be completed
+abbrev pub NoDeadEnd : {A S : Type 0} → (S → A → Option S) → (S → Bool) → S → Type 0
+NoDeadEnd {A} {S} act complete start = (as′ : List A) (s : S) → acts act start as′ ≡ some s → Ends act complete s
+
+-- ---- one turn of the reader
+
+module _ {A S : Type 0} (parse : List ℕ → Option A) (act : S → A → Option S) (complete : S → Bool) where
+  pub reading-none : (l : List ℕ) (ls : List (List ℕ)) (r : List ℕ) (k : ℕ) (s : S) → step parse act complete s l ≡ none
+      → reading parse act complete (l ∷ ls) r k s ≡ bad (suc k)
+  unfolding reading
+  reading-none l ls r k s e = rw (e, reading)
+
+  pub reading-some : (l : List ℕ) (ls : List (List ℕ)) (r : List ℕ) (k : ℕ) (s t : S) → step parse act complete s l ≡ some t
+      → reading parse act complete (l ∷ ls) r k s ≡ reading parse act complete ls r (suc k) t
+  unfolding reading
+  reading-some l ls r k s t e = rw (e, reading)
+
+  -- the rest x of a text is left, k lines are read
+  abbrev pub readFrom : ℕ → S → List ℕ → Read S
+  readFrom k s x = reading parse act complete (split x .lines) (split x .rest) k s
+
+  pub read-from : (s : S) (text : List ℕ) → read parse act complete s text ≡ readFrom 0 s text
+  unfolding read
+  read-from s text = refl
+
+  -- the line from i on ends at the line feed at i + j
+  module _ (x : List ℕ) (i j : ℕ) (l : i + j < length x) (p : plain (take j (drop i x)) ≡ true) (e : getD x (i + j) 0 ≡ 10) (k : ℕ) (s : S) where
+    pub turn-some : (t : S) → step parse act complete s (take j (drop i x)) ≡ some t → readFrom k s (drop i x) ≡ readFrom (k + 1) t (drop (i + j + 1) x)
+    turn-some t h =
+        ap (λ (q : Split). reading parse act complete (q .lines) (q .rest) k s) (split-feed x i j l p e)
+        ∙ reading-some (take j (drop i x)) (split (drop (i + j + 1) x) .lines) (split (drop (i + j + 1) x) .rest) k s t h
+        ∙ ap (λ (m : ℕ). readFrom m t (drop (i + j + 1) x)) (sym (add-one k))
+
+    pub turn-none : step parse act complete s (take j (drop i x)) ≡ none → readFrom k s (drop i x) ≡ bad (k + 1)
+    turn-none h =
+        ap (λ (q : Split). reading parse act complete (q .lines) (q .rest) k s) (split-feed x i j l p e)
+        ∙ reading-none (take j (drop i x)) (split (drop (i + j + 1) x) .lines) (split (drop (i + j + 1) x) .rest) k s h
+        ∙ ap (λ (m : ℕ). bad m) (sym (add-one k))
+
+  -- no line feed follows
+  pub turn-rest : (x : List ℕ) → plain x ≡ true → (k : ℕ) (s : S) → readFrom k s x ≡ ended parse act complete x k s
+  unfolding reading
+  turn-rest x p k s = ap (λ (q : Split). reading parse act complete (q .lines) (q .rest) k s) (split-rest x p)
+
+module _ {A S : Type 0} {spell : A → List ℕ} {parse : List ℕ → Option A} (laws : Spelling spell parse) (act : S → A → Option S) (complete : S → Bool) (start : S) where
+  -- ---- one line
+
+  says-in : (l : List ℕ) → speaks l ≡ true → lineIn parse l ≡ spokenBy (parse l)
+  unfolding speaks
+  says-in [] h = absurd (false≢true h)
+  says-in (b ∷ s) h = line-item parse (b ∷ s) (omega arith) (eqb-false b 99 (not-true (eqb b 99) h))
+
+  pub line-in : (x : Line A) → lineIn parse (lineOf spell x) ≡ some x
+  unfolding lineOf lineIn commentOf
+  line-in bare = refl
+  line-in (comment s) = refl
+  line-in (says a) = says-in (spell a) (laws .no-comment a) ∙ rw (laws .reads-spelled a) (unfold spokenBy in refl)
+
+  comment-spells : (s : List ℕ) (x : Line A) → commentOf s ≡ some x → 99 ∷ s ≡ lineOf spell x
+  unfolding commentOf lineOf
+  comment-spells [] x h = let w : bare ≡ x = some-same h in rw (← w)
+  comment-spells (b ∷ s) x h = pick (eqb b 32) refl
+    where
+      pick : (t : Bool) → eqb b 32 ≡ t → 99 ∷ (b ∷ s) ≡ lineOf spell x
+      pick true e = let w : comment s ≡ x = some-same (rw e at h) in rw (eqb-true b 32 e, ← w)
+      pick false e = absurd (none-some (rw e at h))
+
+  spoken-spells : (l : List ℕ) (o : Option A) (x : Line A) → parse l ≡ o → spokenBy o ≡ some x → l ≡ lineOf spell x
+  unfolding spokenBy lineOf
+  spoken-spells l none x e h = absurd (none-some h)
+  spoken-spells l (some a) x e h = let w : says a ≡ x = some-same h in rw (← w) (laws .spells-read l a e)
+
+  pub line-spells : (l : List ℕ) (x : Line A) → lineIn parse l ≡ some x → l ≡ lineOf spell x
+  unfolding lineIn
+  line-spells [] x h = absurd (none-some h)
+  line-spells (b ∷ s) x h = pick (eqb b 99) refl
+    where
+      pick : (t : Bool) → eqb b 99 ≡ t → b ∷ s ≡ lineOf spell x
+      pick true e = rw (eqb-true b 99 e) (comment-spells s x (rw e at h))
+      pick false e = spoken-spells (b ∷ s) (parse (b ∷ s)) x refl (rw e at h)
+
+  -- ---- several lines
+
+  unfoldable pub steps : S → List (List ℕ) → Option S
+  steps s [] = some s
+  steps s (l ∷ ls) = bind (step parse act complete s l) (λ t. steps t ls)
+
+  pub steps-append : (ls ms : List (List ℕ)) (s : S) → steps s (ls ++ ms) ≡ bind (steps s ls) (λ t. steps t ms)
+  unfolding steps bind
+  steps-append [] ms s = refl
+  steps-append (l ∷ ls) ms s = pick (step parse act complete s l) (λ t. steps-append ls ms t)
+    where
+      pick : (o : Option S) → ((t : S) → steps t (ls ++ ms) ≡ bind (steps t ls) (λ u. steps u ms))
+          → bind o (λ t. steps t (ls ++ ms)) ≡ bind (bind o (λ t. steps t ls)) (λ u. steps u ms)
+      pick none ih = refl
+      pick (some t) ih = ih t
+
+  step-line : (s : S) (x : Line A) → step parse act complete s (lineOf spell x) ≡ heard parse act complete s x
+  unfolding step
+  step-line s x = rw (line-in x) (unfold bind in refl)
+
+  -- comments change nothing, and the others act
+  pub steps-lines : (xs : List (Line A)) (s : S) → steps s (map (lineOf spell) xs) ≡ acts act s (spoken xs)
+  unfolding steps acts spoken heard bind
+  steps-lines [] s = refl
+  steps-lines (bare ∷ xs) s = ap (λ (o : Option S). bind o (λ t. steps t (map (lineOf spell) xs))) (step-line s bare) ∙ steps-lines xs s
+  steps-lines (comment c ∷ xs) s = ap (λ (o : Option S). bind o (λ t. steps t (map (lineOf spell) xs))) (step-line s (comment c)) ∙ steps-lines xs s
+  steps-lines (says a ∷ xs) s = ap (λ (o : Option S). bind o (λ t. steps t (map (lineOf spell) xs))) (step-line s (says a)) ∙ pick (act s a) (λ t. steps-lines xs t)
+    where
+      pick : (o : Option S) → ((t : S) → steps t (map (lineOf spell) xs) ≡ acts act t (spoken xs))
+          → bind o (λ t. steps t (map (lineOf spell) xs)) ≡ bind o (λ t. acts act t (spoken xs))
+      pick none ih = refl
+      pick (some t) ih = ih t
+
+  -- lines that are read to the end say something
+  pub steps-said : (ls : List (List ℕ)) (s t : S) → steps s ls ≡ some t → (xs : List (Line A)) × (ls ≡ map (lineOf spell) xs)
+  unfolding steps step
+  steps-said [] s t h = ([], refl)
+  steps-said (l ∷ ls) s t h =
+      let (u, p, q) = bind-some (step parse act complete s l) _ t h in
+      let (x, p₁, q₁) = bind-some (lineIn parse l) _ u p in
+      let (xs, e) = steps-said ls u t q in
+      (x ∷ xs, rw (← line-spells l x p₁, ← e))
+
+  -- ---- the whole text
+
+  good-bad : {s : S} {k : ℕ} → _≡_ {A = Read S} (bad k) (good s) → ⊥
+  good-bad h = let z : _≡_ {A = ℕ} 0 1 = cc in omega arith
+
+  ended-good : (r : List ℕ) (k : ℕ) (s t : S) → ended parse act complete r k s ≡ good t → (s ≡ t) × (r ≡ []) × (complete t ≡ true)
+  unfolding ended
+  ended-good (b ∷ r) k s t h = absurd (good-bad h)
+  ended-good [] k s t h = pick (complete s) refl
+    where
+      same : complete s ≡ true → _≡_ {A = Read S} (good s) (good t) → (s ≡ t) × (_≡_ {A = List ℕ} [] []) × (complete t ≡ true)
+      same e q = let w : s ≡ t = cc in (w, refl, rw w at e)
+
+      pick : (b : Bool) → complete s ≡ b → (s ≡ t) × (_≡_ {A = List ℕ} [] []) × (complete t ≡ true)
+      pick true e = same e (rw e at h)
+      pick false e = absurd (good-bad (rw e at h))
+
+  -- the reader goes by steps
+  reading-good : (ls : List (List ℕ)) (r : List ℕ) (k : ℕ) (s t : S) → reading parse act complete ls r k s ≡ good t
+      → (steps s ls ≡ some t) × (r ≡ []) × (complete t ≡ true)
+  unfolding reading steps bind
+  reading-good [] r k s t h = let (p, q, c) = ended-good r k s t h in (ap (λ (x : S). some x) p, q, c)
+  reading-good (l ∷ ls) r k s t h = pick (step parse act complete s l) refl (λ u. reading-good ls r (suc k) u t)
+    where
+      pick : (o : Option S) → step parse act complete s l ≡ o
+          → ((u : S) → reading parse act complete ls r (suc k) u ≡ good t → (steps u ls ≡ some t) × (r ≡ []) × (complete t ≡ true))
+          → (bind (step parse act complete s l) (λ u. steps u ls) ≡ some t) × (r ≡ []) × (complete t ≡ true)
+      pick none e ih = absurd (good-bad (sym (reading-none parse act complete l ls r k s e) ∙ h))
+      pick (some u) e ih = rw e (ih u (sym (reading-some parse act complete l ls r k s u e) ∙ h))
+
+  good-reading : (ls : List (List ℕ)) (k : ℕ) (s t : S) → steps s ls ≡ some t → complete t ≡ true → reading parse act complete ls [] k s ≡ good t
+  unfolding reading steps ended bind
+  good-reading [] k s t h c = let w : s ≡ t = some-same h in rw (w, c)
+  good-reading (l ∷ ls) k s t h c = pick (step parse act complete s l) refl (λ u q. good-reading ls (suc k) u t q c)
+    where
+      pick : (o : Option S) → step parse act complete s l ≡ o → ((u : S) → steps u ls ≡ some t → reading parse act complete ls [] (suc k) u ≡ good t)
+          → reading parse act complete (l ∷ ls) [] k s ≡ good t
+      pick none e ih = absurd (none-some (rw e at h))
+      pick (some u) e ih = reading-some parse act complete l ls [] k s u e ∙ ih u (rw e at h)
+
+  -- ---- exactly the good texts are accepted
+
+  -- A spelled text splits into its lines, each line says what it was spelled from, and comments change nothing: the reader comes
+  -- to the state after the items. The other way round, lines that were all read say something, spell it, and nothing is left.
+
+  pub plains-of : (xs : List (Line A)) → Plain spell xs → Plains (map (lineOf spell) xs)
+  plains-of [] p = tt
+  plains-of (x ∷ xs) p = (p .0, plains-of xs (p .1))
+
+  of-plains : (xs : List (Line A)) → Plains (map (lineOf spell) xs) → Plain spell xs
+  of-plains [] p = tt
+  of-plains (x ∷ xs) p = (p .0, of-plains xs (p .1))
+
+  -- what a reader says at the end of whole lines that lead to a complete state
+  pub read-lines : (ls : List (List ℕ)) (t : S) → Plains ls → steps start ls ≡ some t → complete t ≡ true → read parse act complete start (joined ls) ≡ good t
+  unfolding read
+  read-lines ls t p h c = ap (λ (q : Split). reading parse act complete (q .lines) (q .rest) 0 start) (split-lines ls p) ∙ good-reading ls 0 start t h c
+
+  pub accepts : {text : List ℕ} {as′ : List A} (t : S) → Spelled spell text as′ → acts act start as′ ≡ some t → complete t ≡ true → read parse act complete start text ≡ good t
+  accepts t d h c =
+      ap (λ (s : List ℕ). read parse act complete start s) (d .spells)
+      ∙ read-lines (map (lineOf spell) (d .lines)) t (plains-of (d .lines) (d .plains)) (steps-lines (d .lines) start ∙ ap (λ (bs : List A). acts act start bs) (d .speaks) ∙ h) c
+
+  pub accepted : (text : List ℕ) (t : S) → read parse act complete start text ≡ good t → (as′ : List A) × Spelled spell text as′ × (acts act start as′ ≡ some t) × (complete t ≡ true)
+  unfolding read
+  accepted text t h =
+      let (p, q, c) = reading-good (split text .lines) (split text .rest) 0 start t h in
+      let (xs, e) = steps-said (split text .lines) start t p in (
+        spoken xs,
+        record { lines = xs; spells = split-spelled text (map (lineOf spell) xs) e q; plains = of-plains xs (subst Plains e (split-plain text)); speaks = refl },
+        sym (steps-lines xs start) ∙ ap (λ (ls : List (List ℕ)). steps start ls) (sym e) ∙ p,
+        c,
+      )
+
+  -- ---- the place of a refusal
+
+  abbrev pub Accepts : List ℕ → Type 0
+  Accepts text = (t : S) × (read parse act complete start text ≡ good t)
+
+  -- where a reading is refused: after i lines that are read, at the line after them, or at the end
+  record Stopped (s : S) (ls : List (List ℕ)) (i : ℕ) : Type 0 where
+    pub inside : i ≤ length ls
+    pub state : S
+    pub reached : steps s (take i ls) ≡ some state
+    pub dead : i < length ls → steps s (take (suc i) ls) ≡ none
+
+  ended-bad : (r : List ℕ) (k : ℕ) (s : S) (j : ℕ) → ended parse act complete r k s ≡ bad j → j ≡ suc k
+  unfolding ended
+  ended-bad (b ∷ r) k s j h = cc
+  ended-bad [] k s j h = pick (complete s) refl
+    where
+      pick : (b : Bool) → complete s ≡ b → j ≡ suc k
+      pick true e = absurd (good-bad (sym (rw e at h)))
+      pick false e = let q : _≡_ {A = Read S} (bad (suc k)) (bad j) = rw e at h in cc
+
+  reading-stops : (ls : List (List ℕ)) (r : List ℕ) (k : ℕ) (s : S) (j : ℕ) → reading parse act complete ls r k s ≡ bad j → (i : ℕ) × (j ≡ suc (k + i)) × Stopped s ls i
+  unfolding reading steps bind
+  reading-stops [] r k s j h = (
+    0,
+    omega (arith, ended-bad r k s j h),
+    record { inside = omega arith; state = s; reached = refl; dead = λ l. absurd (omega arith) },
+  )
+  reading-stops (l ∷ ls) r k s j h = pick (step parse act complete s l) refl (λ t. reading-stops ls r (suc k) t j)
+    where
+      pick : (o : Option S) → step parse act complete s l ≡ o
+          → ((t : S) → reading parse act complete ls r (suc k) t ≡ bad j → (i : ℕ) × (j ≡ suc (suc k + i)) × Stopped t ls i)
+          → (i : ℕ) × (j ≡ suc (k + i)) × Stopped s (l ∷ ls) i
+      pick none e ih =
+          let q : _≡_ {A = Read S} (bad (suc k)) (bad j) = sym (reading-none parse act complete l ls r k s e) ∙ h in
+          let w : suc k ≡ j = cc in
+          (0, omega arith, record { inside = omega arith; state = s; reached = refl; dead = λ z. rw e })
+      pick (some t) e ih =
+          let (i, p, d) = ih t (sym (reading-some parse act complete l ls r k s t e) ∙ h) in (
+            suc i,
+            omega arith,
+            record {
+              inside = omega (arith, d .inside);
+              state = d .state;
+              reached = rw e (d .reached);
+              dead = λ q. rw e (d .dead (omega arith));
+            },
+          )
+
+  plains-spelled : (as′ : List A) → Plains (map spell as′)
+  plains-spelled [] = tt
+  plains-spelled (a ∷ as′) = (laws .one-line a, plains-spelled as′)
+
+  steps-spelled : (as′ : List A) (s : S) → steps s (map spell as′) ≡ acts act s as′
+  unfolding lineOf
+  steps-spelled as′ s = ap (λ (ls : List (List ℕ)). steps s ls) (sym (map-says spell as′)) ∙ steps-lines (map says as′) s ∙ ap (λ (bs : List A). acts act s bs) (spoken-says as′)
+
+  -- lines that were read can go on to a text that is accepted: the items that complete the state follow
+  alive : (ls : List (List ℕ)) (s : S) → Plains ls → steps start ls ≡ some s → Ends act complete s → Begins Accepts (joined ls)
+  unfolding bind
+  alive ls s p h d = (
+    joined (map spell (d .items)),
+    (
+      d .end,
+      ap (λ (x : List ℕ). read parse act complete start x) (sym (joined-append ls (map spell (d .items))))
+          ∙ read-lines (ls ++ map spell (d .items)) (d .end) (plains-append ls (map spell (d .items)) p (plains-spelled (d .items)))
+          (steps-append ls (map spell (d .items)) start ∙ ap (λ (o : Option S). bind o (λ t. steps t (map spell (d .items)))) h ∙ steps-spelled (d .items) s ∙ d .reached)
+          (d .completed),
+    ),
+  )
+
+  steps-ends : NoDeadEnd act complete start → (ls : List (List ℕ)) (s : S) → steps start ls ≡ some s → Ends act complete s
+  steps-ends goes-on ls s h =
+      let (xs, e) = steps-said ls start s h in
+      goes-on (spoken xs) s (sym (steps-lines xs start) ∙ ap (λ (ms : List (List ℕ)). steps start ms) (sym e) ∙ h)
+
+  -- lines of which one was refused cannot
+  dead-end : (ls : List (List ℕ)) → Plains ls → steps start ls ≡ none → Begins Accepts (joined ls) → ⊥
+  unfolding read bind
+  dead-end ls p h (more, (t, g)) =
+      let (q, r, c) = reading-good (split (joined ls ++ more) .lines) (split (joined ls ++ more) .rest) 0 start t g in
+      none-some
+      (ap (λ (o : Option S). bind o (λ u. steps u (split more .lines))) (sym h)
+      ∙ sym (steps-append ls (split more .lines) start)
+      ∙ ap (λ (z : Split). steps start (z .lines)) (sym (split-joined ls more p))
+      ∙ q)
+
+  place-at : NoDeadEnd act complete start → (text : List ℕ) (i k : ℕ) → k ≡ suc i → Stopped start (split text .lines) i → read parse act complete start text ≡ bad k → Place Accepts text k
+  place-at goes-on text i k e d h =
+      let p = split-plain text in
+      let w : k - 1 ≡ i = omega arith in
+      record {
+        from-one = omega arith;
+        inside = omega (arith, d .inside);
+        alive = rw w (alive (take i (split text .lines)) (d .state) (plains-take i (split text .lines) p) (d .reached) (steps-ends goes-on (take i (split text .lines)) (d .state) (d .reached)));
+        dead = λ l b. dead-end (take k (split text .lines)) (plains-take k (split text .lines) p) (rw e (d .dead (omega arith))) b;
+        not-good = λ g. good-bad (sym h ∙ g .1);
+      }
+
+  -- A refusal's place. The lines before it were read, so that they reached a state, from which items go on to a good text.
+  -- The line itself has no meaning there, or the state takes it not: whatever follows, the reader stops there too, and it
+  -- accepts every good text.
+  pub refused : NoDeadEnd act complete start → (text : List ℕ) (k : ℕ) → read parse act complete start text ≡ bad k → Place Accepts text k
+  unfolding read
+  refused goes-on text k h =
+      let (i, e, d) = reading-stops (split text .lines) (split text .rest) 0 start k h in
+      place-at goes-on text i k (omega arith) d h

@@ -1,0 +1,191 @@
+-- Source files are an instance of Reading: their items are spelled as lines, no state is a dead end where there is a vertex, and
+-- the items that lead to a complete state are those of a good file. Assumes nothing.
+use mathlib.Core.Path.{_≡_, refl, sym, ap, subst, _∙_}
+use mathlib.Core.Logic.{_⊎_, inl, inr}
+use mathlib.Core.Bool.{Bool, true, false, _&&_, cond, false≢true}
+use mathlib.Core.List.{List, [], _∷_, _++_, map, append-assoc, append-nil}
+use mathlib.Core.Option.{none, some, bind}
+use Prim.Native.Nat.{ℕ, zero, suc, _+_, _-_, _≤_, _<_}
+use native.Mathlib.Omega.{arith}
+use lib.Dec.{leb, ltb}
+use lib.ListN.{length, length-append}
+use borrow.Author.Tests.{lt-ltb, le-leb, ltb-true, leb-true, eqb-true, eq-eqb}
+use Rattle.graph.proofs.Tests.{both, and-true}
+use Rattle.dimacs.proofs.Options.{none-some, some-same, bind-some, cond-some}
+use Rattle.dimacs.proofs.Fields.{plain-fields, marked-fields, either-spells}
+use Rattle.dimacs.proofs.Reading.{acts, speaks, Ends, Spelling, NoDeadEnd, accepts, accepted}
+use Rattle.dimacs.specs.Lines.{plain, fieldsOf, Spelled}
+use Rattle.dimacs.specs.Read.{after, good}
+use Rattle.dimacs.specs.Network.{orElse}
+use Rattle.dimacs.specs.Sources.{maxSources, Item, header, source, headerMark, sourceMark, itemOf, Vertices, Good, headerFrom, sourceFrom, itemIn, State, start, within, act, complete, readSources}
+
+-- ---- lines
+
+item-reads : (x : Item) → itemIn (itemOf x) ≡ some x
+unfolding itemIn itemOf
+item-reads (header k) = rw (marked-fields headerMark (k ∷ []) headerFrom) (unfold headerFrom orElse in refl)
+item-reads (source v) = rw (marked-fields sourceMark (suc v ∷ []) sourceFrom) (unfold after bind orElse sourceFrom in refl)
+
+header-spells : (vs : List ℕ) (x : Item) → headerFrom vs ≡ some x → headerMark ++ fieldsOf vs ≡ itemOf x
+unfolding headerFrom itemOf
+header-spells [] x h = absurd (none-some h)
+header-spells (k ∷ []) x h = let w : header k ≡ x = some-same h in rw (← w)
+header-spells (k ∷ a ∷ bs) x h = absurd (none-some h)
+
+source-spells : (vs : List ℕ) (x : Item) → sourceFrom vs ≡ some x → sourceMark ++ fieldsOf vs ≡ itemOf x
+unfolding sourceFrom itemOf
+source-spells [] x h = absurd (none-some h)
+source-spells (zero ∷ []) x h = absurd (none-some h)
+source-spells (suc v ∷ []) x h = let w : source v ≡ x = some-same h in rw (← w)
+source-spells (zero ∷ a ∷ bs) x h = absurd (none-some h)
+source-spells (suc v ∷ a ∷ bs) x h = absurd (none-some h)
+
+item-spells : (l : List ℕ) (x : Item) → itemIn l ≡ some x → l ≡ itemOf x
+unfolding itemIn
+item-spells l x h = either-spells itemOf headerMark 1 headerFrom header-spells sourceMark 1 sourceFrom source-spells l x h
+
+item-speaks : (x : Item) → speaks (itemOf x) ≡ true
+unfolding itemOf speaks
+item-speaks (header k) = refl
+item-speaks (source v) = refl
+
+item-plain : (x : Item) → plain (itemOf x) ≡ true
+unfolding itemOf plain
+item-plain (header k) = plain-fields (k ∷ [])
+item-plain (source v) = plain-fields (suc v ∷ [])
+
+pub sources-spelling : Spelling itemOf itemIn
+sources-spelling = record { reads-spelled = item-reads; spells-read = item-spells; no-comment = item-speaks; one-line = item-plain }
+
+module _ (n : ℕ) where
+  -- ---- items after the p line
+
+  pub takes-true : (k : ℕ) (ss : List ℕ) (v : ℕ) → length ss < k → v < n → (ltb (length ss) k && ltb v n) ≡ true
+  takes-true k ss v p q = and-true (lt-ltb (length ss) k p) (lt-ltb v n q)
+
+  sources-taken : (k : ℕ) (ss vs : List ℕ) → Vertices n vs → length ss + length vs ≤ k → acts (act n) (within k ss) (map source vs) ≡ some (within k (ss ++ vs))
+  unfolding acts act bind
+  sources-taken k ss [] a h = ap (λ (x : List ℕ). some (within k x)) (sym (append-nil ss))
+  sources-taken k ss (v ∷ vs) a h =
+      ap (λ (b : Bool). bind (cond b (some (within k (ss ++ (v ∷ [])))) none) (λ s. acts (act n) s (map source vs))) (takes-true k ss v (omega arith) (a .0))
+      ∙ sources-taken k (ss ++ (v ∷ [])) vs (a .1) (omega (arith, length-append ss (v ∷ [])))
+      ∙ ap (λ (x : List ℕ). some (within k x)) (append-assoc ss (v ∷ []) vs)
+
+  record Taken (k : ℕ) (ss : List ℕ) (xs : List Item) (s : State) : Type 0 where
+    pub sources : List ℕ
+    pub items : xs ≡ map source sources
+    pub vertices : Vertices n sources
+    pub few : length ss ≤ k → length ss + length sources ≤ k
+    pub state : s ≡ within k (ss ++ sources)
+
+  taken-source : (k : ℕ) (ss : List ℕ) (v : ℕ) (xs : List Item) (s : State) → length ss < k → v < n → Taken k (ss ++ (v ∷ [])) xs s → Taken k ss (source v ∷ xs) s
+  taken-source k ss v xs s l p t =
+      let i = length-append ss (v ∷ []) in
+      record {
+        sources = v ∷ t .sources;
+        items = ap (λ (ys : List Item). source v ∷ ys) (t .items);
+        vertices = (p, t .vertices);
+        few = λ z. (let y = t .few (omega arith) in omega arith);
+        state = t .state ∙ ap (λ (x : List ℕ). within k x) (append-assoc ss (v ∷ []) (t .sources));
+      }
+
+  taken : (xs : List Item) (k : ℕ) (ss : List ℕ) (s : State) → acts (act n) (within k ss) xs ≡ some s → Taken k ss xs s
+  unfolding acts act bind
+  taken [] k ss s h = record {
+    sources = [];
+    items = refl;
+    vertices = tt;
+    few = λ z. omega arith;
+    state = sym (some-same h) ∙ ap (λ (x : List ℕ). within k x) (sym (append-nil ss));
+  }
+  taken (header j ∷ xs) k ss s h = absurd (none-some h)
+  taken (source v ∷ xs) k ss s h =
+      let (t, p, q) = bind-some (cond (ltb (length ss) k && ltb v n) (some (within k (ss ++ (v ∷ [])))) none) _ s h in
+      let (b, w) = cond-some (ltb (length ss) k && ltb v n) (within k (ss ++ (v ∷ []))) t p in
+      let (x, y) = both (ltb (length ss) k) (ltb v n) b in
+      taken-source k ss v xs s (ltb-true _ _ x) (ltb-true _ _ y) (taken xs k (ss ++ (v ∷ [])) s (subst (λ (u : State). acts (act n) u xs ≡ some s) (sym w) q))
+
+  -- ---- all items
+
+  record Opened (xs : List Item) (s : State) : Type 0 where
+    pub k : ℕ
+    pub rest : List Item
+    pub items : xs ≡ header k ∷ rest
+    pub most : k ≤ maxSources
+    pub taken : Taken k [] rest s
+
+  opened : (xs : List Item) (s : State) → acts (act n) start xs ≡ some s → (s ≡ start) ⊎ Opened xs s
+  unfolding acts act bind
+  opened [] s h = inl (sym (some-same h))
+  opened (source v ∷ xs) s h = absurd (none-some h)
+  opened (header k ∷ xs) s h =
+      let (t, p, q) = bind-some (cond (leb k maxSources) (some (within k [])) none) _ s h in
+      let (b, w) = cond-some (leb k maxSources) (within k []) t p in
+      inr (record { k = k; rest = xs; items = refl; most = leb-true _ _ b; taken = taken xs k [] s (subst (λ (u : State). acts (act n) u xs ≡ some s) (sym w) q) })
+
+  -- ---- each state that is reached can be completed, where there is a vertex: lines `s 1` follow
+
+  fill : (j k : ℕ) (ss : List ℕ) → 0 < n → length ss + j ≡ k → Ends (act n) complete (within k ss)
+  unfolding acts act complete bind
+  fill zero k ss p h = record { items = []; end = within k ss; reached = refl; completed = eq-eqb (length ss) k (omega arith) }
+  fill (suc j) k ss p h = more (fill j k (ss ++ (0 ∷ [])) p (omega (arith, length-append ss (0 ∷ []))))
+    where
+      more : Ends (act n) complete (within k (ss ++ (0 ∷ []))) → Ends (act n) complete (within k ss)
+      more d = record {
+        items = source 0 ∷ d .items;
+        end = d .end;
+        reached = ap (λ (b : Bool). bind (cond b (some (within k (ss ++ (0 ∷ [])))) none) (λ s. acts (act n) s (d .items))) (takes-true k ss 0 (omega arith) p) ∙ d .reached;
+        completed = d .completed;
+      }
+
+  pub sources-go-on : 0 < n → NoDeadEnd (act n) complete start
+  sources-go-on pos xs s h = pick (opened xs s h)
+    where
+      first : Ends (act n) complete start
+      first = unfold acts act complete bind in record { items = header 0 ∷ []; end = within 0 []; reached = refl; completed = refl }
+
+      pick : (s ≡ start) ⊎ Opened xs s → Ends (act n) complete s
+      pick (inl q) = rw q first
+      pick (inr o) =
+          let t = o .taken in
+          let f : length (t .sources) ≤ o .k = omega (arith, t .few (omega arith)) in
+          rw (t .state) (fill (o .k - length (t .sources)) (o .k) (t .sources) pos (omega arith))
+
+  -- ---- the items of a good file, and no others, lead to a complete state
+
+  good-acts : (ss : List ℕ) → length ss ≤ maxSources → Vertices n ss → acts (act n) start (header (length ss) ∷ map source ss) ≡ some (within (length ss) ss)
+  unfolding acts act bind
+  good-acts ss l a =
+      ap (λ (b : Bool). bind (cond b (some (within (length ss) [])) none) (λ s. acts (act n) s (map source ss))) (le-leb (length ss) maxSources l)
+      ∙ sources-taken (length ss) [] ss a (omega arith)
+
+  pub good-read : (text ss : List ℕ) → Good n text ss → readSources n text ≡ good (within (length ss) ss)
+  unfolding readSources complete
+  good-read text ss g =
+      accepts sources-spelling (act n) complete start (within (length ss) ss) (g .spelled) (good-acts ss (g .few) (g .vertices)) (eq-eqb (length ss) (length ss) refl)
+
+  opened-good : (text : List ℕ) (xs : List Item) (s : State) → Spelled itemOf text xs → Opened xs s → complete s ≡ true → (ss : List ℕ) × (s ≡ within (length ss) ss) × Good n text ss
+  unfolding complete
+  opened-good text xs s d o c =
+      let t = o .taken in
+      let l : length (t .sources) ≡ o .k = eqb-true _ _ (subst (λ (u : State). complete u ≡ true) (t .state) c) in
+      let m = o .most in (
+        t .sources,
+        t .state ∙ ap (λ (j : ℕ). within j (t .sources)) (sym l),
+        record {
+          spelled = subst (λ (ys : List Item). Spelled itemOf text ys) (o .items ∙ ap (λ (ys : List Item). header (o .k) ∷ ys) (t .items) ∙ ap (λ (j : ℕ). header j ∷ map source (t .sources)) (sym l)) d;
+          few = omega arith;
+          vertices = t .vertices;
+        },
+      )
+
+  pub read-good : (text : List ℕ) (s : State) → readSources n text ≡ good s → (ss : List ℕ) × (s ≡ within (length ss) ss) × Good n text ss
+  unfolding readSources
+  read-good text s h = let (xs, d, p, c) = accepted sources-spelling (act n) complete start text s h in pick xs d c (opened xs s p)
+    where
+      never : s ≡ start → complete s ≡ true → ⊥
+      never p c = unfold complete in false≢true (rw p at c)
+
+      pick : (xs : List Item) → Spelled itemOf text xs → complete s ≡ true → (s ≡ start) ⊎ Opened xs s → (ss : List ℕ) × (s ≡ within (length ss) ss) × Good n text ss
+      pick xs d c (inl q) = absurd (never q c)
+      pick xs d c (inr o) = opened-good text xs s d o c

@@ -1,0 +1,123 @@
+-- The claims of specs/Claims.antt, one theorem each. Assumes nothing.
+use mathlib.Core.Path.{_≡_, refl, ap, subst, _∙_}
+use mathlib.Core.List.{List, []}
+use Prim.Native.Nat.{ℕ, _≤_, _<_}
+use native.Mathlib.Omega.{arith}
+use lib.ListN.{length}
+use borrow.Author.Tests.{ne-eqb, le-ltb}
+use Rattle.graph.specs.Limits.{maxVertices, maxEdges}
+use Rattle.graph.specs.Refusal.{accept}
+use Rattle.graph.specs.Edge.{Edge, exists, same, among}
+use Rattle.graph.specs.Table.{edgesOf, rules, size}
+use Rattle.graph.proofs.Verdicts.{accept-if}
+use Rattle.graph.proofs.Tests.{or-false}
+use Rattle.graph.proofs.Order.{accept-rules}
+use Rattle.dimacs.proofs.Reading.{refused}
+use Rattle.dimacs.proofs.Places.{place-agrees, place-one}
+use Rattle.dimacs.proofs.Sorted.{exists-into, length-sorted, sorted-sound}
+use Rattle.dimacs.proofs.Network as network
+use Rattle.dimacs.proofs.Sources as sources
+use Rattle.dimacs.proofs.Written.{written-canonical, canonical-written, write-verdict, filled-edges, read-call}
+use Rattle.dimacs.specs.Lines.{Place}
+use Rattle.dimacs.specs.Read.{Read, good, bad}
+use Rattle.dimacs.specs.Network as net
+use Rattle.dimacs.specs.Sources as src
+use Rattle.dimacs.specs.Call.{readCall}
+use Rattle.dimacs.specs.Claims.{Table, NetworkReads, NetworkWhole, NetworkTables, NetworkPlaces, NetworkReadsBack, NetworkWrites, NetworkRewrites, NetworkCanonical, CallsReadBack, SourcesRead, SourcesWhole, SourcesPlaces}
+
+-- ---- network text
+
+-- The items of a good text lead to a complete state: the p line is taken, for its edges are different pairs and so at most
+-- n × (n − 1), and each `a` line is taken, for its pair is new. Items that lead to a complete state are a p line and as many
+-- edges of new pairs as it says: a good text's. A network's state tells its n and edges, so that no other network fits.
+pub network-reads : NetworkReads
+network-reads text n es = (forth, network.good-read text n es)
+  where
+    forth : net.readNetwork text ≡ good (net.within n (length es) es) → net.Good text n es
+    forth h =
+        let (v, fs, p, g) = network.read-good text (net.within n (length es) es) h in
+        let a : v ≡ n = cc in
+        let b : fs ≡ es = cc in
+        subst (λ (x : ℕ). net.Good text x es) a (subst (λ (gs : List Edge). net.Good text v gs) b g)
+
+pub network-whole : NetworkWhole
+network-whole text s h = let (n, es, p, g) = network.read-good text s h in (n, es, p)
+
+size-accept : (n : ℕ) → 0 < n → n ≤ maxVertices → size n ≡ accept
+size-accept n p q = accept-if 1 0 (or-false (ne-eqb n 0 (λ z. omega arith)) (le-ltb maxVertices n q))
+
+table-sorted : (n : ℕ) (fs es : List Edge) → es ≡ net.sorted fs → 0 < n → n ≤ maxVertices → length fs ≤ maxEdges → net.Edges n fs → net.Distinct fs → Table n es
+table-sorted n fs es e p q r a d = rw e record { vertices = size-accept n p q; few = omega (arith, length-sorted fs); rules = accept-rules n (net.sorted fs) (sorted-sound n fs a d) }
+
+pub network-tables : NetworkTables
+unfolding exists
+network-tables text n es g = (table-sorted n (g .arcs) es (g .table) (g .some-vertex) (g .vertices) (g .few) (g .edges) (g .distinct), λ e. ap (λ (fs : List Edge). among fs e) (g .table) ∙ exists-into (same e) [] (g .arcs))
+
+-- a text that has a place is not good, so that it is refused; and it has no second place
+place-only : {S : Type 0} (Good : List ℕ → Type 0) (text : List ℕ) (k : ℕ) (r : Read S) → ((s : S) → r ≡ good s → Good text) → ((j : ℕ) → r ≡ bad j → Place Good text j) → Place Good text k → r ≡ bad k
+place-only Good text k (good s) f g p = absurd (p .not-good (f s refl))
+place-only Good text k (bad j) f g p = ap bad (place-one Good text j k (g j refl) p)
+
+-- Where the reader refuses is the place (Reading, `refused`), for no state is a dead end: before the p line `p sp 1 0` completes
+-- the text; after it fewer than n × (n − 1) edges are there while one is to come, so that a pair is unused.
+network-placed : (text : List ℕ) (k : ℕ) → net.readNetwork text ≡ bad k → Place net.IsGood text k
+unfolding net.readNetwork
+network-placed text k h =
+    place-agrees (λ t z. let (n, es, p, g) = network.read-good t (z .0) (z .1) in (n, es, g)) (λ t z. (net.within (z .0) (length (z .1)) (z .1), network.good-read t (z .0) (z .1) (z .2)))
+    text k (refused network.network-spelling net.act net.complete net.start network.network-goes-on text k h)
+
+pub network-places : NetworkPlaces
+network-places text k = (
+  network-placed text k,
+  place-only net.IsGood text k (net.readNetwork text) (λ s h. let (n, es, p, g) = network.read-good text s h in (n, es, g)) (λ j. network-placed text j),
+)
+
+-- ---- written text
+
+pub network-writes : NetworkWrites
+network-writes = written-canonical
+
+pub network-reads-back : NetworkReadsBack
+network-reads-back n es t = network.good-read (net.written n es) n es (written-canonical n es t .good)
+
+pub network-rewrites : NetworkRewrites
+network-rewrites text n es g = written-canonical n es (network-tables text n es g .0)
+
+pub network-canonical : NetworkCanonical
+network-canonical = canonical-written
+
+-- The buffer begins with the text of a table that keeps the rules, and the call's reply is its length; that text is read as that
+-- table, whose records then stand in front of the lists.
+pub calls-read-back : CallsReadBack
+calls-read-back n cs m out k ds h s =
+    let (t, l, w, e) = write-verdict n cs m out k h in (
+      ap (λ (x : List ℕ). readCall x ds) e ∙ read-call (net.written n (edgesOf cs m)) n (edgesOf cs m) m ds (network-reads-back n (edgesOf cs m) t) l s,
+      filled-edges (edgesOf cs m) m ds l,
+    )
+
+-- ---- source files
+
+pub sources-read : SourcesRead
+sources-read n text ss = (forth, sources.good-read n text ss)
+  where
+    forth : src.readSources n text ≡ good (src.within (length ss) ss) → src.Good n text ss
+    forth h =
+        let (vs, p, g) = sources.read-good n text (src.within (length ss) ss) h in
+        let b : vs ≡ ss = cc in
+        subst (λ (x : List ℕ). src.Good n text x) b g
+
+pub sources-whole : SourcesWhole
+sources-whole n text s h = let (ss, p, g) = sources.read-good n text s h in (ss, p)
+
+-- after the p line, lines `s 1` complete the file
+sources-placed : (n : ℕ) → 0 < n → (text : List ℕ) (k : ℕ) → src.readSources n text ≡ bad k → Place (src.IsGood n) text k
+unfolding src.readSources
+sources-placed n pos text k h =
+    place-agrees (λ t z. let (ss, p, g) = sources.read-good n t (z .0) (z .1) in (ss, g)) (λ t z. (src.within (length (z .0)) (z .0), sources.good-read n t (z .0) (z .1)))
+    text k (refused sources.sources-spelling (src.act n) src.complete src.start (sources.sources-go-on n pos) text k h)
+
+pub sources-places : SourcesPlaces
+sources-places n pos text k = (
+  sources-placed n pos text k,
+  place-only (src.IsGood n) text k (src.readSources n text) (λ s h. let (ss, p, g) = sources.read-good n text s h in (ss, g)) (λ j. sources-placed n pos text j),
+)

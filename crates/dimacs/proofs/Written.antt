@@ -1,0 +1,137 @@
+-- Written text: it is good, has no comment and ascends; no other text of its network does; what a call wrote, a call reads back.
+-- Assumes nothing.
+use mathlib.Core.Path.{_≡_, refl, sym, ap, _∙_}
+use mathlib.Core.List.{List, [], _∷_, map}
+use Prim.Native.Nat.{ℕ, _≤_}
+use native.Mathlib.Omega.{arith}
+use lib.Dec.{ltb}
+use lib.ListN.{length, take, drop}
+use lib.Seq.{take-at}
+use Rattle.graph.specs.Limits.{maxEdges}
+use Rattle.graph.specs.Refusal.{Verdict, accept, refuse, _▷_, refuseIf, accepted, replied, choose}
+use Rattle.graph.specs.Edge.{Edge}
+use Rattle.graph.specs.Table.{Columns, edgesOf, rules, size, shortTable, table}
+use Rattle.graph.proofs.Verdicts.{then-accept}
+use Rattle.graph.proofs.Order.{Follows, Sound, rules-accept}
+use Rattle.graph.proofs.Judging.{size-accept, lengths-accept, table-accept}
+use Rattle.graph.proofs.Records.{edges-length, edges-back, room-less}
+use Rattle.dimacs.proofs.Reading.{spoken-says, map-says}
+use Rattle.dimacs.proofs.Sorted.{sound-distinct, sound-edges, sorted-ascending}
+use Rattle.dimacs.proofs.Network.{network-spelling}
+use Rattle.dimacs.specs.Lines.{joined, Line, bare, comment, says, lineOf, spoken, Plain}
+use Rattle.dimacs.specs.Read.{good}
+use Rattle.dimacs.specs.Network.{Item, problem, arc, itemOf, Edges, Good, within, readNetwork, written}
+use Rattle.dimacs.specs.Call.{judged, vertexCount, edgesRead, filled, readCall, writeCall}
+use Rattle.dimacs.specs.Claims.{Table, Uncommented, Ascending, Canonical}
+
+-- ---- lines without a comment
+
+uncommented-says : {A : Type 0} (as′ : List A) → Uncommented (map says as′)
+uncommented-says [] = tt
+uncommented-says (a ∷ as′) = uncommented-says as′
+
+says-uncommented : {A : Type 0} (xs : List (Line A)) → Uncommented xs → xs ≡ map says (spoken xs)
+unfolding spoken
+says-uncommented [] u = refl
+says-uncommented (bare ∷ xs) u = absurd u
+says-uncommented (comment s ∷ xs) u = absurd u
+says-uncommented (says a ∷ xs) u = ap (λ (ys : List (Line _)). says a ∷ ys) (says-uncommented xs u)
+
+plain-says : (xs : List Item) → Plain itemOf (map says xs)
+unfolding lineOf
+plain-says [] = tt
+plain-says (x ∷ xs) = (network-spelling .one-line x, plain-says xs)
+
+-- ---- edges that ascend
+
+follows-ascending : (n : ℕ) (e : Edge) (es : List Edge) → Follows n e es → Ascending (e ∷ es)
+follows-ascending n e [] h = tt
+follows-ascending n e (f ∷ es) h = (h .0, follows-ascending n f es (h .2))
+
+sound-ascending : (n : ℕ) (es : List Edge) → Sound n es → Ascending es
+sound-ascending n [] h = tt
+sound-ascending n (e ∷ es) h = follows-ascending n e es (h .1)
+
+ascending-follows : (n : ℕ) (e : Edge) (es : List Edge) → Ascending (e ∷ es) → Edges n es → Follows n e es
+ascending-follows n e [] h a = tt
+ascending-follows n e (f ∷ es) h a = (h .0, a .0, ascending-follows n f es (h .1) (a .1))
+
+ascending-sound : (n : ℕ) (es : List Edge) → Ascending es → Edges n es → Sound n es
+ascending-sound n [] h a = tt
+ascending-sound n (e ∷ es) h a = (a .0, ascending-follows n e es h (a .1))
+
+-- ---- written text is canonical
+
+written-good : (n : ℕ) (es : List Edge) → Table n es → Good (written n es) n es
+unfolding written
+written-good n es t =
+    let (a, b) = size-accept n (t .vertices) in
+    let s = rules-accept n es (t .rules) in
+    record {
+      arcs = es;
+      spelled = record {
+        lines = map says (problem n (length es) ∷ map arc es);
+        spells = ap joined (sym (map-says itemOf (problem n (length es) ∷ map arc es)));
+        plains = plain-says (problem n (length es) ∷ map arc es);
+        speaks = spoken-says (problem n (length es) ∷ map arc es);
+      };
+      some-vertex = a;
+      vertices = b;
+      few = t .few;
+      edges = sound-edges n es s;
+      distinct = sound-distinct n es s;
+      table = sym (sorted-ascending n es s);
+    }
+
+pub written-canonical : (n : ℕ) (es : List Edge) → Table n es → Canonical (written n es) n es
+unfolding written-good
+written-canonical n es t = record {
+  good = written-good n es t;
+  no-comment = uncommented-says (problem n (length es) ∷ map arc es);
+  ascends = sound-ascending n es (rules-accept n es (t .rules));
+}
+
+-- A text without comment is its items' lines, in their order. Its edges ascend and are edges, so that putting them in one by
+-- one leaves their order: the network's edges are those of the text, and the lines are the written ones.
+pub canonical-written : (text : List ℕ) (n : ℕ) (es : List Edge) → Canonical text n es → text ≡ written n es
+unfolding written
+canonical-written text n es c =
+    let g = c .good in
+    let d = g .spelled in
+    let w : es ≡ g .arcs = g .table ∙ sorted-ascending n (g .arcs) (ascending-sound n (g .arcs) (c .ascends) (g .edges)) in
+    d .spells
+    ∙ ap (λ (xs : List (Line Item)). joined (map (lineOf itemOf) xs)) (says-uncommented (d .lines) (c .no-comment) ∙ ap (λ (xs : List Item). map says xs) (d .speaks))
+    ∙ ap joined (map-says itemOf (problem n (length (g .arcs)) ∷ map arc (g .arcs)))
+    ∙ ap (λ (fs : List Edge). joined (map itemOf (problem n (length fs) ∷ map arc fs))) (sym w)
+
+-- ---- what a call wrote
+
+pub replied-accepted : {A : Type 0} (v : Verdict) (a b : A) → replied v a ≡ accepted b → (v ≡ accept) × (a ≡ b)
+unfolding replied
+replied-accepted accept a b h = (refl, let w : a ≡ b = cc in w)
+replied-accepted (refuse k i) a b h = absurd (let z : _≡_ {A = ℕ} 0 1 = cc in omega arith)
+
+-- the verdict of an accepted writing
+pub write-verdict : (n : ℕ) (cs : Columns) (m : ℕ) (out : List ℕ) (k : ℕ) → writeCall n cs m out .reply ≡ accepted k
+    → (Table n (edgesOf cs m)) × (length (edgesOf cs m) ≡ m) × (length (written n (edgesOf cs m)) ≡ k) × (take k (writeCall n cs m out .memory) ≡ written n (edgesOf cs m))
+unfolding writeCall choose
+write-verdict n cs m out k h =
+    let text = written n (edgesOf cs m) in
+    let (v, w) = replied-accepted (size n ▷ shortTable cs ▷ table n cs m ▷ refuseIf (ltb (length out) (length text)) 2 0) (length text) k h in
+    let (a, v₁) = then-accept (size n) (shortTable cs ▷ table n cs m ▷ refuseIf (ltb (length out) (length text)) 2 0) v in
+    let (b, v₂) = then-accept (shortTable cs) (table n cs m ▷ refuseIf (ltb (length out) (length text)) 2 0) v₁ in
+    let (c, v₃) = then-accept (table n cs m) (refuseIf (ltb (length out) (length text)) 2 0) v₂ in
+    let (d, e) = table-accept n cs m c in
+    let l : length (edgesOf cs m) ≡ m = edges-length (cs .tails) (cs .heads) (cs .weights) m (room-less d (lengths-accept (cs .tails) (cs .heads) (cs .weights) b)) in
+    let f : length (edgesOf cs m) ≤ maxEdges = omega arith in
+    (record { vertices = a; few = f; rules = e }, l, w, rw v (take-at text (drop (length text) out) k w))
+
+-- edges stored in front of three lists are the records below their count
+pub filled-edges : (es : List Edge) (m : ℕ) (ds : Columns) → length es ≡ m → edgesOf (filled es ds) m ≡ es
+filled-edges es m ds l = rw (← l) (edges-back es _ _ _)
+
+-- reading a text that is accepted, into lists that are long enough
+pub read-call : (text : List ℕ) (n : ℕ) (es : List Edge) (m : ℕ) (ds : Columns) → readNetwork text ≡ good (within n (length es) es) → length es ≡ m → shortTable ds ≡ accept
+    → readCall text ds ≡ record { reply = accepted (record { vertices = n; count = m }); memory = filled es ds }
+unfolding readCall judged vertexCount edgesRead replied choose _▷_
+read-call text n es m ds h l s = rw (h, s, ← l)
