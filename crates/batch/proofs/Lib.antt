@@ -1,5 +1,2 @@
-pub mod Editing
-pub mod Batching
-pub mod BatchingRows
-pub mod BatchingSides
-pub mod BatchingCall
+pub mod Writing
+pub mod Calling

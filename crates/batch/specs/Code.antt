@@ -1,14 +1,5 @@
 -- What the functions of a batch hold and answer. Assumes nothing.
 --
---   change k t h w               == the change record of four words
---   changes ks ts hs ws          == four lists side by side as change records, as far as the shortest goes
---   verdict r                    == an Edited as a verdict
---   Tabled n m ts hs ws          == three lists with room for every edge hold m edges that keep the rules of n vertices
---   Leaves n r ts hs ws fs       == where r tells a count, the three lists hold the edges fs below it
---   Compared n m ts hs ws gs fs  == m edges between n vertices, and bytes that say which of them are absent from fs
---   Indexed n m is hs ws es      == an index by which a run reads the edges es
---   RowDone n ls es fs vs r xs a == the run of row r left the words xs, and its answer is a
---   RowsDone n ls es fs xs ys a  == the runs of all rows of the list xs left the words ys, and their answer is a
 --   Fair n ls w                  == a network that numbers 1 to 4 let pass
 --   Scratch k gs bs xs ys        == scratch lists: bytes for the edges of two tables, and k words for the rows of each side
 --   SidesDone n ls w fs xs ys a  == the runs of all rows of both lists left the words xs and ys, and their answer is a
@@ -17,84 +8,19 @@
 --   batchOutcome r ts hs ws f b  == the program's reply r and the lent lists at exit, as an outcome
 use mathlib.Core.Path.{_≡_}
 use mathlib.Core.Bool.{_||_}
-use mathlib.Core.List.{List, [], _∷_}
+use mathlib.Core.List.{List}
 use Prim.Native.Nat.{ℕ, _*_, _≤_}
 use lib.ListN.{length}
-use Rattle.frontier.specs.Waiting.{anyOf, countOf}
 use Rattle.graph.specs.Limits.{maxVertices, maxEdges}
-use Rattle.graph.specs.Refusal.{Verdict, accept, refuse, Reply, accepted, refused, Outcome, outcome}
-use Rattle.graph.specs.Edge.{Edge, edges}
-use Rattle.graph.specs.Table.{rules}
-use Rattle.graph.specs.Code.{Room}
-use Rattle.graph.specs.Own.{Fit, Own}
-use Rattle.affected.specs.Code.{Absent, Ends}
-use Rattle.batch.specs.declared.items.Edited.{Edited}
-use Rattle.batch.specs.declared.items.Edited.the-variants.{Count, Refused}
-use Rattle.batch.specs.declared.sides.Rowed.{Rowed}
+use Rattle.graph.specs.Refusal.{Reply, accepted, refused, Outcome, outcome}
+use Rattle.graph.specs.Edge.{Edge}
+use Rattle.sides.specs.declared.Rowed.{Rowed}
 use Rattle.batch.specs.declared.Applied.{Applied}
 use Rattle.batch.specs.declared.Applied.the-variants as applied
 use Rattle.batch.specs.declared.Report as declared
-use Rattle.network.specs.Network.{Memory, Network, rowCount, flat, unsettled, storesOf}
-use Rattle.network.specs.Change.{Change}
-use Rattle.network.specs.Batch.{Report, rowAffected, rowEnd, batchRows, affectedOf, newForward, newBackward, stillWaiting, batchMemory, report}
-use Rattle.calls.specs.Code.{Placed, lists}
-
--- ---- the lent lists of a batch
-
-abbrev pub change : ℕ → ℕ → ℕ → ℕ → Change
-change k t h w = record { kind = k; tail = t; head = h; weight = w }
-
-unfoldable pub changes : List ℕ → List ℕ → List ℕ → List ℕ → List Change
-changes [] ts hs ws = []
-changes (k ∷ ks) [] hs ws = []
-changes (k ∷ ks) (t ∷ ts) [] ws = []
-changes (k ∷ ks) (t ∷ ts) (h ∷ hs) [] = []
-changes (k ∷ ks) (t ∷ ts) (h ∷ hs) (w ∷ ws) = change k t h w ∷ changes ks ts hs ws
-
--- ---- the scratch table
-
-unfoldable pub verdict : Edited → Verdict
-verdict (Count m) = accept
-verdict (Refused k i) = refuse k i
-
-pub record Tabled (n m : ℕ) (ts hs ws : List ℕ) : Type 0 where
-  pub few : m ≤ maxEdges
-  pub room : Room maxEdges ts hs ws
-  pub rules : rules n (edges ts hs ws m) ≡ accept
-
-pub record Leaves (n : ℕ) (r : Edited) (ts hs ws : List ℕ) (fs : List Edge) : Type 0 where
-  pub table : (m : ℕ) → r ≡ Count m → Tabled n m ts hs ws
-  pub edges : (m : ℕ) → r ≡ Count m → edges ts hs ws m ≡ fs
-
--- ---- the rows of one side: es are the edges before the batch, fs those after it
-
-pub record Compared (n m : ℕ) (ts hs ws gs : List ℕ) (fs : List Edge) : Type 0 where
-  pub room : Room m ts hs ws
-  pub ends : Ends n m ts hs
-  pub bytes : m ≤ length gs
-  pub absent : Absent m (edges ts hs ws m) fs gs
-
-pub record Indexed (n m : ℕ) (is hs ws : List ℕ) (es : List Edge) : Type 0 where
-  pub fit : Fit n m is hs ws
-  pub own : Own n is hs ws es
-
-pub record RowDone (n : ℕ) (ls : List ℕ) (es fs : List Edge) (vs : List ℕ) (r : ℕ) (xs : List ℕ) (a : Rowed) : Type 0 where
-  pub words : xs ≡ (rowEnd n ls es fs vs r) .words
-  pub unsettled : a .unsettled ≡ anyOf ((rowEnd n ls es fs vs r) .waiting)
-  pub affected : a .affected ≡ countOf (rowAffected n ls es fs vs r)
-  pub stores : a .stores ≡ (rowEnd n ls es fs vs r) .tally .stores
-  pub few : a .affected ≤ maxVertices
-  pub low : a .stores ≤ maxVertices * maxVertices * maxEdges
-
-pub record RowsDone (n : ℕ) (ls : List ℕ) (es fs : List Edge) (xs ys : List ℕ) (a : Rowed) : Type 0 where
-  pub words : ys ≡ flat (batchRows n ls es fs xs)
-  pub unsettled : a .unsettled ≡ unsettled (batchRows n ls es fs xs)
-  pub affected : a .affected ≡ affectedOf n ls es fs xs
-  pub stores : a .stores ≡ storesOf (batchRows n ls es fs xs)
-  pub few : a .affected ≤ 20 * maxVertices
-  pub low : a .stores ≤ 20 * (maxVertices * maxVertices * maxEdges)
-
--- ---- the call
+use Rattle.network.specs.Network.{Memory, Network, rowCount, flat, unsettled}
+use Rattle.network.specs.Batch.{Report, newForward, newBackward, stillWaiting, batchMemory, report}
+use Rattle.calls.specs.Code.{Placed, Tabled, lists}
 
 pub record Fair (n : ℕ) (ls : List ℕ) (w : Network) : Type 0 where
   pub few : n ≤ maxVertices

@@ -2,9 +2,8 @@
 // written. Nothing lent is written before nothing can refuse any more.
 use super::Applied;
 use super::Report;
-use super::sides;
-use super::sides::Rowed;
 use graph::words;
+use sides::Rowed;
 ghost use mathlib.Core.Path.{_≡_};
 ghost use mathlib.Core.List.{_++_};
 ghost use Prim.Native.Nat.{_-_, _*_, _≤_};
@@ -15,8 +14,9 @@ ghost use Rattle.graph.specs.Edge.{edges};
 ghost use Rattle.graph.specs.Code.{Room, columns};
 ghost use Rattle.network.specs.Network.{rowCount};
 ghost use Rattle.network.specs.Batch.{rewritten};
-ghost use Rattle.calls.specs.Code.{network};
-ghost use Rattle.batch.specs.Code.{Tabled, Compared, Fair, Scratch, SidesDone, committed, batchOutcome};
+ghost use Rattle.calls.specs.Code.{network, Tabled};
+ghost use Rattle.sides.specs.Code.{Compared};
+ghost use Rattle.batch.specs.Code.{Fair, Scratch, SidesDone, committed, batchOutcome};
 
 // The first `count` words of `new` over those of `list`, then zeros up to 2,048.
 fn write_words(count: usize, new: &[u32], list: &mut [u32])

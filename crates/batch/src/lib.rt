@@ -1,7 +1,5 @@
 // A batch: numbers 1 to 4, its changes on a scratch table, then every row of the network.
 pub mod commit;
-pub mod items;
-pub mod sides;
 
 use graph::Judged;
 use graph::rules;
@@ -15,7 +13,8 @@ ghost use Rattle.graph.specs.Refusal.{accept};
 ghost use Rattle.graph.specs.Code.{told, Room};
 ghost use Rattle.network.specs.Batch.{batchCall, batchFaults};
 ghost use Rattle.calls.specs.Code.{network};
-ghost use Rattle.batch.specs.Code.{changes, batchOutcome};
+ghost use Rattle.items.specs.Code.{changes};
+ghost use Rattle.batch.specs.Code.{batchOutcome};
 
 // The new count, and affected vertices and stores over all rows.
 pub struct Report {

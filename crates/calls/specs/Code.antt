@@ -4,6 +4,7 @@
 --   lists ts hs ws f b           == five lists as the memory of a network
 --   network ts hs ws f b m       == five lists and a count as a network
 --   Placed n ls                  == the landmarks ls are few, and vertices
+--   Tabled n m ts hs ws          == three lists with room for every edge hold m edges that keep the rules of n vertices
 --   Openable n m ls ts hs ws     == the rows of a table may be run: it has m edges that keep the rules for n vertices, and the landmarks
 --                                   are placed
 --   IsRow st xs b                == xs are the words of a run's state, and b is whether some vertex waits in it
@@ -38,6 +39,11 @@ network ts hs ws f b m = record { memory = lists ts hs ws f b; count = m }
 pub record Placed (n : ℕ) (ls : List ℕ) : Type 0 where
   pub few : length ls ≤ maxLandmarks
   pub vertices : (i : ℕ) → i < length ls → getD ls i 0 < n
+
+pub record Tabled (n m : ℕ) (ts hs ws : List ℕ) : Type 0 where
+  pub few : m ≤ maxEdges
+  pub room : Room maxEdges ts hs ws
+  pub rules : table.rules n (edges ts hs ws m) ≡ accept
 
 pub record Openable (n m : ℕ) (ls ts hs ws : List ℕ) : Type 0 where
   pub few : n ≤ maxVertices

@@ -3,7 +3,7 @@ use borrow.Author.Needs.{needs}
 use native.Mathlib.Omega.{arith}
 use mathlib.Core.Path.{sym, ap, _∙_}
 use Rattle.graph.specs.Code.{told}
-use Rattle.batch.proofs.BatchingCall.{call-faulty}
+use Rattle.batch.proofs.Calling.{call-faulty}
 use Rattle.batch.proofs.batch.Statement.{statement}
 use Rattle.batch.proofs.batch.Tie as tie
 

@@ -10,9 +10,10 @@ use Rattle.graph.specs.Refusal.{accept}
 use Rattle.graph.specs.Edge.{edges}
 use Rattle.graph.proofs.Records.{room-less}
 use Rattle.network.specs.Change.{items}
-use Rattle.calls.specs.Code.{network}
-use Rattle.batch.specs.Code.{changes, verdict, Tabled, Fair}
-use Rattle.batch.proofs.BatchingCall.{faults-as, faults-fair, edges-copied, call-item, call-committed}
+use Rattle.calls.specs.Code.{network, Tabled}
+use Rattle.items.specs.Code.{changes, verdict}
+use Rattle.batch.specs.Code.{Fair}
+use Rattle.batch.proofs.Calling.{faults-as, faults-fair, edges-copied, call-item, call-committed}
 use Rattle.batch.proofs.batch_in.Statement.{statement}
 use Rattle.batch.proofs.batch_in.Tie as tie
 

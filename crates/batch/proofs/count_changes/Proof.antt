@@ -1,7 +1,7 @@
 -- `batch::count_changes` meets its contract. Assumes nothing.
 use borrow.Author.Needs.{needs}
 use mathlib.Core.Path.{_∙_}
-use Rattle.batch.proofs.BatchingCall.{changes-length}
+use Rattle.batch.proofs.Calling.{changes-length}
 use Rattle.batch.proofs.count_changes.Statement.{statement}
 use Rattle.batch.proofs.count_changes.Tie as tie
 

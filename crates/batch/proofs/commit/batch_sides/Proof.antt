@@ -1,7 +1,7 @@
 -- `batch::commit::batch_sides` meets its contract. Assumes nothing.
 use borrow.Author.Needs.{needs}
 use mathlib.Core.Path.{refl}
-use Rattle.batch.proofs.BatchingCall.{sides-done}
+use Rattle.batch.proofs.Calling.{sides-done}
 use Rattle.batch.proofs.commit.batch_sides.Statement.{statement}
 use Rattle.batch.proofs.commit.batch_sides.Tie as tie
 

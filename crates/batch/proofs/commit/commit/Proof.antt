@@ -6,7 +6,7 @@ use native.Mathlib.Omega.{arith}
 use lib.ListN.{replicate}
 use lib.Seq.{length-take-le}
 use Rattle.network.specs.Network.{rowCount}
-use Rattle.batch.proofs.BatchingCall.{rows-room}
+use Rattle.batch.proofs.Calling.{rows-room}
 use Rattle.batch.proofs.commit.commit.Statement.{statement}
 use Rattle.batch.proofs.commit.commit.Tie as tie
 

@@ -7,7 +7,7 @@ use lib.ListN.{length}
 use Rattle.graph.specs.Limits.{maxEdges}
 use Rattle.graph.proofs.Records.{room-less, edges-length}
 use Rattle.network.specs.Network.{rowCount}
-use Rattle.batch.proofs.BatchingCall.{committed-refused, committed-done}
+use Rattle.batch.proofs.Calling.{committed-refused, committed-done}
 use Rattle.batch.proofs.commit.commit_in.Statement.{statement}
 use Rattle.batch.proofs.commit.commit_in.Tie as tie
 

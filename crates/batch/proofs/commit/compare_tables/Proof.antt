@@ -4,7 +4,7 @@ use native.Mathlib.Omega.{arith}
 use Prim.Native.Nat.{_≤_}
 use Rattle.graph.specs.Limits.{maxEdges}
 use Rattle.graph.proofs.Records.{room-less}
-use Rattle.batch.proofs.BatchingSides.{compared-made}
+use Rattle.sides.proofs.Sides.{compared-made}
 use Rattle.batch.proofs.commit.compare_tables.Statement.{statement}
 use Rattle.batch.proofs.commit.compare_tables.Tie as tie
 

@@ -1,6 +1,6 @@
 -- `batch::commit::write_table` meets its contract. Assumes nothing.
 use borrow.Author.Needs.{needs}
-use Rattle.batch.proofs.Batching.{table-written}
+use Rattle.batch.proofs.Writing.{table-written}
 use Rattle.batch.proofs.commit.write_table.Statement.{statement}
 use Rattle.batch.proofs.commit.write_table.Tie as tie
 

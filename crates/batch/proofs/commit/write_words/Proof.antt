@@ -1,6 +1,6 @@
 -- `batch::commit::write_words` meets its contract. Assumes nothing.
 use borrow.Author.Needs.{needs}
-use Rattle.batch.proofs.Batching.{words-written}
+use Rattle.batch.proofs.Writing.{words-written}
 use Rattle.batch.proofs.commit.write_words.Statement.{statement}
 use Rattle.batch.proofs.commit.write_words.Tie as tie
 

@@ -1,0 +1,197 @@
+-- The changes of a batch, judged and applied one by one: four lists read side by side, one change's refusals, what is left of a chain of
+-- changes after one. Assumes nothing.
+use mathlib.Core.Path.{_≡_, refl, sym, ap, _∙_}
+use mathlib.Core.Logic.{_⊎_, inl, inr}
+use mathlib.Core.Bool.{Bool, true, false, not, _&&_, _||_, cond}
+use mathlib.Core.List.{List, [], _∷_}
+use Prim.Native.Nat.{ℕ, zero, suc, _+_, _<_, _≤_}
+use native.Mathlib.Numerals.{add-one}
+use native.Mathlib.Omega.{arith}
+use lib.ListN.{length, getD, drop}
+use lib.Dec.{ltb, eqb}
+use borrow.Author.Tests.{lt-ltb, le-ltb, eq-eqb, ne-eqb, eqb-true, not-false}
+use Rattle.graph.specs.declared.Found.the-variants.{At, Absent}
+use Rattle.graph.specs.Limits.{maxEdges}
+use Rattle.graph.specs.Refusal.{Verdict, accept, refuse, _▷_, refuseIf}
+use Rattle.graph.specs.Edge.{Edge, edge, present, edges}
+use Rattle.graph.specs.Table.{isWeight}
+use Rattle.graph.specs.Code.{Room, find}
+use Rattle.graph.proofs.Tests.{or-right}
+use Rattle.graph.proofs.Verdicts.{then-accept, if-accept}
+use Rattle.graph.proofs.Order.{rules-accept, accept-rules}
+use Rattle.graph.proofs.Records.{room-less, edges-length}
+use Rattle.graph.proofs.Lookup.{found-present, absent-present, find-pair}
+use Rattle.items.specs.declared.Edited.{Edited}
+use Rattle.items.specs.declared.Edited.the-variants.{Count, Refused}
+use Rattle.network.specs.Change.{Change, edit, edits, item, items, words, against}
+use Rattle.items.specs.Code.{change, changes, Leaves}
+use Rattle.calls.specs.Code.{Tabled}
+use Rattle.network.proofs.Items.{item-good}
+
+-- ---- four lists side by side
+
+-- no list is shorter than the changes are many
+pub changes-short : (ks ts hs ws : List ℕ)
+    → (length (changes ks ts hs ws) ≤ length ks) × (length (changes ks ts hs ws) ≤ length ts)
+    × (length (changes ks ts hs ws) ≤ length hs) × (length (changes ks ts hs ws) ≤ length ws)
+unfolding changes
+changes-short [] ts hs ws = (omega arith, omega arith, omega arith, omega arith)
+changes-short (k ∷ ks) [] hs ws = (omega arith, omega arith, omega arith, omega arith)
+changes-short (k ∷ ks) (t ∷ ts) [] ws = (omega arith, omega arith, omega arith, omega arith)
+changes-short (k ∷ ks) (t ∷ ts) (h ∷ hs) [] = (omega arith, omega arith, omega arith, omega arith)
+changes-short (k ∷ ks) (t ∷ ts) (h ∷ hs) (w ∷ ws) = let z = changes-short ks ts hs ws in (omega arith, omega arith, omega arith, omega arith)
+
+changes-next : (ks ts hs ws : List ℕ) (k : ℕ) → k < length (changes ks ts hs ws)
+    → drop k (changes ks ts hs ws) ≡ change (getD ks k 0) (getD ts k 0) (getD hs k 0) (getD ws k 0) ∷ drop (suc k) (changes ks ts hs ws)
+unfolding changes
+changes-next [] ts hs ws k l = absurd (omega arith)
+changes-next (a ∷ ks) [] hs ws k l = absurd (omega arith)
+changes-next (a ∷ ks) (t ∷ ts) [] ws k l = absurd (omega arith)
+changes-next (a ∷ ks) (t ∷ ts) (h ∷ hs) [] k l = absurd (omega arith)
+changes-next (a ∷ ks) (t ∷ ts) (h ∷ hs) (w ∷ ws) zero l = refl
+changes-next (a ∷ ks) (t ∷ ts) (h ∷ hs) (w ∷ ws) (suc k) l = changes-next ks ts hs ws k (omega arith)
+
+pub changes-more : (ks ts hs ws : List ℕ) (k : ℕ) → k < length (changes ks ts hs ws)
+    → drop k (changes ks ts hs ws) ≡ change (getD ks k 0) (getD ts k 0) (getD hs k 0) (getD ws k 0) ∷ drop (k + 1) (changes ks ts hs ws)
+changes-more ks ts hs ws k l = rw (add-one) (changes-next ks ts hs ws k l)
+
+-- ---- a change's own words
+
+module _ (n i k t h w : ℕ) where
+  pub words-outside : (n ≤ t) ⊎ (n ≤ h) → refuse 6 i ≡ words n i (change k t h w)
+  unfolding words refuseIf _▷_
+  words-outside (inl a) = rw (le-ltb t n a)
+  words-outside (inr a) = pick (ltb t n)
+    where
+      pick : (b : Bool)
+          → refuse 6 i ≡ (refuseIf (not (b && ltb h n)) 6 i
+          ▷ refuseIf (not (eqb k 1 || eqb k 2)) 7 i
+          ▷ refuseIf (eqb t h) 8 i
+          ▷ refuseIf (not (cond (eqb k 1) (isWeight w) (eqb w 0))) 9 i)
+      pick true = rw (le-ltb h n a)
+      pick false = refl
+
+  module _ (a : t < n) (b : h < n) where
+    pub words-unkind : (k ≡ 1 → ⊥) → (k ≡ 2 → ⊥) → refuse 7 i ≡ words n i (change k t h w)
+    unfolding words refuseIf _▷_
+    words-unkind c d = rw (lt-ltb t n a, lt-ltb h n b, ne-eqb k 1 c, ne-eqb k 2 d)
+
+    kind : (k ≡ 1) ⊎ (k ≡ 2) → (eqb k 1 || eqb k 2) ≡ true
+    kind (inl e) = rw (eq-eqb k 1 e)
+    kind (inr e) = or-right (eqb k 1) (eq-eqb k 2 e)
+
+    pub words-loop : (k ≡ 1) ⊎ (k ≡ 2) → t ≡ h → refuse 8 i ≡ words n i (change k t h w)
+    unfolding words refuseIf _▷_
+    words-loop c d = rw (lt-ltb t n a, lt-ltb h n b, kind c, eq-eqb t h d)
+
+    pub words-rest : (k ≡ 1) ⊎ (k ≡ 2) → (t ≡ h → ⊥) → refuseIf (not (cond (eqb k 1) (isWeight w) (eqb w 0))) 9 i ≡ words n i (change k t h w)
+    unfolding words refuseIf _▷_
+    words-rest c d = rw (lt-ltb t n a, lt-ltb h n b, kind c, ne-eqb t h d)
+
+-- a delete whose words are good is of kind 2 and weight 0
+pub words-delete : (n i k t h w : ℕ) → (k ≡ 1 → ⊥) → words n i (change k t h w) ≡ accept → change k t h w ≡ change 2 t h 0
+unfolding words
+words-delete n i k t h w z e =
+    let q = ne-eqb k 1 z in
+    let a = then-accept (refuseIf (not (ltb t n && ltb h n)) 6 i) _ e in
+    let b = then-accept (refuseIf (not (eqb k 1 || eqb k 2)) 7 i) _ (a .1) in
+    let d = then-accept (refuseIf (eqb t h) 8 i) _ (b .1) in
+    let x : (eqb k 1 || eqb k 2) ≡ true = not-false _ (if-accept _ _ _ (b .0)) in
+    let y : cond (eqb k 1) (isWeight w) (eqb w 0) ≡ true = not-false _ (if-accept _ _ _ (d .1)) in
+    let u : k ≡ 2 = eqb-true _ _ (rw q at x) in
+    let v : w ≡ 0 = eqb-true _ _ (rw q at y) in
+    rw (u, v)
+
+-- ---- a change against the edges
+
+there : (es : List Edge) (t h w j : ℕ) → find (edge t h 0) es ≡ At j → present es (edge t h w) ≡ true
+there es t h w j e = found-present (edge t h w) es j (find-pair t h w 0 es ∙ e)
+
+pub pair-absent : (es : List Edge) (t h w : ℕ) → find (edge t h 0) es ≡ Absent → present es (edge t h w) ≡ false
+pair-absent es t h w e = absent-present (edge t h w) es (find-pair t h w 0 es ∙ e)
+
+module _ (es : List Edge) (t h w i : ℕ) where
+  pub insert-present : (j : ℕ) → find (edge t h 0) es ≡ At j → refuse 10 i ≡ against i es (change 1 t h w)
+  unfolding against refuseIf _▷_
+  insert-present j e = rw (there es t h w j e)
+
+  pub insert-full : find (edge t h 0) es ≡ Absent → maxEdges ≤ length es → refuse 12 i ≡ against i es (change 1 t h w)
+  unfolding against refuseIf _▷_
+  insert-full e l = rw (pair-absent es t h w e, le-ltb (length es) maxEdges l)
+
+  pub insert-fine : find (edge t h 0) es ≡ Absent → length es < maxEdges → accept ≡ against i es (change 1 t h w)
+  unfolding against refuseIf _▷_
+  insert-fine e l = rw (pair-absent es t h w e, lt-ltb (length es) maxEdges l)
+
+module _ (es : List Edge) (t h i : ℕ) where
+  pub delete-absent : find (edge t h 0) es ≡ Absent → refuse 11 i ≡ against i es (change 2 t h 0)
+  unfolding against refuseIf _▷_
+  delete-absent e = rw (pair-absent es t h 0 e)
+
+  pub delete-fine : (j : ℕ) → find (edge t h 0) es ≡ At j → accept ≡ against i es (change 2 t h 0)
+  unfolding against refuseIf _▷_
+  delete-fine j e = rw (there es t h 0 j e)
+
+-- ---- a change as a whole
+
+pub item-words : (n i : ℕ) (es : List Edge) (c : Change) (k j : ℕ) → refuse k j ≡ words n i c → refuse k j ≡ item n i es c
+unfolding item _▷_
+item-words n i es c k j e = ap (λ v. v ▷ against i es c) e
+
+pub item-against : (n i : ℕ) (es : List Edge) (c : Change) {v : Verdict} → accept ≡ words n i c → v ≡ against i es c → v ≡ item n i es c
+unfolding item _▷_
+item-against n i es c a e = e ∙ ap (λ v. v ▷ against i es c) a
+
+-- a change that is another by its words
+module _ (n i : ℕ) (es : List Edge) (c d : Change) (q : c ≡ d) where
+  pub item-as : {v : Verdict} → accept ≡ words n i c → v ≡ against i es d → v ≡ item n i es c
+  item-as a e = item-against n i es c a (rw q e)
+
+  pub leaves-as : {r : Edited} {ts hs ws : List ℕ} → Leaves n r ts hs ws (edit es d) → Leaves n r ts hs ws (edit es c)
+  leaves-as l = rw q l
+
+-- the table after an accepted change
+pub item-tabled : (n i m : ℕ) (ts hs ws : List ℕ) (c : Change) → Tabled n m ts hs ws → accept ≡ words n i c → accept ≡ against i (edges ts hs ws m) c
+    → (m′ : ℕ) (ts′ hs′ ws′ : List ℕ) → m′ ≤ maxEdges → Room maxEdges ts′ hs′ ws′ → edges ts′ hs′ ws′ m′ ≡ edit (edges ts hs ws m) c
+    → Tabled n m′ ts′ hs′ ws′
+item-tabled n i m ts hs ws c t a b m′ ts′ hs′ ws′ l r e =
+    let few : m ≤ maxEdges = t .few in
+    let q = edges-length ts hs ws m (room-less few (t .room)) in
+    let long : length (edges ts hs ws m) ≤ maxEdges = omega arith in
+    let z = item-good n i (edges ts hs ws m) c (sym (item-against n i (edges ts hs ws m) c a b)) (rules-accept n _ (t .rules)) long in
+    record { few = l; room = r; rules = rw e (accept-rules n _ (z .0)) }
+
+-- ---- what an answer tells of the lists
+
+pub leaves-refused : (n k i : ℕ) (r : Edited) (ts hs ws : List ℕ) (fs : List Edge) → r ≡ Refused k i → Leaves n r ts hs ws fs
+leaves-refused n k i r ts hs ws fs q = record {
+  table = λ m e. let z : _≡_ {A = ℕ} 0 1 = cc in absurd (omega arith);
+  edges = λ m e. let z : _≡_ {A = ℕ} 0 1 = cc in absurd (omega arith);
+}
+
+pub leaves-count : (n m : ℕ) (ts hs ws : List ℕ) (fs : List Edge) → Tabled n m ts hs ws → edges ts hs ws m ≡ fs → Leaves n (Count m) ts hs ws fs
+leaves-count n m ts hs ws fs t e = record {
+  table = λ k q. let z : m ≡ k = cc in rw z at t;
+  edges = λ k q. let z : m ≡ k = cc in rw z at e;
+}
+
+-- ---- a chain of changes from one on
+
+module _ (n k : ℕ) (es : List Edge) (c : Change) (cs ds : List Change) (e : cs ≡ c ∷ ds) {v : Verdict} (h : items n k es cs ≡ v) where
+  pub items-more : (fs : List Edge) → fs ≡ edit es c → accept ≡ item n k es c → items n (k + 1) fs ds ≡ v
+  unfolding items _▷_
+  items-more fs f a = rw (add-one, f) (rw (e, ← a) at h)
+
+  pub items-stop : (j p : ℕ) → refuse j p ≡ item n k es c → refuse j p ≡ v
+  unfolding items _▷_
+  items-stop j p a = rw (e, ← a) at h
+
+pub items-none : (n k : ℕ) (es : List Edge) (cs : List Change) {v : Verdict} → cs ≡ [] → items n k es cs ≡ v → accept ≡ v
+unfolding items
+items-none n k es cs e h = rw e at h
+
+pub edits-more : (es fs : List Edge) (c : Change) (cs ds : List Change) {gs : List Edge} → cs ≡ c ∷ ds → fs ≡ edit es c → edits es cs ≡ gs → edits fs ds ≡ gs
+edits-more es fs c cs ds e f h = rw f (rw e at h)
+
+pub edits-none : (es : List Edge) (cs : List Change) {gs : List Edge} → cs ≡ [] → edits es cs ≡ gs → es ≡ gs
+edits-none es cs e h = rw e at h

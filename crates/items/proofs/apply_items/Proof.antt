@@ -1,0 +1,171 @@
+-- `items::apply_items` meets its contract: what is left of the changes gives, from here, the verdict and the edges of all.
+-- Assumes nothing.
+use borrow.Author.Needs.{needs}
+use native.Mathlib.Omega.{arith}
+use mathlib.Core.Path.{_≡_, refl, sym, ap, _∙_}
+use Prim.Native.Nat.{_-_, _≤_, _<_}
+use lib.ListN.{length, drop, drop-of-length-le}
+use Rattle.graph.specs.Edge.{edges}
+use Rattle.network.specs.Change.{edits, items}
+use Rattle.items.specs.Code.{changes, verdict}
+use Rattle.calls.specs.Code.{Tabled}
+use Rattle.items.proofs.Editing.{changes-short, changes-more, items-more, items-stop, items-none, edits-more, edits-none, leaves-refused, leaves-count}
+use Rattle.items.proofs.apply_items.Statement.{statement}
+use Rattle.items.proofs.apply_items.Tie as tie
+
+abbrev Inv-loop : tie.InvT-loop
+Inv-loop n size kinds froms tos values tails₀ heads₀ weights₀ count m₀ k₀ tails heads weights m k =
+    (items n k (edges tails heads weights m) (drop k (changes kinds froms tos values)) ≡ items n 0 (edges tails₀ heads₀ weights₀ count) (changes kinds froms tos values))
+    × (edits (edges tails heads weights m) (drop k (changes kinds froms tos values)) ≡ edits (edges tails₀ heads₀ weights₀ count) (changes kinds froms tos values))
+    × Tabled n m tails heads weights
+    × (k ≤ size) × (length tails ≡ length tails₀) × (length heads ≡ length heads₀) × (length weights ≡ length weights₀)
+
+abbrev μ-loop : tie.MeasureT-loop
+μ-loop n size kinds froms tos values tails₀ heads₀ weights₀ count m₀ k₀ tails heads weights m k = size - k
+
+abbrev start : tie.At-loop Inv-loop μ-loop → tie.Start Inv-loop μ-loop
+start l = l .before .before .before .before .before .before .before .before
+
+within : (c : tie.In-loop Inv-loop μ-loop) → let a = start (c .before) .args in c .before .loop .k < length (changes (a .kinds .now) (a .froms .now) (a .tos .now) (a .values .now))
+within c = let e = start (c .before) .pre .0 in omega arith
+
+-- the place of the change at hand is in all four lists
+inside : (c : tie.In-loop Inv-loop μ-loop) → let a = start (c .before) .args in let k = c .before .loop .k in
+    (k < length (a .kinds .now)) × (k < length (a .froms .now)) × (k < length (a .tos .now)) × (k < length (a .values .now))
+inside c =
+    let a = start (c .before) .args in
+    let z = changes-short (a .kinds .now) (a .froms .now) (a .tos .now) (a .values .now) in
+    let e = start (c .before) .pre .0 in
+    (omega arith, omega arith, omega arith, omega arith)
+
+loop-holds : tie.Need-loop-holds Inv-loop μ-loop
+loop-holds c =
+    let s = c .before .before .before .before .before .before .before in
+    (refl, refl, s .pre .1, omega arith, refl, refl, refl)
+
+mul-apply-item : tie.Need-mul-apply-item Inv-loop μ-loop
+mul-apply-item c = let z = inside (c) in search needs
+
+shared-slice-read-apply-item : tie.Need-shared-slice-read-apply-item Inv-loop μ-loop
+shared-slice-read-apply-item c = inside (c .before) .0
+
+mul-apply-item-2 : tie.Need-mul-apply-item-2 Inv-loop μ-loop
+mul-apply-item-2 c = let z = inside (c .before) in search needs
+
+shared-slice-read-apply-item-2 : tie.Need-shared-slice-read-apply-item-2 Inv-loop μ-loop
+shared-slice-read-apply-item-2 c = inside (c .before .before) .1
+
+mul-apply-item-3 : tie.Need-mul-apply-item-3 Inv-loop μ-loop
+mul-apply-item-3 c = let z = inside (c .before .before) in search needs
+
+shared-slice-read-apply-item-3 : tie.Need-shared-slice-read-apply-item-3 Inv-loop μ-loop
+shared-slice-read-apply-item-3 c = inside (c .before .before .before) .2
+
+mul-apply-item-4 : tie.Need-mul-apply-item-4 Inv-loop μ-loop
+mul-apply-item-4 c = let z = inside (c .before .before .before) in search needs
+
+shared-slice-read-apply-item-4 : tie.Need-shared-slice-read-apply-item-4 Inv-loop μ-loop
+shared-slice-read-apply-item-4 c = inside (c .before .before .before .before) .3
+
+apply-item-requires : tie.Need-apply-item-requires Inv-loop μ-loop
+apply-item-requires c κs = let l = c .before .before .before .before .before .before .before .before in l .loop .inv .2
+
+enum-known-edited : tie.Need-enum-known-edited Inv-loop μ-loop
+enum-known-edited c = search needs
+
+enum-told : tie.Need-enum-told Inv-loop μ-loop
+enum-told c = search needs
+
+same-length : tie.Need-same-length Inv-loop μ-loop
+same-length c = search needs
+
+same-length-2 : tie.Need-same-length-2 Inv-loop μ-loop
+same-length-2 c = search needs
+
+same-length-3 : tie.Need-same-length-3 Inv-loop μ-loop
+same-length-3 c = search needs
+
+returns : tie.Need-returns Inv-loop μ-loop
+unfolding verdict
+returns c =
+    let a = c .before .before .before .before .before .before .before .before in
+    let t = a .before .before .before .before .before .before .before .before in
+    let l = t .before in
+    let g = start l .args in
+    let q = c .enum-told .given .1 in
+    let d = changes-more (g .kinds .now) (g .froms .now) (g .tos .now) (g .values .now) (l .loop .k) (within t) in
+    (ap verdict q ∙ items-stop _ _ _ _ _ _ d (l .loop .inv .0) _ _ (sym (ap verdict q) ∙ a .apply-item .ensures .0), leaves-refused _ _ _ _ _ _ _ _ q)
+
+add-k : tie.Need-add-k Inv-loop μ-loop
+add-k c = search needs
+
+loop-less : tie.Need-loop-less Inv-loop μ-loop
+loop-less c = search needs
+
+loop-again : tie.Need-loop-again Inv-loop μ-loop
+unfolding verdict
+loop-again c =
+    let e = c .before in
+    let a = e .before .before .before .before .before .before .before .before in
+    let t = a .before .before .before .before .before .before .before .before in
+    let l = t .before in
+    let g = start l .args in
+    let q = e .edited .given .1 in
+    let d = changes-more (g .kinds .now) (g .froms .now) (g .tos .now) (g .values .now) (l .loop .k) (within t) in
+    let f = a .apply-item .ensures .1 .edges _ q in (
+      items-more _ _ _ _ _ _ d (l .loop .inv .0) _ f (sym (ap verdict q) ∙ a .apply-item .ensures .0),
+      edits-more _ _ _ _ _ d f (l .loop .inv .1),
+      a .apply-item .ensures .1 .table _ q,
+      omega arith,
+      a .apply-item .kept .1 .1 .1 .1 .1 .0 ∙ l .loop .inv .4,
+      a .apply-item .kept .1 .1 .1 .1 .1 .1 .0 ∙ l .loop .inv .5,
+      a .apply-item .kept .1 .1 .1 .1 .1 .1 .1 .0 ∙ l .loop .inv .6,
+    )
+
+same-length-4 : tie.Need-same-length-4 Inv-loop μ-loop
+same-length-4 c = search needs
+
+same-length-5 : tie.Need-same-length-5 Inv-loop μ-loop
+same-length-5 c = search needs
+
+same-length-6 : tie.Need-same-length-6 Inv-loop μ-loop
+same-length-6 c = search needs
+
+returns-2 : tie.Need-returns-2 Inv-loop μ-loop
+unfolding verdict
+returns-2 c =
+    let l = c .before in
+    let a = start l .args in
+    let e = start l .pre .0 in
+    let z = drop-of-length-le (changes (a .kinds .now) (a .froms .now) (a .tos .now) (a .values .now)) {i = l .loop .k} (omega arith) in
+    (items-none _ _ _ _ z (l .loop .inv .0), leaves-count _ _ _ _ _ _ (l .loop .inv .2) (edits-none _ _ z (l .loop .inv .1)))
+
+pub apply-items-spec : {M : Type 1} → statement M
+apply-items-spec =
+    tie.close
+    (tie.spec
+    Inv-loop
+    μ-loop
+    loop-holds
+    mul-apply-item
+    shared-slice-read-apply-item
+    mul-apply-item-2
+    shared-slice-read-apply-item-2
+    mul-apply-item-3
+    shared-slice-read-apply-item-3
+    mul-apply-item-4
+    shared-slice-read-apply-item-4
+    apply-item-requires
+    enum-known-edited
+    enum-told
+    same-length
+    same-length-2
+    same-length-3
+    returns
+    add-k
+    loop-less
+    loop-again
+    same-length-4
+    same-length-5
+    same-length-6
+    returns-2)

@@ -1,0 +1,102 @@
+-- `items::delete_item` meets its contract. Assumes nothing.
+use borrow.Author.Needs.{needs}
+use native.Mathlib.Omega.{arith}
+use mathlib.Core.Path.{_≡_, refl, sym, _∙_}
+use Prim.Native.Nat.{_<_, _≤_}
+use Rattle.graph.specs.declared.Found.the-variants.{At}
+use Rattle.graph.specs.Limits.{maxEdges}
+use Rattle.graph.specs.Edge.{edge, edges}
+use Rattle.graph.specs.Code.{Room, find}
+use Rattle.graph.proofs.Records.{room-less, edges-length}
+use Rattle.graph.proofs.Lookup.{find-below, delete-found}
+use Rattle.network.specs.Change.{edit}
+use Rattle.items.specs.Code.{change, verdict}
+use Rattle.items.proofs.Editing.{leaves-refused, leaves-count, delete-absent, delete-fine, item-tabled}
+use Rattle.items.proofs.delete_item.Statement.{statement}
+use Rattle.items.proofs.delete_item.Tie as tie
+
+-- where the pair is found
+abbrev start : tie.After-i → tie.Start
+start i = i .before .before .before .before .before .before .before .before .before
+
+found : (i : tie.After-i) → let a = start i .args in find (edge (a .t) (a .h) 0) (edges (a .tails .now) (a .heads .now) (a .weights .now) (a .count)) ≡ At (i .i .given .0 .0)
+found i = sym (i .before .before .find .ensures) ∙ i .i .given .1
+
+below : (i : tie.After-i) → i .i .given .0 .0 < start i .args .count
+below i =
+    let t = start i .pre .0 in
+    let q = edges-length _ _ _ _ (room-less (t .few) (t .room)) in
+    let l = find-below _ _ _ (found i) in
+    omega arith
+
+find-requires : tie.Need-find-requires
+find-requires c κs = search needs
+
+enum-known-i : tie.Need-enum-known-i
+enum-known-i c = search needs
+
+enum-told : tie.Need-enum-told
+enum-told c = search needs
+
+same-length : tie.Need-same-length
+same-length c = search needs
+
+same-length-2 : tie.Need-same-length-2
+same-length-2 c = search needs
+
+same-length-3 : tie.Need-same-length-3
+same-length-3 c = search needs
+
+returns : tie.Need-returns
+unfolding verdict
+returns c =
+    let f = c .before .before in
+    (delete-absent _ _ _ _ (sym (f .find .ensures) ∙ c .enum-told .given .1), leaves-refused _ _ _ _ _ _ _ _ refl)
+
+delete-at-requires : tie.Need-delete-at-requires
+delete-at-requires c κs =
+    let i = c .before .before .before .before in
+    let t = start i .pre .0 in
+    (below i, room-less (t .few) (t .room))
+
+sub-t24 : tie.Need-sub-t24
+sub-t24 c = let l = below (c .before .before .before .before .before .before .before .before .before .before .before) in omega arith
+
+same-length-4 : tie.Need-same-length-4
+same-length-4 c = search needs
+
+same-length-5 : tie.Need-same-length-5
+same-length-5 c = search needs
+
+same-length-6 : tie.Need-same-length-6
+same-length-6 c = search needs
+
+returns-2 : tie.Need-returns-2
+unfolding verdict edit
+returns-2 c =
+    let d = c .before .before .before .before .before .before in
+    let i = d .before .before .before .before .before in
+    let s = start i in
+    let a = delete-fine _ (s .args .t) (s .args .h) (s .args .place) _ (found i) in
+    let e = d .delete-at .ensures ∙ delete-found _ _ _ (found i) in
+    let t : s .args .count ≤ maxEdges = s .pre .0 .few in
+    let r : Room maxEdges (d .delete-at .last .1 .0) (d .delete-at .last .1 .1 .0) (d .delete-at .last .1 .1 .1 .0) = record { tails = omega arith; heads = omega arith; weights = omega arith } in
+    (a, leaves-count _ _ _ _ _ _ (item-tabled _ (s .args .place) _ _ _ _ (change 2 (s .args .t) (s .args .h) 0) (s .pre .0) (sym (s .pre .1)) a _ _ _ _ (omega arith) r e) e)
+
+pub delete-item-spec : {M : Type 1} → statement M
+delete-item-spec =
+    tie.close
+    (tie.spec
+    find-requires
+    enum-known-i
+    enum-told
+    same-length
+    same-length-2
+    same-length-3
+    returns
+    delete-at-requires
+    sub-t24
+    same-length-4
+    same-length-5
+    same-length-6
+    returns-2)

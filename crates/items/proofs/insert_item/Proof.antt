@@ -1,0 +1,113 @@
+-- `items::insert_item` meets its contract. Assumes nothing.
+use borrow.Author.Needs.{needs}
+use native.Mathlib.Omega.{arith}
+use mathlib.Core.Path.{_≡_, refl, sym, _∙_}
+use lib.ListN.{length}
+use Rattle.graph.specs.declared.Found.the-variants.{Absent}
+use Rattle.graph.specs.Limits.{maxEdges}
+use Rattle.graph.specs.Edge.{edge, edges}
+use Rattle.graph.specs.Code.{Room, find}
+use Rattle.graph.proofs.Records.{room-less, edges-length}
+use Rattle.network.specs.Change.{edit}
+use Rattle.items.specs.Code.{change, verdict}
+use Rattle.items.proofs.Editing.{leaves-refused, leaves-count, insert-present, insert-full, insert-fine, pair-absent, item-tabled}
+use Rattle.items.proofs.insert_item.Statement.{statement}
+use Rattle.items.proofs.insert_item.Tie as tie
+
+-- where the pair is absent
+abbrev start : tie.After-enum-told2 → tie.Start
+start e = e .before .before .before .before .before .before .before .before .before
+
+absent : (e : tie.After-enum-told2) → let a = start e .args in find (edge (a .t) (a .h) 0) (edges (a .tails .now) (a .heads .now) (a .weights .now) (a .count)) ≡ Absent
+absent e = sym (e .before .before .find .ensures) ∙ e .enum-told2 .given .1
+
+long : (e : tie.After-enum-told2) → let a = start e .args in length (edges (a .tails .now) (a .heads .now) (a .weights .now) (a .count)) ≡ a .count
+long e = let t = start e .pre .0 in edges-length _ _ _ _ (room-less (t .few) (t .room))
+
+find-requires : tie.Need-find-requires
+find-requires c κs = search needs
+
+enum-told : tie.Need-enum-told
+enum-told c = search needs
+
+same-length : tie.Need-same-length
+same-length c = search needs
+
+same-length-2 : tie.Need-same-length-2
+same-length-2 c = search needs
+
+same-length-3 : tie.Need-same-length-3
+same-length-3 c = search needs
+
+returns : tie.Need-returns
+unfolding verdict
+returns c =
+    let f = c .before .before in
+    (insert-present _ _ _ _ _ _ (sym (f .find .ensures) ∙ c .enum-told .given .1), leaves-refused _ _ _ _ _ _ _ _ refl)
+
+enum-told-2 : tie.Need-enum-told-2
+enum-told-2 c = search needs
+
+same-length-4 : tie.Need-same-length-4
+same-length-4 c = search needs
+
+same-length-5 : tie.Need-same-length-5
+same-length-5 c = search needs
+
+same-length-6 : tie.Need-same-length-6
+same-length-6 c = search needs
+
+returns-2 : tie.Need-returns-2
+unfolding verdict
+returns-2 c = let q = long (c .before) in (insert-full _ _ _ _ _ (absent (c .before)) (omega arith), leaves-refused _ _ _ _ _ _ _ _ refl)
+
+insert-requires : tie.Need-insert-requires
+insert-requires c κs =
+    let e = c .before .before .before in
+    let t = start (e .before) .pre .0 in
+    (room-less (omega arith) (t .room), (t .rules, pair-absent _ _ _ (start (e .before) .args .w) (absent (e .before))))
+
+add-t25 : tie.Need-add-t25
+add-t25 c = search needs
+
+same-length-7 : tie.Need-same-length-7
+same-length-7 c = search needs
+
+same-length-8 : tie.Need-same-length-8
+same-length-8 c = search needs
+
+same-length-9 : tie.Need-same-length-9
+same-length-9 c = search needs
+
+returns-3 : tie.Need-returns-3
+unfolding verdict edit
+returns-3 c =
+    let i = c .before .before .before .before .before .before in
+    let e = i .before .before .before .before in
+    let s = start (e .before) in
+    let q = long (e .before) in
+    let a = insert-fine _ (s .args .t) (s .args .h) (s .args .w) (s .args .place) (absent (e .before)) (omega arith) in
+    let r : Room maxEdges (i .insert .last .1 .1 .1 .1 .0) (i .insert .last .1 .1 .1 .1 .1 .0) (i .insert .last .1 .1 .1 .1 .1 .1 .0) = record { tails = omega arith; heads = omega arith; weights = omega arith } in
+    (a, leaves-count _ _ _ _ _ _ (item-tabled _ (s .args .place) _ _ _ _ (change 1 (s .args .t) (s .args .h) (s .args .w)) (s .pre .0) (sym (s .pre .1)) a _ _ _ _ (omega arith) r (i .insert .ensures)) (i .insert .ensures))
+
+pub insert-item-spec : {M : Type 1} → statement M
+insert-item-spec =
+    tie.close
+    (tie.spec
+    find-requires
+    enum-told
+    same-length
+    same-length-2
+    same-length-3
+    returns
+    enum-told-2
+    same-length-4
+    same-length-5
+    same-length-6
+    returns-2
+    insert-requires
+    add-t25
+    same-length-7
+    same-length-8
+    same-length-9
+    returns-3)

@@ -1,0 +1,53 @@
+-- `items::judge_words` meets its contract. Assumes nothing.
+use borrow.Author.Needs.{needs}
+use borrow.Author.Tests.{leb-true, leb-false, eqb-true, eqb-false, not-true, not-false}
+use Prim.Native.Nat.{_<_}
+use mathlib.Core.Path.{_≡_, ap, _∙_}
+use mathlib.Core.Logic.{_⊎_, inl, inr, ⊎-elim}
+use mathlib.Core.Bool.{Bool, not}
+use Rattle.graph.specs.Refusal.{refuseIf}
+use Rattle.graph.specs.Code.{told}
+use Rattle.items.proofs.Editing.{words-outside, words-unkind, words-loop, words-rest}
+use Rattle.items.proofs.judge_words.Statement.{statement}
+use Rattle.items.proofs.judge_words.Tie as tie
+
+-- past the first test, tail and head are vertices; past the second, the kind is one
+head-below : (c : tie.Else2) → c .before .before .args .h < c .before .before .args .n
+head-below c = leb-false _ _ (c .if2 .left)
+
+known : (c : tie.Joined3) → (c .before .before .before .args .kind ≡ 1) ⊎ (c .before .before .before .args .kind ≡ 2)
+known c = ⊎-elim (λ w. inr (eqb-true _ _ (not-false _ (w .1 .left)))) (λ w. inl (w .left)) (c .if3 .came)
+
+returns : tie.Need-returns
+unfolding told
+returns c = words-outside _ _ _ _ _ _ (⊎-elim (λ w. inl (w .taken)) (λ w. inr (leb-true _ _ (w .1 .taken))) (c .if1 .came))
+
+returns-2 : tie.Need-returns-2
+unfolding told
+returns-2 c =
+    let e = c .before .before in
+    words-unkind _ _ _ _ _ _ (e .before .if1 .left) (head-below e) (c .before .if3 .taken) (eqb-false _ _ (not-true _ (c .if4 .taken)))
+
+returns-3 : tie.Need-returns-3
+unfolding told
+returns-3 c =
+    let j = c .before in
+    words-loop _ _ _ _ _ _ (j .before .before .if1 .left) (head-below (j .before)) (known j) (c .if5 .taken)
+
+is-suited-requires : tie.Need-is-suited-requires
+is-suited-requires c κs = search needs
+
+refuse-if-requires : tie.Need-refuse-if-requires
+refuse-if-requires c κs = search needs
+
+returns-4 : tie.Need-returns-4
+returns-4 c =
+    let e = c .before .before in
+    let j = e .before in
+    c .refuse-if .ensures ∙ (ap (λ (b : Bool). refuseIf (not b) 9 (j .before .before .before .args .place)) (c .before .is-suited .ensures)
+    ∙ words-rest _ _ _ _ _ _ (j .before .before .if1 .left) (head-below (j .before)) (known j) (e .if5 .left))
+
+pub judge-words-spec : {M : Type 1} → statement M
+judge-words-spec =
+    tie.close
+    (tie.spec returns returns-2 returns-3 is-suited-requires refuse-if-requires returns-4)

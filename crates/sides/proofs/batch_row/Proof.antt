@@ -1,0 +1,77 @@
+-- `sides::batch_row` meets its contract. Assumes nothing.
+use borrow.Author.Needs.{needs}
+use native.Mathlib.Omega.{arith}
+use mathlib.Core.Path.{refl, _∙_}
+use Rattle.sides.proofs.Row.{row-done}
+use Rattle.sides.proofs.batch_row.Statement.{statement}
+use Rattle.sides.proofs.batch_row.Tie as tie
+
+abbrev start : tie.After-empty → tie.Start
+start e = e .before .before .before .before .before .before .before .before .before .before .before .before .before .before .before
+
+cast-p : tie.Need-cast-p
+cast-p c = search needs
+
+add-p : tie.Need-add-p
+add-p c = search needs
+
+empty-requires : tie.Need-empty-requires
+empty-requires c κs = search needs
+
+mul-prepare : tie.Need-mul-prepare
+mul-prepare c = search needs
+
+shared-slice-read-prepare : tie.Need-shared-slice-read-prepare
+shared-slice-read-prepare c = search needs
+
+prepare-requires : tie.Need-prepare-requires
+prepare-requires c κs =
+    let s = start (c .before .before .before) in
+    let o = s .pre .1 .0 in
+    let w = s .pre .1 .1 .0 in (
+      record { room = o .room; ends = o .ends; bytes = o .bytes; words = s .pre .0 .2 },
+      (
+        record { tails = w .room .tails; heads = w .room .heads; ends = w .ends; bytes = w .bytes },
+        ((w .room, s .pre .0 .3), (o .absent, w .absent)),
+      ),
+    )
+
+settle-requires : tie.Need-settle-requires
+settle-requires c κs =
+    let p = c .before .before .before .before in
+    let s = start (p .before .before .before .before) in
+    let m = p .prepare .ensures .1 .1 in
+    record {
+      index = s .pre .1 .1 .1 .fit;
+      sized = record { words = p .prepare .kept .1 .1 .1 .1 .1 .1 .1 .1 .1 .1 .1 .1 .1 .1 .0 ∙ s .pre .0 .3; waiting = record { few = s .pre .1 .1 .1 .fit .few; bits = m .bits; idle = m .idle } };
+      low = record { taken = omega arith; rounds = omega arith; stores = omega arith };
+    }
+
+any-requires : tie.Need-any-requires
+any-requires c κs = search needs
+
+same-length : tie.Need-same-length
+same-length c = search needs
+
+returns : tie.Need-returns
+returns c =
+    let q = c .before .before .before .before in
+    let p = q .before .before .before .before .before in
+    let s = start (p .before .before .before .before) in
+    row-done (s .args .n) (s .args .r) (s .args .landmarks .now) _ _ _ _ _ _ _ (q .settle .result) (p .prepare .ensures .0) (q .settle .ensures .0 _ (s .pre .1 .1 .1 .own))
+    _ (s .pre .1 .1 .1 .fit .few) (q .settle .ensures .1) (c .any .ensures) (p .prepare .ensures .1 .0) refl
+
+pub batch-row-spec : {M : Type 1} → statement M
+batch-row-spec =
+    tie.close
+    (tie.spec
+    cast-p
+    add-p
+    empty-requires
+    mul-prepare
+    shared-slice-read-prepare
+    prepare-requires
+    settle-requires
+    any-requires
+    same-length
+    returns)
