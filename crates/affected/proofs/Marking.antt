@@ -18,8 +18,8 @@ use Rattle.graph.proofs.Lists.{getD-within}
 use Rattle.run.specs.Run.{word}
 use Rattle.run.specs.Code.{bits}
 use Rattle.run.proofs.States.{bits-at, bits-set}
-use Rattle.affected.specs.Affected.{removed, held, marked, touches, mark}
-use Rattle.affected.specs.Code.{flag, holds}
+use Rattle.affected.specs.Affected.{removed, held, marked, touches, mark, holds}
+use Rattle.affected.specs.Code.{flag}
 use Rattle.affected.proofs.Tests.{and-off}
 
 -- ---- one edge, on lists of marks

@@ -6,6 +6,7 @@
 --   added es e              == e, an edge of fs, is "added": not in the old list
 --   Held P s ws e           == e is tight, and its head is not the landmark and has a route
 --   Affected P es fs s ws t == t is affected: the head of a removed held edge, and so on along held edges that stay
+--   holds P s v w h x       == an edge's words as a test: v at its tail, weight w, head h with x; it is tight, and h is not s and has a route
 --   held P s ws e           == the same as Held, as a test
 --   marked ms t             == t is marked
 --   touches .. ms e         == e marks its head: held, and removed or its tail is marked
@@ -22,7 +23,7 @@ use lib.ListN.{getD, set, replicate}
 use lib.Dec.{eqb}
 use Rattle.property.specs.Property.{Property}
 use Rattle.graph.specs.Edge.{Edge, among}
-use Rattle.run.specs.Run.{word, tight}
+use Rattle.run.specs.Run.{word}
 
 -- ---- the net effect of a batch
 
@@ -46,8 +47,11 @@ pub data Affected (P : Property) (es fs : List Edge) (s : ℕ) (ws : List ℕ) :
 
 -- ---- as marks that compute
 
+abbrev pub holds : Property → ℕ → ℕ → ℕ → ℕ → ℕ → Bool
+holds P s v w h x = eqb (P .along v w) x && (not (eqb h s) && not (eqb x (P .none)))
+
 abbrev pub held : Property → ℕ → List ℕ → Edge → Bool
-held P s ws e = tight P ws e && (not (eqb (e .head) s) && not (eqb (word P ws (e .head)) (P .none)))
+held P s ws e = holds P s (word P ws (e .tail)) (e .weight) (e .head) (word P ws (e .head))
 
 abbrev pub marked : List Bool → ℕ → Bool
 marked ms t = getD ms t false

@@ -2,24 +2,23 @@
 --
 --   flag b                    == a byte as a test: 1 is true
 --   flags bs                  == bytes as tests
---   Absent m es fs bs         == byte j of bs says whether edge j of es is absent from fs, by its three words
---   holds P s v w h x         == the test `held` of an edge's words: v at its tail, weight w, head h with x
+--   Absent m es fs bs         == byte j of bs says whether edge j of es is absent from fs: removed, or, of the new edges beside the old, added
 --   Ends n m ts hs            == the tails and heads of m edges are vertices below n
 --   Before n m ts hs ws gs vs == the table before a batch, a byte for each of its edges, and a row of n words
 --   After n m ts hs gs        == the table after a batch, as far as it is read, and a byte for each of its edges
 --   Spread n bs cs b          == what marking left, from bs to cs: b says whether there are more marks, or the same
 use mathlib.Core.Path.{_≡_}
-use mathlib.Core.Bool.{Bool, true, false, not, _&&_}
+use mathlib.Core.Bool.{Bool, true, false}
 use mathlib.Core.List.{List, map}
 use Prim.Native.Nat.{ℕ, _≤_, _<_}
 use lib.ListN.{length, getD, take}
 use lib.Dec.{eqb}
-use Rattle.property.specs.Property.{Property}
 use Rattle.frontier.specs.Waiting.{countOf}
 use Rattle.graph.specs.Limits.{maxVertices}
-use Rattle.graph.specs.Edge.{Edge, among}
+use Rattle.graph.specs.Edge.{Edge}
 use Rattle.graph.specs.Code.{Room}
 use Rattle.run.specs.Code.{bits, Marks}
+use Rattle.affected.specs.Affected.{removed}
 
 -- ---- bytes for edges
 
@@ -30,12 +29,7 @@ abbrev pub flags : List ℕ → List Bool
 flags bs = map flag bs
 
 abbrev pub Absent : ℕ → List Edge → List Edge → List ℕ → Type 0
-Absent m es fs bs = take m (flags bs) ≡ map (λ e. not (among fs e)) es
-
--- ---- an edge by its words
-
-abbrev pub holds : Property → ℕ → ℕ → ℕ → ℕ → ℕ → Bool
-holds P s v w h x = eqb (P .along v w) x && (not (eqb h s) && not (eqb x (P .none)))
+Absent m es fs bs = take m (flags bs) ≡ map (removed fs) es
 
 -- ---- what is asked, and what is kept
 

@@ -17,14 +17,14 @@ ghost use Rattle.run.specs.Run.{noTally};
 ghost use Rattle.run.specs.Code.{bits, Marks};
 ghost use Rattle.affected.specs.Affected as spec;
 ghost use Rattle.affected.specs.Prepared as start;
-ghost use Rattle.affected.specs.Code.{flag, Absent, holds, Before, After, Spread};
+ghost use Rattle.affected.specs.Code.{flag, Absent, Before, After, Spread};
 
 // ---- who is affected
 
 // Whether the edge from a vertex with word `v`, of weight `w`, holds up its head `h`, whose word is `x`: it is tight, and the head
 // is not the landmark `s` and has a route.
 pub fn is_held(p: u32, s: u32, v: u32, w: u32, h: u32, x: u32) -> bool
-    ensures { λ r. ⌜ r ≡ holds (property p) s v w h x ⌝ }
+    ensures { λ r. ⌜ r ≡ spec.holds (property p) s v w h x ⌝ }
 {
     property::along(p, v, w) == x && (h != s && x != property::none(p))
 }
@@ -181,7 +181,7 @@ pub fn reopen(
 }
 
 // A row after a batch: where its rounds start goes to `out` and `waiting`, and the answer is how many vertices are affected. The
-// table of number 1 is that before the batch, that of number 2 the one after it.
+// lists of 1 are the table before the batch, those of 2 the one after it.
 pub fn prepare(
     p: u32,
     n: usize,
@@ -257,7 +257,7 @@ pub fn lack(there: bool) -> u8
     if there { 0 } else { 1 }
 }
 
-// The bytes of a table's edges, of number 1: which of them are absent from the table of number 2, which keeps the rules.
+// The bytes of a table's edges, those of lists 1: which of them are absent from the table of lists 2, which keeps the rules.
 pub fn absent(
     n: u32,
     count1: usize,

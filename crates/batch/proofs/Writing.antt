@@ -14,7 +14,7 @@ use Rattle.graph.specs.Limits.{maxVertices, maxEdges}
 use Rattle.graph.specs.Refusal.{over}
 use Rattle.graph.specs.Edge.{Edge, zip, edges}
 use Rattle.graph.specs.Code.{Room, columns}
-use Rattle.graph.proofs.Records.{edges-length, edges-tails, edges-heads}
+use Rattle.graph.proofs.Records.{edges-length, edges-tails, edges-heads, edges-weights}
 use Rattle.run.specs.declared.Tally.{Tally}
 use Rattle.run.specs.Run.{State, settle, noTally}
 use Rattle.run.specs.Code.{bits, noCounts, state, Ran}
@@ -57,22 +57,9 @@ words-written m new old xs ys l h k d e =
 
 -- ---- the three lists of a table
 
-zip-weights : (m : ℕ) (ts hs ws : List ℕ) → length ts ≡ m → length hs ≡ m → length ws ≡ m → map (λ e. e .weight) (zip ts hs ws) ≡ ws
-unfolding zip
-zip-weights m [] hs [] a b c = refl
-zip-weights m [] hs (w ∷ ws) a b c = absurd (omega arith)
-zip-weights m (t ∷ ts) [] ws a b c = absurd (omega arith)
-zip-weights m (t ∷ ts) (h ∷ hs) [] a b c = absurd (omega arith)
-zip-weights zero (t ∷ ts) (h ∷ hs) (w ∷ ws) a b c = absurd (omega arith)
-zip-weights (suc m) (t ∷ ts) (h ∷ hs) (w ∷ ws) a b c = ap (λ (l : List ℕ). w ∷ l) (zip-weights m ts hs ws (omega arith) (omega arith) (omega arith))
-
 module _ (ts hs ws : List ℕ) (m : ℕ) (r : Room m ts hs ws) where
-  edges-weights : map (λ e. e .weight) (edges ts hs ws m) ≡ take m ws
-  unfolding edges
-  edges-weights = zip-weights m (take m ts) (take m hs) (take m ws) (length-take-le m ts (r .tails)) (length-take-le m hs (r .heads)) (length-take-le m ws (r .weights))
-
   pub table-written : (a b c : List ℕ) {x y z : List ℕ} → x ≡ over (take m ts ++ replicate (maxEdges - m) 0) a
       → y ≡ over (take m hs ++ replicate (maxEdges - m) 0) b → z ≡ over (take m ws ++ replicate (maxEdges - m) 0) c
       → columns x y z ≡ rewritten (edges ts hs ws m) (columns a b c)
   table-written a b c p q s =
-      rw (edges-length ts hs ws m r, edges-tails ts hs ws m r, edges-heads ts hs ws m r, edges-weights) (λ i. columns (p i) (q i) (s i))
+      rw (edges-length ts hs ws m r, edges-tails ts hs ws m r, edges-heads ts hs ws m r, edges-weights ts hs ws m r) (λ i. columns (p i) (q i) (s i))

@@ -1,4 +1,4 @@
-// A batch after which the table is that of number 2: all rows are run in scratch lists, and where every row settles all that is lent is
+// A batch with the new table at hand, in lists 2: all rows are run in scratch lists, and where every row settles all that is lent is
 // written. Nothing lent is written before nothing can refuse any more.
 use super::Applied;
 use super::Report;
@@ -28,7 +28,7 @@ fn write_words(count: usize, new: &[u32], list: &mut [u32])
     words::fill(&mut list[count..end], 0);
 }
 
-// The table of number 2 over that of number 1: its records, then zeros up to 2,048.
+// The new table, of lists 2, over the old one: its records, then zeros up to 2,048.
 fn write_table(
     count2: usize,
     tails2: &[u32],
@@ -46,7 +46,7 @@ fn write_table(
     write_words(count2, weights2, weights1);
 }
 
-// The bytes of two tables: which edges of the one before the batch are gone, and which of the one after it, of number 2, are fresh.
+// The bytes of two tables: which edges of the one before the batch are gone, and which of the one after it, of lists 2, are fresh.
 fn compare_tables(
     n: u32,
     tails: &[u32],
@@ -91,7 +91,7 @@ fn compare_tables(
     );
 }
 
-// All rows of both lists, for a batch after which the table is that of number 2: the new rows go to `ahead` and `back`.
+// All rows of both lists, by the new table, of lists 2: the new rows go to `ahead` and `back`.
 fn batch_sides(
     n: usize,
     landmarks: &[u32],
@@ -213,7 +213,7 @@ fn batch_runs(
     )
 }
 
-// A batch after which the table is that of number 2, in scratch lists: number 13, or all that is lent is written.
+// A batch with the new table at hand, in scratch lists: number 13, or all that is lent is written.
 fn commit_in(
     n: u32,
     landmarks: &[u32],
@@ -269,7 +269,7 @@ fn commit_in(
     })
 }
 
-// A batch after which the table is that of number 2.
+// A batch with the new table at hand.
 pub fn commit(
     n: u32,
     landmarks: &[u32],

@@ -74,7 +74,7 @@ fn judge_batch(
     calls::judge_network(n, landmarks, tails, heads, weights, count)
 }
 
-// A batch that numbers 1 to 4 let pass: its changes are tried on the scratch table of number 2.
+// A batch that numbers 1 to 4 let pass: its changes are tried on a scratch table, of lists 2.
 fn batch_in(
     n: u32,
     landmarks: &[u32],

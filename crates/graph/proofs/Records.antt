@@ -120,24 +120,32 @@ unfolding edges
 edges-set ts hs ws m p t h w l = rw (take-set-lt m ts p t l, take-set-lt m hs p h l, take-set-lt m ws p w l) (zip-set (take m ts) (take m hs) (take m ws) p t h w)
 
 zip-columns : (m : ℕ) (ts hs ws : List ℕ) → length ts ≡ m → length hs ≡ m → length ws ≡ m → (tailsOf (zip ts hs ws) ≡ ts) × (headsOf (zip ts hs ws) ≡ hs)
+    × (map (λ e. e .weight) (zip ts hs ws) ≡ ws)
 unfolding zip
-zip-columns m [] [] ws a b c = (refl, refl)
+zip-columns m [] [] [] a b c = (refl, refl, refl)
+zip-columns m [] [] (z ∷ ws) a b c = absurd (omega arith)
 zip-columns m [] (y ∷ hs) ws a b c = absurd (omega arith)
 zip-columns m (x ∷ ts) [] ws a b c = absurd (omega arith)
 zip-columns m (x ∷ ts) (y ∷ hs) [] a b c = absurd (omega arith)
 zip-columns zero (x ∷ ts) (y ∷ hs) (z ∷ ws) a b c = absurd (omega arith)
 zip-columns (suc m) (x ∷ ts) (y ∷ hs) (z ∷ ws) a b c =
     let i = zip-columns m ts hs ws (omega arith) (omega arith) (omega arith) in
-    (ap (λ (l : List ℕ). x ∷ l) (i .0), ap (λ (l : List ℕ). y ∷ l) (i .1))
+    (ap (λ (l : List ℕ). x ∷ l) (i .0), ap (λ (l : List ℕ). y ∷ l) (i .1), ap (λ (l : List ℕ). z ∷ l) (i .2))
 
 module _ (ts hs ws : List ℕ) (m : ℕ) (r : Room m ts hs ws) where
-  pub edges-tails : tailsOf (edges ts hs ws m) ≡ take m ts
+  columns-of : (tailsOf (edges ts hs ws m) ≡ take m ts) × (headsOf (edges ts hs ws m) ≡ take m hs) × (map (λ e. e .weight) (edges ts hs ws m) ≡ take m ws)
   unfolding edges
-  edges-tails = zip-columns m (take m ts) (take m hs) (take m ws) (length-take-le m ts (r .tails)) (length-take-le m hs (r .heads)) (length-take-le m ws (r .weights)) .0
+  columns-of =
+      zip-columns m (take m ts) (take m hs) (take m ws) (length-take-le m ts (r .tails)) (length-take-le m hs (r .heads)) (length-take-le m ws (r .weights))
+
+  pub edges-tails : tailsOf (edges ts hs ws m) ≡ take m ts
+  edges-tails = columns-of .0
 
   pub edges-heads : headsOf (edges ts hs ws m) ≡ take m hs
-  unfolding edges
-  edges-heads = zip-columns m (take m ts) (take m hs) (take m ws) (length-take-le m ts (r .tails)) (length-take-le m hs (r .heads)) (length-take-le m ws (r .weights)) .1
+  edges-heads = columns-of .1
+
+  pub edges-weights : map (λ e. e .weight) (edges ts hs ws m) ≡ take m ws
+  edges-weights = columns-of .2
 
 -- edges that stand in three lists are read from them, whatever follows
 pub edges-back : (fs : List Edge) (a b c : List ℕ)

@@ -16,8 +16,10 @@ pub good-holds : (n : ℕ) (ls : List ℕ) (w : Network) → Good n ls w → Hol
 good-holds n ls w g = record {
   records = refl;
   count = sym (good-count n ls w g);
-  forward = λ r t h k. g .forward r h t;
-  backward = λ r t h k. reversed-best (property-joins (suc (r % properties))) (g .backward r h t);
+  standing = record {
+    forward = λ r t h k. g .forward r h t;
+    backward = λ r t h k. reversed-best (property-joins (suc (r % properties))) (g .backward r h t);
+  };
   judged = λ q out. query-judged n ls w q out g;
   query = query-good n ls w g;
 }
@@ -41,4 +43,4 @@ history n ls w = record {
 pub best-over-routes : BestOverRoutes
 best-over-routes n ls w h bs =
     let s = ((history n ls w) .later h bs) .holds bs [] (sym (append-nil bs)) in
-    record { forward = s .forward; backward = s .backward; query = λ q out tally e. (s .query q out tally e) .best }
+    record { standing = s .standing; query = λ q out tally e. (s .query q out tally e) .best }

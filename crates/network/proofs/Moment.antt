@@ -11,21 +11,22 @@ use lib.ListN.{length}
 use Rattle.property.specs.Property.{properties}
 use Rattle.property.proofs.Instances.{property-laws}
 use Rattle.graph.specs.Limits.{maxEdges}
-use Rattle.graph.specs.Refusal.{Verdict, accept, refuse, refused, _▷_, refuseIf, replied, verdictOf, choose, Outcome, outcome, over}
+use Rattle.graph.specs.Refusal.{Verdict, accept, refuse, accepted, refused, _▷_, refuseIf, replied, verdictOf, choose, Outcome, outcome, over}
 use Rattle.graph.specs.Edge.{Edge, reverse}
 use Rattle.graph.specs.Table.{size, shortTable, table}
 use Rattle.graph.proofs.Tests.{or-false}
-use Rattle.graph.proofs.Verdicts.{then-accept, accept-then, refuse-then, accept-if, then-same, then-assoc, verdict-replied, choose-accept}
+use Rattle.graph.proofs.Verdicts.{then-accept, accept-then, refuse-then, accept-if, then-same, then-assoc, not-accept, verdict-replied, reply-accepted, choose-accept}
 use Rattle.graph.proofs.Order.{Sound, Within, within}
 use Rattle.theory.proofs.Reverse.{within-reverse}
-use Rattle.network.specs.Network.{Memory, Network, edgesIn, shortRows, landmarks, faults, flat, unsettled}
+use Rattle.network.specs.Network.{Memory, Network, edgesIn, shortRows, landmarks, faults, rowsOf, flat, unsettled}
 use Rattle.network.specs.Open.{openRow, openRows, openVerdict, openMemory, openCall}
 use Rattle.network.specs.Change.{Change, items}
-use Rattle.network.specs.Batch.{batchRow, Report, newEdges, newForward, newBackward, stillWaiting, longBatch, batchFaults, batchVerdict, batchMemory, report, batchCall}
+use Rattle.network.specs.Batch.{batchRow, affectedOf, Report, newEdges, newForward, newBackward, stillWaiting, longBatch, batchFaults, batchVerdict, batchMemory, report, batchCall}
 use Rattle.network.specs.Caller.{opened, reported, handOn, lived}
 use Rattle.network.specs.Current.{turnedBack, after, current}
-use Rattle.network.specs.History.{Unworse, Applied, moment, now}
+use Rattle.network.specs.History.{Unworse, Reported, Applied, moment, now}
 use Rattle.network.proofs.Items.{items-good, table-sound, accept-table, table-count, rewritten-edges, rewritten-long}
+use Rattle.network.proofs.Suspects.{rows-suspects}
 use Rattle.network.proofs.Rows.{rows-long, open-sized, batch-sized, RowsBest, open-best, batch-rests, batch-best, batch-unworse}
 
 -- ---- the invariant
@@ -139,8 +140,9 @@ module _ (n : ℕ) (ls : List ℕ) (w : Network) (b : List Change) (g : Good n l
       → Good n ls (handOn w (out v)) → edgesIn (handOn w (out v)) ≡ choose v fs es
       → Unworse n ls es (choose v fs es) ahead ((out v) .memory .rows .forward)
       → Unworse n ls (map reverse es) (map reverse (choose v fs es)) back ((out v) .memory .rows .backward)
+      → ((r : Report) → (out v) .reply ≡ accepted r → Reported n ls es (choose v fs es) w r)
       → Step n ls w b
-  stepped v e c good moved forward backward =
+  stepped v e c good moved forward backward reports =
       let d = called v c in
       let f = afterwards v e in
       record {
@@ -153,6 +155,7 @@ module _ (n : ℕ) (ls : List ℕ) (w : Network) (b : List Change) (g : Good n l
               (subst (λ x. Unworse n ls es x ahead ((out v) .memory .rows .forward)) (sym f) forward);
           backward = subst (λ o. Unworse n ls (map reverse es) (map reverse (after n es b)) back (o .memory .rows .backward)) (sym d)
               (subst (λ x. Unworse n ls (map reverse es) (map reverse x) back ((out v) .memory .rows .backward)) (sym f) backward);
+          reported = λ r q. subst (λ x. Reported n ls es x w r) (sym f) (reports r (ap (λ o. o .reply) (sym d) ∙ q));
         };
       }
 
@@ -164,6 +167,7 @@ module _ (n : ℕ) (ls : List ℕ) (w : Network) (b : List Change) (g : Good n l
   refused-step : (k i : ℕ) → turnedBack n es b ≡ refuse k i → Step n ls w b
   unfolding replied choose reported
   refused-step k i e = stepped (refuse k i) e (judged ∙ refuse-then _ _ e) g refl (unworse ahead es es) (unworse back (map reverse es) (map reverse es))
+      (λ r q. absurd (not-accept ((reply-accepted (refuse k i) (report n ls w fs) r q) .0)))
 
   -- ---- accepted
 
@@ -211,11 +215,22 @@ module _ (n : ℕ) (ls : List ℕ) (w : Network) (b : List Change) (g : Good n l
           (batch-best n ls (g .chosen) (map reverse es) (map reverse fs) old-back new-back back (g .backward));
     }
 
+    reports : Reported n ls es fs w (report n ls w fs)
+    reports = record {
+      ahead = affectedOf n ls es fs ahead;
+      back = affectedOf n ls (map reverse es) (map reverse fs) back;
+      forward = rows-suspects n ls es fs ahead old-in (rowsOf ls);
+      backward = rows-suspects n ls (map reverse es) (map reverse fs) back old-back (rowsOf ls);
+      total = refl;
+      count = refl;
+    }
+
     accepted-step : Step n ls w b
     unfolding replied choose reported
     accepted-step = stepped accept e (judged ∙ accept-then e ∙ accept-if 13 0 rests) next-good read
         (batch-unworse n ls (g .chosen) es fs old-in new-in ahead (g .forward))
         (batch-unworse n ls (g .chosen) (map reverse es) (map reverse fs) old-back new-back back (g .backward))
+        (λ r q. subst (Reported n ls es fs w) ((reply-accepted accept (report n ls w fs) r q) .1) reports)
 
   -- A batch keeps the invariant. As it holds before, the call refuses for nothing but what document 01 has for a batch on these edges, or
   -- for 13. Refused, all stays as it was. Accepted, the new edges keep the table's rules, and they are read back from the lists that were

@@ -218,7 +218,7 @@ fn run_query(
     run::settle(p, n, count, firsts, heads, weights, words, waiting, passed)
 }
 
-// An accepted query, in scratch lists: start words, run, and the answer where it came to rest.
+// A query that every refusal before the run lets pass, in scratch lists: start words, run, and the answer where it came to rest.
 fn query_in(
     n: usize,
     landmarks: &[u32],

@@ -4,10 +4,11 @@ use frontier::Words;
 ghost use mathlib.Core.Path.{_≡_};
 ghost use mathlib.Core.List.{List};
 ghost use mathlib.Core.Bool.{true, false};
-ghost use Prim.Native.Nat.{_<_, _≤_};
+ghost use Prim.Native.Nat.{_*_, _<_, _≤_};
 ghost use lib.ListN.{length, set, replicate};
 ghost use Rattle.property.specs.Property.{property};
 ghost use Rattle.frontier.specs.Waiting.{capacity};
+ghost use Rattle.graph.specs.Limits.{maxVertices, maxEdges, maxSchedule};
 ghost use Rattle.graph.specs.Edge.{Edge};
 ghost use Rattle.graph.specs.Own.{Own};
 ghost use Rattle.run.specs.Run as spec;
@@ -63,7 +64,7 @@ pub fn handle(
     requires { ⌜ u < n ⌝ }
     requires { ⌜ Ready 39 n count (now firsts) (now heads) (now weights) (now words) (now waiting) tally ⌝ }
     ensures { λ r. ⌜ ((es : List Edge) → Own n (now (firsts .entry)) (now (heads .entry)) (now (weights .entry)) es → state n (now (words .exit)) (now (waiting .exit)) r ≡ spec.handle (property p) es (state n (now (words .entry)) (now (waiting .entry)) tally) u) ⌝ }
-    ensures { λ r. ⌜ Ran n (now (words .exit)) (now (waiting .exit)) tally r 0 0 2048 ⌝ }
+    ensures { λ r. ⌜ Ran n (now (words .exit)) (now (waiting .exit)) tally r 0 0 maxEdges ⌝ }
 {
     frontier::remove(waiting, u);
     let hi = firsts[u + 1] as usize;
@@ -92,7 +93,7 @@ pub fn round(
 ) -> Tally
     requires { ⌜ Ready 38 n count (now firsts) (now heads) (now weights) (now words) (now waiting) tally ⌝ }
     ensures { λ r. ⌜ ((es : List Edge) → Own n (now (firsts .entry)) (now (heads .entry)) (now (weights .entry)) es → state n (now (words .exit)) (now (waiting .exit)) r ≡ spec.round (property p) es n (state n (now (words .entry)) (now (waiting .entry)) tally)) ⌝ }
-    ensures { λ r. ⌜ Ran n (now (words .exit)) (now (waiting .exit)) tally r 0 1 524288 ⌝ }
+    ensures { λ r. ⌜ Ran n (now (words .exit)) (now (waiting .exit)) tally r 0 1 (maxVertices * maxEdges) ⌝ }
 {
     let mut t = Tally {
         taken: tally.taken,
@@ -125,7 +126,7 @@ pub fn settle(
 ) -> Tally
     requires { ⌜ Ready 32 n count (now firsts) (now heads) (now weights) (now words) (now waiting) tally ⌝ }
     ensures { λ r. ⌜ ((es : List Edge) → Own n (now (firsts .entry)) (now (heads .entry)) (now (weights .entry)) es → state n (now (words .exit)) (now (waiting .exit)) r ≡ spec.settle (property p) es n n (state n (now (words .entry)) (now (waiting .entry)) tally)) ⌝ }
-    ensures { λ r. ⌜ Ran n (now (words .exit)) (now (waiting .exit)) tally r 0 n 134217728 ⌝ }
+    ensures { λ r. ⌜ Ran n (now (words .exit)) (now (waiting .exit)) tally r 0 n (maxVertices * maxVertices * maxEdges) ⌝ }
 {
     let mut t = tally;
     let mut k = 0;
@@ -155,7 +156,7 @@ pub fn take(
     requires { ⌜ u < n ⌝ }
     requires { ⌜ Ready 38 n count (now firsts) (now heads) (now weights) (now words) (now waiting) tally ⌝ }
     ensures { λ r. ⌜ ((es : List Edge) → Own n (now (firsts .entry)) (now (heads .entry)) (now (weights .entry)) es → state n (now (words .exit)) (now (waiting .exit)) r ≡ spec.take (property p) es (state n (now (words .entry)) (now (waiting .entry)) tally) u) ⌝ }
-    ensures { λ r. ⌜ Ran n (now (words .exit)) (now (waiting .exit)) tally r 1 0 2048 ⌝ }
+    ensures { λ r. ⌜ Ran n (now (words .exit)) (now (waiting .exit)) tally r 1 0 maxEdges ⌝ }
 {
     if frontier::contains(waiting, u) {
         let t = Tally {
@@ -185,7 +186,7 @@ pub fn pass(
     requires { ⌜ Ready 32 n count (now firsts) (now heads) (now weights) (now words) (now waiting) tally ⌝ }
     requires { ⌜ Scheduled n (now schedule) ⌝ }
     ensures { λ r. ⌜ ((es : List Edge) → Own n (now (firsts .entry)) (now (heads .entry)) (now (weights .entry)) es → state n (now (words .exit)) (now (waiting .exit)) r ≡ spec.pass (property p) es (now (schedule .entry)) (state n (now (words .entry)) (now (waiting .entry)) tally)) ⌝ }
-    ensures { λ r. ⌜ Ran n (now (words .exit)) (now (waiting .exit)) tally r 4096 0 8388608 ⌝ }
+    ensures { λ r. ⌜ Ran n (now (words .exit)) (now (waiting .exit)) tally r maxSchedule 0 (maxSchedule * maxEdges) ⌝ }
 {
     let mut t = tally;
     let mut entry = 0;

@@ -9,8 +9,9 @@ use mathlib.Core.Path.{_≡_}
 use mathlib.Core.List.{List}
 use Prim.Native.Nat.{ℕ, _*_, _≤_}
 use lib.ListN.{length}
+use Rattle.property.specs.Property.{properties}
 use Rattle.frontier.specs.Waiting.{anyOf, countOf}
-use Rattle.graph.specs.Limits.{maxVertices, maxEdges}
+use Rattle.graph.specs.Limits.{maxVertices, maxEdges, maxLandmarks}
 use Rattle.graph.specs.Edge.{Edge, edges}
 use Rattle.graph.specs.Code.{Room}
 use Rattle.graph.specs.Own.{Fit, Own}
@@ -42,5 +43,5 @@ pub record RowsDone (n : ℕ) (ls : List ℕ) (es fs : List Edge) (xs ys : List 
   pub unsettled : a .unsettled ≡ unsettled (batchRows n ls es fs xs)
   pub affected : a .affected ≡ affectedOf n ls es fs xs
   pub stores : a .stores ≡ storesOf (batchRows n ls es fs xs)
-  pub few : a .affected ≤ 20 * maxVertices
-  pub low : a .stores ≤ 20 * (maxVertices * maxVertices * maxEdges)
+  pub few : a .affected ≤ maxLandmarks * properties * maxVertices
+  pub low : a .stores ≤ maxLandmarks * properties * (maxVertices * maxVertices * maxEdges)

@@ -1,5 +1,5 @@
-// The rows of one side of a batch: each is prepared for the new edges and settled. The table of number 1 is that before the batch, that
-// of number 2 the one after it, which a run reads by `firsts`, `ends` and `lengths`.
+// The rows of one side of a batch: each is prepared for the new edges and settled. The lists of 1 are the table before the batch, those
+// of 2 the one after it, which a run reads by `firsts`, `ends` and `lengths`.
 use graph::index;
 use run::Tally;
 ghost use mathlib.Core.Path.{_≡_};

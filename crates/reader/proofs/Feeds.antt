@@ -1,0 +1,66 @@
+-- The first line from a position on, found byte by byte. Assumes nothing.
+use mathlib.Core.Path.{_≡_, refl, ap, _∙_}
+use mathlib.Core.Bool.{true, not}
+use mathlib.Core.List.{List, [], _∷_, _++_}
+use Prim.Native.Nat.{ℕ, suc, _+_, _-_, _≤_, _<_}
+use native.Mathlib.Omega.{arith}
+use lib.Dec.{eqb}
+use lib.ListN.{length, getD, take, drop, length-drop}
+use lib.Seq.{take-suc, take-all, split-at, getD-drop, drop-drop}
+use borrow.Author.Tests.{ne-eqb, not-true}
+use Rattle.graph.proofs.Tests.{both}
+use Rattle.dimacs.specs.Lines.{before, split, plain}
+
+plain-append : (s t : List ℕ) → plain s ≡ true → plain t ≡ true → plain (s ++ t) ≡ true
+unfolding plain
+plain-append [] t p q = q
+plain-append (b ∷ s) t p q = let (x, y) = both (not (eqb b 10)) (plain s) p in rw (x, plain-append s t y q)
+
+split-line : (l s : List ℕ) → plain l ≡ true → split (l ++ (10 ∷ s)) ≡ record { lines = l ∷ (split s .lines); rest = split s .rest }
+unfolding split before plain
+split-line [] s h = refl
+split-line (b ∷ l) s h = let (p, q) = both (not (eqb b 10)) (plain l) h in rw (not-true (eqb b 10) p, split-line l s q)
+
+split-open : (s : List ℕ) → plain s ≡ true → split s ≡ record { lines = []; rest = s }
+unfolding split before plain
+split-open [] h = refl
+split-open (b ∷ s) h = let (p, q) = both (not (eqb b 10)) (plain s) h in rw (not-true (eqb b 10) p, split-open s q)
+
+pub feed-start : (s : List ℕ) (at : ℕ) → plain (take (at - at) (drop at s)) ≡ true
+unfolding plain
+feed-start s at =
+    let e : at - at ≡ 0 = omega arith in
+    rw e
+
+plain-one : (b : ℕ) → (b ≡ 10 → ⊥) → plain (b ∷ []) ≡ true
+unfolding plain
+plain-one b d = rw (ne-eqb b 10 d)
+
+module _ (s : List ℕ) (at i : ℕ) (from : at ≤ i) where
+  inside : i < length s → i - at < length (drop at s)
+  inside h = omega (arith, length-drop at s)
+
+  at-byte : getD (drop at s) (i - at) 0 ≡ getD s i 0
+  at-byte =
+      let e : at + (i - at) ≡ i = omega arith in
+      getD-drop at s (i - at) 0 ∙ ap (λ (k : ℕ). getD s k 0) e
+
+  pub feed-more : i < length s → (getD s i 0 ≡ 10 → ⊥) → plain (take (i - at) (drop at s)) ≡ true → plain (take (i + 1 - at) (drop at s)) ≡ true
+  feed-more h d p =
+      let e : i + 1 - at ≡ suc (i - at) = omega arith in
+      rw (e, take-suc (drop at s) (i - at) 0 (inside h), at-byte) (plain-append (take (i - at) (drop at s)) (getD s i 0 ∷ []) p (plain-one (getD s i 0) d))
+
+  parts : i < length s → getD s i 0 ≡ 10 → drop at s ≡ take (i - at) (drop at s) ++ (10 ∷ drop (i + 1) s)
+  parts h b =
+      let e : at + suc (i - at) ≡ i + 1 = omega arith in
+      split-at (drop at s) (i - at) 0 (inside h)
+      ∙ (ap (λ (c : ℕ). take (i - at) (drop at s) ++ (c ∷ drop (suc (i - at)) (drop at s))) (at-byte ∙ b)
+      ∙ ap (λ (t : List ℕ). take (i - at) (drop at s) ++ (10 ∷ t)) (drop-drop (suc (i - at)) at s ∙ ap (λ (k : ℕ). drop k s) e))
+
+  pub feed-ends : i < length s → getD s i 0 ≡ 10 → plain (take (i - at) (drop at s)) ≡ true → split (drop at s) ≡ record { lines = take (i - at) (drop at s) ∷ split (drop (i + 1) s) .lines; rest = split (drop (i + 1) s) .rest }
+  feed-ends h b p = ap split (parts h b) ∙ split-line (take (i - at) (drop at s)) (drop (i + 1) s) p
+
+  pub feed-open : length s ≤ i → plain (take (i - at) (drop at s)) ≡ true → split (drop at s) ≡ record { lines = []; rest = drop at s }
+  feed-open h p =
+      let l : length (drop at s) ≤ i - at = omega (arith, length-drop at s) in
+      split-open (drop at s) (rw (take-all (i - at) (drop at s) l) at p)

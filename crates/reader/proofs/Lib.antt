@@ -1,0 +1,12 @@
+pub mod Answers
+pub mod Caps
+pub mod Fields
+pub mod Feeds
+pub mod Marks
+pub mod Steps
+pub mod Fronts
+pub mod NetworkItems
+pub mod NetworkLimits
+pub mod NetworkSteps
+pub mod SourcesItems
+pub mod SourcesSteps

@@ -1,0 +1,27 @@
+-- `reader::sources::read_header` meets its contract. Assumes nothing.
+use mathlib.Core.Path.{sym, ap, _∙_}
+use borrow.Author.Needs.{needs}
+use Rattle.reader.specs.Code.{oneOf}
+use Rattle.reader.proofs.SourcesItems.{header-lost, header-read}
+use Rattle.reader.proofs.sources.read_header.Statement.{statement}
+use Rattle.reader.proofs.sources.read_header.Tie as tie
+
+read-one-requires : tie.Need-read-one-requires
+read-one-requires c κs = search needs
+
+enum-known-k : tie.Need-enum-known-k
+enum-known-k c = search needs
+
+enum-told : tie.Need-enum-told
+enum-told c = search needs
+
+returns : tie.Need-returns
+returns c = header-lost _ (ap oneOf (sym (c .enum-told .given .1)) ∙ c .before .before .read-one .ensures)
+
+returns-2 : tie.Need-returns-2
+returns-2 c =
+    let k = c .before in
+    header-read _ (k .k .given .0 .0) (ap oneOf (sym (k .k .given .1)) ∙ k .before .before .read-one .ensures)
+
+pub read-header-spec : {M : Type 1} → statement M
+read-header-spec = tie.close (tie.spec read-one-requires enum-known-k enum-told returns returns-2)

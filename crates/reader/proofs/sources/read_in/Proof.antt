@@ -1,0 +1,119 @@
+-- `reader::sources::read_in` meets its contract. Assumes nothing.
+use borrow.Author.Needs.{needs}
+use native.Mathlib.Omega.{arith}
+use mathlib.Core.Path.{_≡_, sym, ap, _∙_}
+use Prim.Native.Nat.{_≤_, _<_}
+use lib.ListN.{length}
+use lib.Seq.{length-take-le}
+use Rattle.graph.specs.Refusal.{accept}
+use Rattle.graph.specs.Table.{size}
+use Rattle.graph.specs.Code.{told}
+use Rattle.dimacs.specs.Sources.{maxSources}
+use Rattle.reader.proofs.Fronts.{paste-front}
+use Rattle.reader.proofs.SourcesSteps.{text-bad, text-good, text-whole, size-small, call-size, call-short, call-bad, call-good}
+use Rattle.reader.proofs.sources.read_in.Statement.{statement}
+use Rattle.reader.proofs.sources.read_in.Tie as tie
+
+abbrev start : tie.After-judge-size → tie.Start
+start j = j .before .before .before .before
+
+-- number 1 does not apply
+fine : (e : tie.After-enum-told) → accept ≡ size (start (e .before .before) .args .n)
+unfolding told
+fine e = ap told (sym (e .enum-told .given .1)) ∙ e .before .before .judge-size .ensures
+
+abbrev readOn : tie.After-count → tie.After-read-text
+readOn k = k .before .before .before .before
+
+-- the file is good: how many sources there are
+count : (k : tie.After-count) → let t = readOn k in (k .count .given .0 .0 ≤ maxSources) × (maxSources ≤ length (t .read-text .last .1 .1 .0))
+count k = text-whole _ (k .count .given .1) (readOn k .read-text .ensures .1)
+
+judge-size-requires : tie.Need-judge-size-requires
+judge-size-requires c κs = search needs
+
+enum-known-size : tie.Need-enum-known-size
+enum-known-size c = search needs
+
+returns : tie.Need-returns
+unfolding told
+returns c =
+    let j = c .before .before .before in
+    call-size _ _ (start j .args .sources .now) (ap told (sym (c .before .size .given .1)) ∙ j .judge-size .ensures)
+
+enum-told : tie.Need-enum-told
+enum-told c = search needs
+
+returns-2 : tie.Need-returns-2
+returns-2 c =
+    let e = c .before in
+    let l : length (start (e .before .before) .args .sources .now) < maxSources = omega arith in
+    call-short _ _ _ (fine e) l
+
+read-text-requires : tie.Need-read-text-requires
+read-text-requires c κs =
+    let e = c .before .before in
+    (size-small _ (fine e), start (e .before .before) .pre)
+
+enum-known-line : tie.Need-enum-known-line
+enum-known-line c = search needs
+
+enum-known-count : tie.Need-enum-known-count
+enum-known-count c = search needs
+
+copy-requires : tie.Need-copy-requires
+copy-requires c κs =
+    let k = c .before .before .before in
+    let w = count k in
+    let l = readOn k .before .before .if1 .left in
+    (omega arith, omega arith)
+
+cast-t21 : tie.Need-cast-t21
+cast-t21 c = omega (arith, count (c .before .before .before .before .before .before))
+
+same-length : tie.Need-same-length
+same-length c = search needs
+
+returns-3 : tie.Need-returns-3
+returns-3 c =
+    let l = c .before in
+    let t = l .before .before .before .before in
+    let e = t .before .before in
+    call-bad _ _ _ (fine (e .before)) (e .if1 .left) (text-bad _ (l .line .given .1) (t .read-text .ensures .0))
+
+same-length-2 : tie.Need-same-length-2
+same-length-2 c = search needs
+
+same-length-3 : tie.Need-same-length-3
+same-length-3 c = search needs
+
+returns-4 : tie.Need-returns-4
+returns-4 c =
+    let p = c .before .before in
+    let k = p .before .before .before .before in
+    let t = readOn k in
+    let e = t .before .before in
+    let w = count k in
+    let fits : k .count .given .0 .0 ≤ length (t .read-text .last .1 .1 .0) = omega arith in
+    call-good _ _ _ (fine (e .before)) (e .if1 .left) _ _ _ (text-good _ (k .count .given .1) (t .read-text .ensures .0)) (length-take-le _ _ fits)
+    (p .copy .ensures ∙ paste-front _ _ _ fits)
+
+pub read-in-spec : {M : Type 1} → statement M
+read-in-spec =
+    tie.close
+    (tie.spec
+    judge-size-requires
+    enum-known-size
+    returns
+    enum-told
+    returns-2
+    read-text-requires
+    enum-known-line
+    enum-known-count
+    copy-requires
+    cast-t21
+    same-length
+    returns-3
+    same-length-2
+    same-length-3
+    returns-4)

@@ -1,0 +1,46 @@
+-- `reader::sources::read_source` meets its contract. Assumes nothing.
+use native.Mathlib.Omega.{arith}
+use mathlib.Core.Path.{_≡_, sym, ap, _∙_}
+use mathlib.Core.List.{[], _∷_}
+use mathlib.Core.Option.{bind}
+use lib.ListN.{drop}
+use borrow.Author.Needs.{needs}
+use Rattle.dimacs.specs.Read.{fields}
+use Rattle.dimacs.specs.Sources.{sourceFrom}
+use Rattle.reader.specs.Capped.{capSources}
+use Rattle.reader.specs.Code.{oneOf}
+use Rattle.reader.proofs.SourcesItems.{source-lost, source-read, source-zero, source-vertex}
+use Rattle.reader.proofs.sources.read_source.Statement.{statement}
+use Rattle.reader.proofs.sources.read_source.Tie as tie
+
+-- a number was read
+number : (k : tie.After-v) → sourceFrom (k .v .given .0 .0 ∷ []) ≡ capSources (bind (fields 1 (drop 1 (k .before .before .before .before .args .line .now))) sourceFrom)
+number k = source-read _ (k .v .given .0 .0) (ap oneOf (sym (k .v .given .1)) ∙ k .before .before .read-one .ensures)
+
+read-one-requires : tie.Need-read-one-requires
+read-one-requires c κs = search needs
+
+enum-known-v : tie.Need-enum-known-v
+enum-known-v c = search needs
+
+enum-told : tie.Need-enum-told
+enum-told c = search needs
+
+returns : tie.Need-returns
+returns c = source-lost _ (ap oneOf (sym (c .enum-told .given .1)) ∙ c .before .before .read-one .ensures)
+
+returns-2 : tie.Need-returns-2
+returns-2 c = source-zero _ (c .if1 .taken) ∙ number (c .before .before)
+
+sub-t5 : tie.Need-sub-t5
+sub-t5 c = search needs
+
+returns-3 : tie.Need-returns-3
+returns-3 c =
+    let k = c .before .before in
+    source-vertex (k .v .given .0 .0) _ (omega arith) ∙ number k
+
+pub read-source-spec : {M : Type 1} → statement M
+read-source-spec =
+    tie.close
+    (tie.spec read-one-requires enum-known-v enum-told returns returns-2 sub-t5 returns-3)

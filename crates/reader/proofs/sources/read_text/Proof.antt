@@ -1,0 +1,183 @@
+-- `reader::sources::read_text` meets its contract: what is left of the file, from the state so far, comes to the same answer. Assumes nothing.
+use borrow.Author.Needs.{needs}
+use native.Mathlib.Omega.{arith}
+use mathlib.Core.Path.{_≡_, refl, sym, ap, subst, _∙_}
+use Prim.Native.Nat.{_-_, _≤_, _<_}
+use lib.ListN.{length, drop}
+use Rattle.dimacs.specs.Lines.{split}
+use Rattle.dimacs.specs.Read.{read}
+use Rattle.dimacs.specs.Sources as src
+use Rattle.reader.specs.declared.lines.Feed.the-variants.{Ends}
+use Rattle.reader.specs.Code.{splitBy, inText}
+use Rattle.reader.specs.SourcesCode.{Held, stateOf, readOf}
+use Rattle.reader.proofs.Steps.{left, left-open, left-stop, left-next, left-end}
+use Rattle.reader.proofs.SourcesSteps.{step-stops, step-goes, step-held}
+use Rattle.reader.proofs.sources.read_text.Statement.{statement}
+use Rattle.reader.proofs.sources.read_text.Tie as tie
+
+abbrev Inv-loop : tie.InvT-loop
+Inv-loop n text list₀ state₀ at₀ k₀ list state at k =
+    (left src.itemIn (src.act n) src.complete text at k (stateOf list state) ≡ src.readSources n text)
+    × Held state list
+    × (at ≤ length text) × (k ≤ at)
+    × (length list ≡ length list₀)
+
+abbrev μ-loop : tie.MeasureT-loop
+μ-loop n text list₀ state₀ at₀ k₀ list state at k = length text - at
+
+abbrev start : tie.At-loop Inv-loop μ-loop → tie.Start Inv-loop μ-loop
+start l = l .before .before .before
+
+abbrev turn : tie.After-end Inv-loop μ-loop → tie.At-loop Inv-loop μ-loop
+turn e = e .before .before .before .before
+
+-- the line ends inside the text
+inside : (e : tie.After-end Inv-loop μ-loop) → (turn e .loop .at ≤ e .end .given .0 .0) × (e .end .given .0 .0 < length (start (turn e) .args .text .now))
+inside e = subst (inText (start (turn e) .args .text .now) (turn e .loop .at)) (e .end .given .1) (e .before .before .line-feed .ensures .1)
+
+-- the line, split off the text
+parted : (e : tie.After-end Inv-loop μ-loop) → let s = start (turn e) .args .text .now in let at = turn e .loop .at in
+    splitBy s at (Ends (e .end .given .0 .0)) ≡ split (drop at s)
+parted e =
+    let s = start (turn e) .args .text .now in
+    ap (splitBy s (turn e .loop .at)) (sym (e .end .given .1)) ∙ e .before .before .line-feed .ensures .0
+
+loop-holds : tie.Need-loop-holds Inv-loop μ-loop
+unfolding src.readSources read stateOf
+loop-holds c =
+    let s = c .before .before in
+    (refl, record { room = s .pre .1; inside = tt }, omega arith, omega arith, refl)
+
+line-feed-requires : tie.Need-line-feed-requires Inv-loop μ-loop
+line-feed-requires c κs = search needs
+
+enum-known-end : tie.Need-enum-known-end Inv-loop μ-loop
+enum-known-end c = search needs
+
+enum-told : tie.Need-enum-told Inv-loop μ-loop
+enum-told c = search needs
+
+add-t12 : tie.Need-add-t12 Inv-loop μ-loop
+add-t12 c = omega arith
+
+same-length : tie.Need-same-length Inv-loop μ-loop
+same-length c = search needs
+
+returns : tie.Need-returns Inv-loop μ-loop
+unfolding readOf
+returns c =
+    let f = c .before .before in
+    let l = f .before .before in
+    let s = start l .args .text .now in
+    (sym (left-open src.itemIn (src.act _) src.complete s (l .loop .at) (l .loop .k) _ (f .before .loop-test .taken) (ap (splitBy s (l .loop .at)) (sym (c .enum-told .given .1)) ∙ f .line-feed .ensures .0)) ∙ l .loop .inv .0, tt)
+
+sub-take-line : tie.Need-sub-take-line Inv-loop μ-loop
+sub-take-line c = inside (c .before) .0
+
+part-take-line-start : tie.Need-part-take-line-start Inv-loop μ-loop
+part-take-line-start c = inside (c .before) .0
+
+part-take-line-end : tie.Need-part-take-line-end Inv-loop μ-loop
+part-take-line-end c = omega (arith, inside (c .before))
+
+take-line-requires : tie.Need-take-line-requires Inv-loop μ-loop
+take-line-requires c κs =
+    let l = turn (c .before .before .before) in
+    (start l .pre .0, l .loop .inv .1)
+
+enum-known-next : tie.Need-enum-known-next Inv-loop μ-loop
+enum-known-next c = search needs
+
+enum-told-2 : tie.Need-enum-told-2 Inv-loop μ-loop
+enum-told-2 c = search needs
+
+add-t19 : tie.Need-add-t19 Inv-loop μ-loop
+add-t19 c =
+    let t = c .before .before .before .before in
+    let l = turn (t .before .before .before .before) in
+    omega (arith, l .loop .inv .3, l .loop .inv .2, start l .good)
+
+same-length-2 : tie.Need-same-length-2 Inv-loop μ-loop
+same-length-2 c = search needs
+
+returns-2 : tie.Need-returns-2 Inv-loop μ-loop
+unfolding readOf
+returns-2 c =
+    let t = c .before .before .before .before in
+    let e = t .before .before .before .before in
+    let l = turn e in
+    let s = start l .args .text .now in
+    (sym (left-stop src.itemIn (src.act _) src.complete s (l .loop .at) (l .loop .k) _ _ _ _ (parted e) (step-stops _ (c .enum-told2 .given .1) (t .take-line .ensures .0))) ∙ l .loop .inv .0, tt)
+
+add-at : tie.Need-add-at Inv-loop μ-loop
+add-at c =
+    let e = c .before .before .before .before .before .before .before .before .before in
+    omega (arith, inside e, start (turn e) .good)
+
+add-k : tie.Need-add-k Inv-loop μ-loop
+add-k c =
+    let l = turn (c .before .before .before .before .before .before .before .before .before) in
+    omega (arith, l .loop .inv .3, l .loop .inv .2, start l .good)
+
+loop-less : tie.Need-loop-less Inv-loop μ-loop
+loop-less c =
+    let e = c .before .before .before .before .before .before .before .before .before in
+    omega (arith, inside e, e .before .before .before .loop-test .taken)
+
+loop-again : tie.Need-loop-again Inv-loop μ-loop
+loop-again c =
+    let n = c .before in
+    let t = n .before .before .before .before in
+    let e = t .before .before .before .before in
+    let l = turn e in
+    let s = start l .args .text .now in
+    let q = n .next .given .1 in (
+      sym (left-next src.itemIn (src.act _) src.complete s (l .loop .at) (l .loop .k) _ _ _ _ (parted e) _ (step-goes _ q (t .take-line .ensures .0))) ∙ l .loop .inv .0,
+      step-held _ q (t .take-line .ensures .1),
+      omega (arith, inside e),
+      omega (arith, inside e, l .loop .inv .3),
+      t .take-line .kept .1 .1 .1 .0 ∙ l .loop .inv .4,
+    )
+
+end-text-requires : tie.Need-end-text-requires Inv-loop μ-loop
+end-text-requires c κs = let l = c .before in omega (arith, l .loop .inv .3, l .loop .inv .2, start l .good)
+
+same-length-3 : tie.Need-same-length-3 Inv-loop μ-loop
+same-length-3 c = search needs
+
+returns-3 : tie.Need-returns-3 Inv-loop μ-loop
+returns-3 c =
+    let l = c .before .before in
+    let h = l .loop .inv .1 in
+    let s = start l .args .text .now in
+    (c .end-text .ensures .0 _ _ h ∙ (sym (left-end src.itemIn (src.act _) src.complete s (l .loop .at) (l .loop .k) _ (c .before .loop-test .left)) ∙ l .loop .inv .0), c .end-text .ensures .1 _ h)
+
+pub read-text-spec : {M : Type 1} → statement M
+read-text-spec =
+    tie.close
+    (tie.spec
+    Inv-loop
+    μ-loop
+    loop-holds
+    line-feed-requires
+    enum-known-end
+    enum-told
+    add-t12
+    same-length
+    returns
+    sub-take-line
+    part-take-line-start
+    part-take-line-end
+    take-line-requires
+    enum-known-next
+    enum-told-2
+    add-t19
+    same-length-2
+    returns-2
+    add-at
+    add-k
+    loop-less
+    loop-again
+    end-text-requires
+    same-length-3
+    returns-3)

@@ -1,0 +1,86 @@
+-- `reader::sources::take_source` meets its contract. Assumes nothing.
+use borrow.Author.Needs.{needs}
+use native.Mathlib.Omega.{arith}
+use Prim.Native.Nat.{_≤_, _<_}
+use lib.ListN.{length, length-set}
+use Rattle.reader.specs.SourcesCode.{stepOf}
+use Rattle.reader.proofs.SourcesSteps.{held-inside, source-early, source-full, source-broken, source-next}
+use Rattle.reader.proofs.sources.take_source.Statement.{statement}
+use Rattle.reader.proofs.sources.take_source.Tie as tie
+
+abbrev start : tie.After-state → tie.Start
+start k = k .before .before
+
+-- there is room for one more
+inside : (c : tie.Else1) → let k = c .before .before in (k .state .given .0 .1 .0 < length (start k .args .list .now))
+inside c =
+    let k = c .before .before in
+    let i = held-inside _ (start k .pre) (k .state .given .1) in
+    let r = start k .pre .room in
+    omega arith
+
+enum-known-state : tie.Need-enum-known-state
+enum-known-state c = search needs
+
+enum-told : tie.Need-enum-told
+enum-told c = search needs
+
+returns : tie.Need-returns
+unfolding stepOf
+returns c = (source-early _ _ _ _ (c .enum-told .given .1), tt)
+
+cast-if1 : tie.Need-cast-if1
+cast-if1 c = search needs
+
+returns-2 : tie.Need-returns-2
+unfolding stepOf
+returns-2 c =
+    let k = c .before .before in
+    (source-full _ _ _ _ _ _ (k .state .given .1) (start k .pre) (c .if1 .taken), tt)
+
+returns-3 : tie.Need-returns-3
+unfolding stepOf
+returns-3 c =
+    let k = c .before .before .before in
+    let a = start k .args in
+    let m : a .n ≤ a .v = omega arith in
+    (source-broken _ _ _ _ _ _ (k .state .given .1) (start k .pre) (c .before .if1 .left) m, tt)
+
+mul-list : tie.Need-mul-list
+mul-list c = search needs
+
+slice-write-list : tie.Need-slice-write-list
+slice-write-list c = inside (c .before)
+
+add-t7 : tie.Need-add-t7
+add-t7 c = search needs
+
+same-length : tie.Need-same-length
+same-length c = search needs
+
+returns-4 : tie.Need-returns-4
+unfolding stepOf
+returns-4 c =
+    let k = c .before .before .before in
+    let l = c .before .if1 .left in
+    let i = held-inside _ (start k .pre) (k .state .given .1) in
+    let r = start k .pre .room in (
+      source-next _ _ _ _ _ _ (k .state .given .1) (start k .pre) l (omega arith),
+      record { room = simp length-set r; inside = (i .0, omega arith) },
+    )
+
+pub take-source-spec : {M : Type 1} → statement M
+take-source-spec =
+    tie.close
+    (tie.spec
+    enum-known-state
+    enum-told
+    returns
+    cast-if1
+    returns-2
+    returns-3
+    mul-list
+    slice-write-list
+    add-t7
+    same-length
+    returns-4)

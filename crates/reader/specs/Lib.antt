@@ -1,0 +1,4 @@
+pub mod Capped
+pub mod Code
+pub mod NetworkCode
+pub mod SourcesCode
