@@ -82,29 +82,6 @@ short-some w k n l =
     let q = div-lt-iff-lt-mul {k = 5 * n} {x = w} {y = k} p in
     rw mul-assoc (ltb-iff (w / (5 * n)) k w (k * (5 * n)) (q .0) (q .1))
 
--- ---- chains of refusals: an earlier one is given, a later one only where the earlier is fine
-
-pub then-refused : (a : Judged) (k i : ℕ) (v w : Verdict) → told a ≡ v → a ≡ Refused k i → told a ≡ (v ▷ w)
-unfolding told _▷_
-then-refused a k i v w e q = rw (← e, q)
-
-pub then-judged : (a b : Judged) (v w : Verdict) → told a ≡ v → a ≡ Fine → told b ≡ w → told b ≡ (v ▷ w)
-unfolding told _▷_
-then-judged a b v w e q f = rw (← e, q) f
-
--- the same for a test in the code
-pub if-refused : (t : Bool) (k i : ℕ) (w : Verdict) → t ≡ true → told (Refused k i) ≡ (refuseIf t k i ▷ w)
-unfolding told refuseIf _▷_
-if-refused t k i w e = rw e
-
-pub if-judged : (t : Bool) (k i : ℕ) (b : Judged) (w : Verdict) → t ≡ false → told b ≡ w → told b ≡ (refuseIf t k i ▷ w)
-unfolding refuseIf _▷_
-if-judged t k i b w e f = rw e f
-
-pub fine-accept : (a : Judged) (v : Verdict) → told a ≡ v → a ≡ Fine → v ≡ accept
-unfolding told
-fine-accept a v e q = sym e ∙ ap told q
-
 -- ---- what each verdict tells where it accepts
 
 pub rows-accept : (n : ℕ) (ls f b : List ℕ) → shortRows n ls (rowLists f b) ≡ accept → (rowCount ls * n ≤ length f) × (rowCount ls * n ≤ length b)

@@ -1,6 +1,6 @@
--- The rules of a table, judged record by record. Assumes nothing.
-use mathlib.Core.Path.{_≡_}
-use mathlib.Core.Bool.{true, false}
+-- The rules of a table, judged record by record; chains of refusals as the code judges them. Assumes nothing.
+use mathlib.Core.Path.{_≡_, sym, ap, _∙_}
+use mathlib.Core.Bool.{Bool, true, false}
 use mathlib.Core.List.{List}
 use Prim.Native.Nat.{ℕ, _+_, _-_, _<_, _≤_}
 use native.Mathlib.Numerals.{add-one}
@@ -8,6 +8,7 @@ use native.Mathlib.Omega.{arith}
 use lib.ListN.{length, drop}
 use lib.Dec.{eqb, ltb}
 use borrow.Author.Tests.{ltb-false, eqb-false, lt-ltb, le-ltb}
+use Rattle.graph.specs.declared.Judged.{Judged}
 use Rattle.graph.specs.declared.Judged.the-variants.{Fine, Refused}
 use Rattle.graph.specs.Limits.{maxVertices, maxEdges}
 use Rattle.graph.specs.Refusal.{Verdict, accept, _▷_, refuseIf}
@@ -52,6 +53,29 @@ table-judged n m ts hs ws l e = rw (le-ltb maxEdges m l) e
 pub table-crowded : (n m : ℕ) (ts hs ws : List ℕ) → maxEdges < m → told (Refused 4 0) ≡ table n (columns ts hs ws) m
 unfolding told refuseIf _▷_
 table-crowded n m ts hs ws l = rw (lt-ltb maxEdges m l)
+
+-- ---- chains of refusals: an earlier one is given, a later one only where the earlier is fine
+
+pub then-refused : (a : Judged) (k i : ℕ) (v w : Verdict) → told a ≡ v → a ≡ Refused k i → told a ≡ (v ▷ w)
+unfolding told _▷_
+then-refused a k i v w e q = rw (← e, q)
+
+pub then-judged : (a b : Judged) (v w : Verdict) → told a ≡ v → a ≡ Fine → told b ≡ w → told b ≡ (v ▷ w)
+unfolding told _▷_
+then-judged a b v w e q f = rw (← e, q) f
+
+-- the same for a test in the code
+pub if-refused : (t : Bool) (k i : ℕ) (w : Verdict) → t ≡ true → told (Refused k i) ≡ (refuseIf t k i ▷ w)
+unfolding told refuseIf _▷_
+if-refused t k i w e = rw e
+
+pub if-judged : (t : Bool) (k i : ℕ) (b : Judged) (w : Verdict) → t ≡ false → told b ≡ w → told b ≡ (refuseIf t k i ▷ w)
+unfolding refuseIf _▷_
+if-judged t k i b w e f = rw e f
+
+pub fine-accept : (a : Judged) (v : Verdict) → told a ≡ v → a ≡ Fine → v ≡ accept
+unfolding told
+fine-accept a v e q = sym e ∙ ap told q
 
 -- ---- what acceptance says of each
 

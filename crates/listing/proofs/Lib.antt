@@ -1,1 +1,5 @@
 pub mod Examples
+pub mod Rows
+pub mod Opening
+pub mod Pieces
+pub mod Reading

@@ -1,1 +1,4 @@
-// What the values program prints: definitions that the contracts cite.
+// What the values program prints, piece by piece.
+pub mod lines;
+pub mod parts;
+pub mod prepare;

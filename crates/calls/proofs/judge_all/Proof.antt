@@ -2,8 +2,7 @@
 use borrow.Author.Needs.{needs}
 use mathlib.Core.Path.{_∙_}
 use Rattle.graph.proofs.Verdicts.{then-accept, then-assoc}
-use Rattle.graph.proofs.Judging.{lengths-accept}
-use Rattle.calls.proofs.Judging.{then-refused, then-judged, fine-accept}
+use Rattle.graph.proofs.Judging.{lengths-accept, then-refused, then-judged, fine-accept}
 use Rattle.calls.proofs.judge_all.Statement.{statement}
 use Rattle.calls.proofs.judge_all.Tie as tie
 

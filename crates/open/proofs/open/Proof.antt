@@ -5,11 +5,11 @@ use native.Mathlib.Omega.{arith}
 use lib.ListN.{replicate}
 use lib.Seq.{length-take-le}
 use borrow.Author.Needs.{needs}
+use Rattle.graph.proofs.Judging.{fine-accept}
 use Rattle.graph.specs.Refusal.{accept}
 use Rattle.network.specs.Network.{rowCount}
 use Rattle.network.specs.Network.{faults}
 use Rattle.calls.specs.Code.{network}
-use Rattle.calls.proofs.Judging.{fine-accept}
 use Rattle.open.proofs.Opening.{open-accept, rows-few, open-refused}
 use Rattle.open.proofs.open.Statement.{statement}
 use Rattle.open.proofs.open.Tie as tie

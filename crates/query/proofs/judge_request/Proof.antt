@@ -5,8 +5,8 @@ use native.Mathlib.Omega.{arith}
 use mathlib.Core.Path.{sym, ap, _∙_}
 use mathlib.Core.Bool.{not}
 use lib.Dec.{ltb}
+use Rattle.graph.proofs.Judging.{if-refused, if-judged}
 use Rattle.property.specs.Property.{isProperty}
-use Rattle.calls.proofs.Judging.{if-refused, if-judged}
 use Rattle.query.proofs.judge_request.Statement.{statement}
 use Rattle.query.proofs.judge_request.Tie as tie
 

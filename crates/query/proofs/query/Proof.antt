@@ -5,6 +5,7 @@ use mathlib.Core.Path.{_≡_, sym}
 use Prim.Native.Nat.{ℕ, _≤_}
 use lib.ListN.{length, replicate}
 use lib.Seq.{length-take-le}
+use Rattle.graph.proofs.Judging.{fine-accept}
 use Rattle.graph.specs.Limits.{maxVertices}
 use Rattle.graph.specs.Refusal.{accept}
 use Rattle.network.specs.Network.{Network}
@@ -12,7 +13,6 @@ use Rattle.network.specs.Query.{Query}
 use Rattle.calls.specs.Code.{network}
 use Rattle.network.specs.Query.{queryFaults}
 use Rattle.query.specs.Code.{asking}
-use Rattle.calls.proofs.Judging.{fine-accept}
 use Rattle.query.proofs.AskingFaults.{faults-accept}
 use Rattle.query.proofs.AskingRun.{query-refused}
 use Rattle.query.proofs.query.Statement.{statement}

@@ -3,7 +3,7 @@
 use mathlib.Core.Path.{refl}
 use native.Mathlib.Omega.{arith}
 use borrow.Author.Needs.{needs}
-use Rattle.counts.proofs.Looks.{own-length}
+use Rattle.graph.proofs.Own.{own-length}
 use Rattle.counts.proofs.rows.count_handle.Statement.{statement}
 use Rattle.counts.proofs.rows.count_handle.Tie as tie
 

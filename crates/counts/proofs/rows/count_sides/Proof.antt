@@ -1,6 +1,6 @@
 -- `rows::count_sides` meets what it calls: numbers 1 to 4 do not apply. Assumes nothing.
+use Rattle.graph.proofs.Judging.{fine-accept}
 use Rattle.calls.specs.Code.{Openable}
-use Rattle.calls.proofs.Judging.{fine-accept}
 use Rattle.open.proofs.Opening.{open-accept}
 use borrow.Author.Needs.{needs}
 use Rattle.counts.proofs.rows.count_sides.Statement.{statement}

@@ -4,6 +4,7 @@ use mathlib.Core.Path.{_≡_, sym, ap, _∙_}
 use mathlib.Core.Logic.{⊎-elim}
 use mathlib.Core.Bool.{Bool, not, _||_}
 use lib.Dec.{ltb}
+use Rattle.graph.proofs.Judging.{then-refused, then-judged, if-refused, if-judged}
 use Rattle.property.specs.Property.{isProperty}
 use Rattle.graph.specs.declared.Judged.{Judged}
 use Rattle.graph.specs.Refusal.{Verdict, _▷_, refuseIf}
@@ -12,7 +13,6 @@ use Rattle.graph.specs.Code.{told}
 use Rattle.graph.proofs.Flags.{or-taken, or-left}
 use Rattle.network.specs.Network.{shortRows, landmarks}
 use Rattle.calls.specs.Code.{rowLists}
-use Rattle.calls.proofs.Judging.{then-refused, then-judged, if-refused, if-judged}
 use Rattle.inspect.proofs.LookupLaws.{number-told}
 use Rattle.inspect.proofs.lookup.row_number.Statement.{statement}
 use Rattle.inspect.proofs.lookup.row_number.Tie as tie

@@ -1,7 +1,7 @@
 -- `inspect::settled::find_relaxable` meets its contract. Assumes nothing.
 use borrow.Author.Needs.{needs}
+use Rattle.graph.proofs.Judging.{fine-accept}
 use Rattle.network.specs.Settled.{settledCall}
-use Rattle.calls.proofs.Judging.{fine-accept}
 use Rattle.inspect.proofs.Checking.{checking-refused, checking-accepted}
 use Rattle.inspect.proofs.settled.find_relaxable.Statement.{statement}
 use Rattle.inspect.proofs.settled.find_relaxable.Tie as tie

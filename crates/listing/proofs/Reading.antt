@@ -1,0 +1,194 @@
+-- Two files as they are read: the verdict of each, and what it leaves in the lists. Assumes nothing.
+use mathlib.Core.Path.{_≡_, refl, sym, ap, subst, _∙_}
+use mathlib.Core.List.{List}
+use Prim.Native.Nat.{ℕ, _≤_, _<_}
+use native.Mathlib.Omega.{arith}
+use lib.ListN.{length, drop, replicate, length-append}
+use lib.Seq.{take-at}
+use borrow.Author.Tests.{lt-ltb, le-ltb}
+use Rattle.graph.specs.declared.Judged.the-variants.{Fine, Refused}
+use Rattle.graph.specs.Refusal.{Verdict, accept, refuse, _▷_, refuseIf, Reply, accepted, refused, Outcome, replied, choose, over}
+use Rattle.graph.specs.Limits.{maxEdges}
+use Rattle.graph.specs.Edge.{Edge}
+use Rattle.graph.specs.Table.{Columns, size, shortTable}
+use Rattle.graph.specs.Code.{told, columns}
+use Rattle.graph.proofs.Verdicts.{not-accept, accept-then, accept-if}
+use Rattle.graph.proofs.Verdicts.{then-assoc}
+use Rattle.dimacs.specs.Read.{Read, good, bad}
+use Rattle.dimacs.specs.Network as net
+use Rattle.dimacs.specs.Sources as src
+use Rattle.dimacs.specs.Call.{Size, judged, vertexCount, edgesRead, filled, readCall, sourcesRead, sourcesCall}
+use Rattle.dimacs.specs.Claims.{Table}
+use Rattle.dimacs.proofs.Network as networks
+use Rattle.dimacs.proofs.Theorems.{network-tables}
+use Rattle.dimacs.proofs.Written.{read-call}
+use Rattle.reader.specs.declared.network.ReadReply.{ReadReply}
+use Rattle.reader.specs.declared.network.ReadReply.the-variants as graphs
+use Rattle.reader.specs.NetworkCode as graph
+use Rattle.reader.specs.declared.sources.SourcesReply.{SourcesReply}
+use Rattle.reader.specs.declared.sources.SourcesReply.the-variants as lists
+use Rattle.reader.specs.SourcesCode as list
+use Rattle.listing.specs.declared.parts.Prepared.{Prepared}
+use Rattle.listing.specs.Listing.{maxFile}
+use Rattle.listing.specs.Code.{graphVerdict, sourcesVerdict, GraphRead, SourcesRead, filesVerdict, Running, Shown}
+
+-- ---- deck.gr
+
+pub graph-long : (gr : List ℕ) → maxFile < length gr → graphVerdict gr ≡ refuse 2 0
+unfolding refuseIf _▷_
+graph-long gr l = rw (lt-ltb maxFile (length gr) l)
+
+graph-verdict : (gr : List ℕ) → length gr ≤ maxFile → graphVerdict gr ≡ judged (net.readNetwork gr)
+graph-verdict gr l = accept-then (accept-if 2 0 (le-ltb maxFile (length gr) l))
+
+abbrev zeros : Columns
+zeros = columns (replicate maxEdges 0) (replicate maxEdges 0) (replicate maxEdges 0)
+
+pub zero-columns : (ts hs ws : List ℕ) {t h w : List ℕ} → t ≡ replicate (length ts) 0 → h ≡ replicate (length hs) 0 → w ≡ replicate (length ws) 0
+    → length ts ≡ maxEdges → length hs ≡ maxEdges → length ws ≡ maxEdges → columns t h w ≡ zeros
+zero-columns ts hs ws p q r a b c = rw (p, q, r, a, b, c)
+
+zeros-long : shortTable zeros ≡ accept
+unfolding refuseIf
+zeros-long = refl
+
+same-size : {a b c d : ℕ} → _≡_ {A = Reply Size} (accepted (record { vertices = a; count = b })) (accepted (record { vertices = c; count = d })) → (a ≡ c) × (b ≡ d)
+same-size {a} {b} {c} {d} e =
+    let r : _≡_ {A = Size} (record { vertices = a; count = b }) (record { vertices = c; count = d }) = cc in
+    (ap (λ (z : Size). z .vertices) r, ap (λ (z : Size). z .count) r)
+
+no-reply : {A : Type 0} {a : A} {k i : ℕ} → accepted a ≡ refused k i → ⊥
+no-reply e = let z : _≡_ {A = ℕ} 0 1 = cc in omega arith
+
+module _ (gr ts hs ws : List ℕ) (l : length gr ≤ maxFile) where
+  graph-bad : (j : ℕ) → net.readNetwork gr ≡ bad j → readCall gr zeros .reply ≡ refused 14 j
+  unfolding readCall judged replied
+  graph-bad j q =
+      ap (λ (v : Verdict). replied v (record { vertices = vertexCount (net.readNetwork gr); count = length (edgesRead (net.readNetwork gr)) }))
+      (accept-then zeros-long ∙ ap judged q)
+
+  module _ (st : net.State) (q : net.readNetwork gr ≡ good st) where
+    abbrev found : (n : ℕ) × (es : List Edge) × (st ≡ net.within n (length es) es) × net.Good gr n es
+    found = networks.read-good gr st q
+
+    graph-good : net.readNetwork gr ≡ good (net.within (found .0) (length (found .1)) (found .1))
+    graph-good = q ∙ ap good (found .2)
+
+    graph-whole : readCall gr zeros ≡ record { reply = accepted (record { vertices = found .0; count = length (found .1) }); memory = filled (found .1) zeros }
+    graph-whole = read-call gr (found .0) (found .1) (length (found .1)) zeros graph-good refl zeros-long
+
+    graph-count : vertexCount (net.readNetwork gr) ≡ found .0
+    unfolding vertexCount
+    graph-count = ap vertexCount graph-good
+
+    graph-edges : edgesRead (net.readNetwork gr) ≡ found .1
+    unfolding edgesRead
+    graph-edges = ap edgesRead graph-good
+
+    graph-loaded : (n m : ℕ) → graph.readOutcome (graphs.Read n m) ts hs ws ≡ readCall gr zeros → GraphRead gr (graphs.Read n m) ts hs ws
+    unfolding graph.reading judged
+    graph-loaded n m e =
+        let x = same-size (ap (λ (o : Outcome Size Columns). o .reply) (e ∙ graph-whole)) in
+        let a : n ≡ found .0 = x .0 in
+        let b : m ≡ length (found .1) = x .1 in
+        let c = ap (λ (o : Outcome Size Columns). o .memory) (e ∙ graph-whole) in (
+          graph-verdict gr l ∙ ap judged q,
+          a ∙ sym graph-count,
+          rw graph-edges (record { good = subst (λ (k : ℕ). Table k (found .1)) (sym a) (network-tables gr (found .0) (found .1) (found .3) .0); count = b; table = c }),
+        )
+
+  pub graph-read : (r : ReadReply) → graph.readOutcome r ts hs ws ≡ readCall gr zeros → GraphRead gr r ts hs ws
+  unfolding graph.reading judged
+  graph-read r e = pick (net.readNetwork gr) refl r e
+    where
+      pick : (R : Read net.State) → net.readNetwork gr ≡ R → (r : ReadReply) → graph.readOutcome r ts hs ws ≡ readCall gr zeros → GraphRead gr r ts hs ws
+      pick (good st) q (graphs.Read n m) e = graph-loaded st q n m e
+      pick (good st) q (graphs.Refused k i) e = absurd (no-reply (sym (ap (λ (o : Outcome Size Columns). o .reply) (e ∙ graph-whole st q))))
+      pick (bad j) q (graphs.Read n m) e = absurd (no-reply (ap (λ (o : Outcome Size Columns). o .reply) e ∙ graph-bad j q))
+      pick (bad j) q (graphs.Refused k i) e =
+          let x : _≡_ {A = Reply Size} (refused k i) (refused 14 j) = ap (λ (o : Outcome Size Columns). o .reply) e ∙ graph-bad j q in
+          let a : k ≡ 14 = cc in
+          let b : i ≡ j = cc in
+          rw (a, b) (graph-verdict gr l ∙ ap judged q)
+
+-- what the reply tells, by its case
+module _ (gr ts hs ws : List ℕ) (r : ReadReply) (h : GraphRead gr r ts hs ws) where
+  pub graph-refused : (k i : ℕ) → r ≡ graphs.Refused k i → graphVerdict gr ≡ refuse k i
+  graph-refused k i e = rw e at h
+
+  pub graph-given : (n m : ℕ) → r ≡ graphs.Read n m → GraphRead gr (graphs.Read n m) ts hs ws
+  graph-given n m e = rw e at h
+
+-- ---- deck.ss
+
+pub sources-long : (n : ℕ) (ss : List ℕ) → maxFile < length ss → sourcesVerdict n ss ≡ refuse 2 0
+unfolding refuseIf _▷_
+sources-long n ss l = rw (lt-ltb maxFile (length ss) l)
+
+module _ (n : ℕ) (ss xs ys : List ℕ) (s : size n ≡ accept) (w : src.maxSources ≤ length xs) (l : length ss ≤ maxFile) where
+  sources-verdict : sourcesVerdict n ss ≡ judged (src.readSources n ss)
+  sources-verdict = accept-then (accept-if 2 0 (le-ltb maxFile (length ss) l))
+
+  abbrev R : Read src.State
+  R = src.readSources n ss
+
+  sources-call : sourcesCall n ss xs ≡ record { reply = replied (judged R) (length (sourcesRead R)); memory = choose (judged R) (over (sourcesRead R) xs) xs }
+  unfolding sourcesCall
+  sources-call =
+      ap (λ (v : Verdict). record { reply = replied v (length (sourcesRead R)); memory = choose v (over (sourcesRead R) xs) xs })
+      (accept-then s ∙ accept-then (accept-if 2 0 (le-ltb (length xs) src.maxSources w)))
+
+  sources-loaded : (k : ℕ) → judged R ≡ accept → list.sourcesOutcome (lists.Read k) ys ≡ sourcesCall n ss xs → SourcesRead n ss (lists.Read k) ys
+  unfolding list.reading replied choose
+  sources-loaded k v e =
+      let f = rw v at (e ∙ sources-call) in
+      let x : accepted k ≡ accepted (length (sourcesRead R)) = ap (λ (o : Outcome ℕ (List ℕ)). o .reply) f in
+      let a : k ≡ length (sourcesRead R) = cc in
+      let b : ys ≡ over (sourcesRead R) xs = ap (λ (o : Outcome ℕ (List ℕ)). o .memory) f in (
+        sources-verdict ∙ v,
+        rw b (take-at (sourcesRead R) (drop (length (sourcesRead R)) xs) k (sym a)),
+        omega (arith, ap length b, length-append (sourcesRead R) (drop (length (sourcesRead R)) xs)),
+      )
+
+  sources-other : (v : Verdict) (r : SourcesReply) → judged R ≡ v → list.sourcesOutcome r ys ≡ sourcesCall n ss xs → SourcesRead n ss r ys
+  unfolding list.reading replied
+  sources-other accept (lists.Read k) v e = sources-loaded k v e
+  sources-other accept (lists.Refused k i) v e =
+      absurd (no-reply (sym (ap (λ (o : Outcome ℕ (List ℕ)). o .reply) (e ∙ sources-call) ∙ ap (λ (u : Verdict). replied u (length (sourcesRead R))) v)))
+  sources-other (refuse a b) (lists.Read k) v e =
+      absurd (no-reply (ap (λ (o : Outcome ℕ (List ℕ)). o .reply) (e ∙ sources-call) ∙ ap (λ (u : Verdict). replied u (length (sourcesRead R))) v))
+  sources-other (refuse a b) (lists.Refused k i) v e =
+      let x : _≡_ {A = Reply ℕ} (refused k i) (refused a b) = ap (λ (o : Outcome ℕ (List ℕ)). o .reply) (e ∙ sources-call) ∙ ap (λ (u : Verdict). replied u (length (sourcesRead R))) v in
+      let p : k ≡ a = cc in
+      let q : i ≡ b = cc in
+      rw (p, q) (sources-verdict ∙ v)
+
+  pub sources-read : (r : SourcesReply) → list.sourcesOutcome r ys ≡ sourcesCall n ss xs → SourcesRead n ss r ys
+  sources-read r e = sources-other (judged R) r refl e
+
+module _ (n : ℕ) (ss xs : List ℕ) (r : SourcesReply) (h : SourcesRead n ss r xs) where
+  pub sources-refused : (k i : ℕ) → r ≡ lists.Refused k i → sourcesVerdict n ss ≡ refuse k i
+  sources-refused k i e = rw e at h
+
+  pub sources-given : (k : ℕ) → r ≡ lists.Read k → SourcesRead n ss (lists.Read k) xs
+  sources-given k e = rw e at h
+
+-- ---- both
+
+files-split : (gr ss : List ℕ) → filesVerdict gr ss ≡ (graphVerdict gr ▷ sourcesVerdict (vertexCount (net.readNetwork gr)) ss)
+files-split gr ss = sym (then-assoc _ (judged (net.readNetwork gr)) _)
+
+pub files-first : (gr ss : List ℕ) (k i : ℕ) → graphVerdict gr ≡ refuse k i → filesVerdict gr ss ≡ refuse k i
+unfolding _▷_
+files-first gr ss k i e = files-split gr ss ∙ rw e
+
+pub files-second : (gr ss : List ℕ) (n : ℕ) (v : Verdict) → graphVerdict gr ≡ accept → n ≡ vertexCount (net.readNetwork gr) → sourcesVerdict n ss ≡ v → filesVerdict gr ss ≡ v
+files-second gr ss n v e a h = files-split gr ss ∙ accept-then e ∙ ap (λ (k : ℕ). sourcesVerdict k ss) (sym a) ∙ h
+
+pub shown-refused : (gr ss : List ℕ) (p : Prepared) (ts hs ws xs f b : List ℕ) (k i : ℕ) → filesVerdict gr ss ≡ refuse k i → p .verdict ≡ Refused k i → Shown gr ss p ts hs ws xs f b
+unfolding told
+shown-refused gr ss p ts hs ws xs f b k i d e = record { verdict = ap told e ∙ sym d; running = λ a. absurd (not-accept (sym d ∙ a)) }
+
+pub shown-running : (gr ss : List ℕ) (p : Prepared) (ts hs ws xs f b : List ℕ) → filesVerdict gr ss ≡ accept → p .verdict ≡ Fine → Running gr ss p ts hs ws xs f b → Shown gr ss p ts hs ws xs f b
+unfolding told
+shown-running gr ss p ts hs ws xs f b d e r = record { verdict = ap told e ∙ sym d; running = λ a. r }

@@ -1,0 +1,38 @@
+-- `listing::lines::put_refused` meets its contract. Assumes nothing.
+use borrow.Author.Needs.{needs}
+use native.Mathlib.Omega.{arith}
+use Rattle.listing.proofs.Rows.{refused-fields, refused-most}
+use Rattle.listing.proofs.lines.put_refused.Statement.{statement}
+use Rattle.listing.proofs.lines.put_refused.Tie as tie
+
+slice-aggregate-put-line : tie.Need-slice-aggregate-put-line
+slice-aggregate-put-line c = search needs
+
+slice-aggregate-put-line-2 : tie.Need-slice-aggregate-put-line-2
+slice-aggregate-put-line-2 c = search needs
+
+put-line-requires : tie.Need-put-line-requires
+put-line-requires c κs =
+    let a = c .before .before .before .before .args in
+    record { room = omega (arith, refused-most (a .number) (a .place) (omega arith) (omega arith)) }
+
+same-length : tie.Need-same-length
+same-length c = search needs
+
+returns : tie.Need-returns
+returns c =
+    let l = c .before .before in
+    let s = l .before .before .before .before .before in
+    let a = s .args in
+    let w = l .put-line .ensures in
+    (rw (refused-fields (a .number) (a .place)) w, omega (arith, w .next, refused-most (a .number) (a .place) (omega arith) (omega arith), l .put-line .kept .1 .1 .1 .0, s .pre))
+
+pub put-refused-spec : {M : Type 1} → statement M
+put-refused-spec =
+    tie.close
+    (tie.spec
+    slice-aggregate-put-line
+    slice-aggregate-put-line-2
+    put-line-requires
+    same-length
+    returns)

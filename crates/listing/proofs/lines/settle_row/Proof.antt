@@ -1,0 +1,60 @@
+-- `listing::lines::settle_row` meets its contract. Assumes nothing.
+use borrow.Author.Needs.{needs}
+use mathlib.Core.Path.{refl, sym, ap, _∙_}
+use Prim.Native.Nat.{ℕ}
+use lib.ListN.{replicate}
+use lib.Seq.{length-take-le}
+use Rattle.calls.specs.Code.{network}
+use Rattle.listing.proofs.Rows.{row-settled}
+use Rattle.graph.proofs.Lists.{take-replicate}
+use Rattle.listing.proofs.lines.settle_row.Statement.{statement}
+use Rattle.listing.proofs.lines.settle_row.Tie as tie
+
+fill-requires : tie.Need-fill-requires
+fill-requires c κs = search needs
+
+sub-query : tie.Need-sub-query
+sub-query c = search needs
+
+part-query-start : tie.Need-part-query-start
+part-query-start c = search needs
+
+part-query-end : tie.Need-part-query-end
+part-query-end c = search needs
+
+array-borrow-prefix-starts : tie.Need-array-borrow-prefix-starts
+array-borrow-prefix-starts c = search needs
+
+slice-aggregate-query : tie.Need-slice-aggregate-query
+slice-aggregate-query c =
+    let s = c .before .before .before .before .before .before .before .before .before .before .before .before .before in
+    sym (length-take-le (s .args .n) (replicate 256 0) (s .pre .0))
+
+query-requires : tie.Need-query-requires
+query-requires c κs = search needs
+
+same-length : tie.Need-same-length
+same-length c = search needs
+
+returns : tie.Need-returns
+returns c =
+    let q = c .before .before .before in
+    let f = q .before .before .before .before .before .before in
+    let s = f .before .before .before .before .before .before .before .before .before in
+    let a = s .args in
+    row-settled (a .n) (a .landmarks .now) (network (a .tails .now) (a .heads .now) (a .weights .now) (a .forward .now) (a .backward .now) (a .count)) (a .source) (a .property)
+    _ _ _ _ _ _ (q .query .ensures) refl (take-replicate {A = ℕ} (a .n) 256 0 (s .pre .0)) (f .fill .ensures ∙ ap (λ (k : ℕ). replicate k 0) (s .pre .1))
+
+pub settle-row-spec : {M : Type 1} → statement M
+settle-row-spec =
+    tie.close
+    (tie.spec
+    fill-requires
+    sub-query
+    part-query-start
+    part-query-end
+    array-borrow-prefix-starts
+    slice-aggregate-query
+    query-requires
+    same-length
+    returns)

@@ -1,0 +1,86 @@
+-- `listing::parts::put_lines` meets its contract. Assumes nothing.
+use borrow.Author.Needs.{needs}
+use native.Mathlib.Omega.{arith}
+use mathlib.Core.Path.{sym}
+use Prim.Native.Nat.{ℕ, _*_, _≤_}
+use lib.Seq.{length-take-le}
+use Rattle.dimacs.specs.Network.{readNetwork}
+use Rattle.dimacs.specs.Call.{edgesRead}
+use Rattle.listing.proofs.Opening.{rows-most}
+use Rattle.listing.proofs.Pieces.{parts-lines}
+use Rattle.listing.proofs.parts.put_lines.Statement.{statement}
+use Rattle.listing.proofs.parts.put_lines.Tie as tie
+
+abbrev cells : tie.Start → ℕ
+cells s = s .args .prepared .choice .count * 5 * s .args .prepared .n
+
+most : (s : tie.Start) → cells s ≤ 5120
+most s = let h = s .pre .1 in rows-most (s .args .prepared .choice .count) (s .args .prepared .n) (h .landmarks) (h .vertices)
+
+mul-k : tie.Need-mul-k
+mul-k c = search needs
+
+cast-k : tie.Need-cast-k
+cast-k c = search needs
+
+mul-k-2 : tie.Need-mul-k-2
+mul-k-2 c = omega (arith, most (c .before .before .before .before .before .before .before .before .before))
+
+array-share-prefix-vertices : tie.Need-array-share-prefix-vertices
+array-share-prefix-vertices c = let h = c .before .before .before .before .before .before .before .before .before .pre .1 in omega (arith, h .landmarks, h .places)
+
+slice-aggregate-put-source : tie.Need-slice-aggregate-put-source
+slice-aggregate-put-source c =
+    let s = c .before .before .before .before .before .before .before .before .before .before in
+    let h = s .pre .1 in
+    sym (length-take-le (s .args .prepared .choice .count) (s .args .prepared .choice .vertices) (omega (arith, h .landmarks, h .places)))
+
+slice-aggregate-put-source-2 : tie.Need-slice-aggregate-put-source-2
+slice-aggregate-put-source-2 c =
+    let s = c .before .before .before .before .before .before .before .before .before .before .before in
+    sym (length-take-le (cells s) (s .args .forward .now) (omega (arith, most s, s .pre .1 .forward)))
+
+slice-aggregate-put-source-3 : tie.Need-slice-aggregate-put-source-3
+slice-aggregate-put-source-3 c =
+    let s = c .before .before .before .before .before .before .before .before .before .before .before .before in
+    sym (length-take-le (cells s) (s .args .backward .now) (omega (arith, most s, s .pre .1 .backward)))
+
+mul-put-source : tie.Need-mul-put-source
+mul-put-source c = search needs
+
+shared-slice-read-put-source : tie.Need-shared-slice-read-put-source
+shared-slice-read-put-source c = search needs
+
+put-source-requires : tie.Need-put-source-requires
+put-source-requires c κs = search needs
+
+same-length : tie.Need-same-length
+same-length c = search needs
+
+returns : tie.Need-returns
+returns c =
+    let p = c .before .before in
+    let s = p .before .before .before .before .before .before .before .before .before .before .before .before .before .before .before in
+    let a = s .args in (
+      λ gr ss h e.
+          rw (parts-lines gr ss (a .prepared) (a .tails .now) (a .heads .now) (a .weights .now) (a .sources .now) (a .forward .now) (a .backward .now) h e (s .pre .1 .sources) (a .i) (s .pre .0))
+          (p .put-source .ensures .0 (edgesRead (readNetwork gr)) (h .running e .ready .landmarks)),
+      p .put-source .ensures .1,
+    )
+
+pub put-lines-spec : {M : Type 1} → statement M
+put-lines-spec =
+    tie.close
+    (tie.spec
+    mul-k
+    cast-k
+    mul-k-2
+    array-share-prefix-vertices
+    slice-aggregate-put-source
+    slice-aggregate-put-source-2
+    slice-aggregate-put-source-3
+    mul-put-source
+    shared-slice-read-put-source
+    put-source-requires
+    same-length
+    returns)

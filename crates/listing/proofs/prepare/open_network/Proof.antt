@@ -1,0 +1,126 @@
+-- `listing::prepare::open_network` meets its contract: the landmarks of choice, and rows of zeros that the opening writes. Assumes nothing.
+use borrow.Author.Needs.{needs}
+use native.Mathlib.Omega.{arith}
+use mathlib.Core.Path.{_≡_, sym, ap, _∙_}
+use mathlib.Core.List.{List}
+use Prim.Native.Nat.{ℕ, _*_, _≤_}
+use lib.ListN.{length, take}
+use lib.Seq.{length-take-le}
+use Rattle.graph.specs.Code.{columns}
+use Rattle.graph.specs.Limits.{maxLandmarks}
+use Rattle.graph.proofs.Lists.{take-replicate}
+use Rattle.listing.proofs.Opening.{chosen-few, rows-most, ready}
+use Rattle.listing.proofs.prepare.open_network.Statement.{statement}
+use Rattle.listing.proofs.prepare.open_network.Tie as tie
+
+abbrev begin : tie.After-choose-landmarks → tie.Start
+begin k = k .before .before .before .before .before .before
+
+abbrev held : tie.After-choose-landmarks → ℕ
+held k = k .choose-landmarks .result .choice .count
+
+abbrev cells : tie.After-choose-landmarks → ℕ
+cells k = held k * 5 * begin k .args .n
+
+few : (k : tie.After-choose-landmarks) → (held k ≤ maxLandmarks) × (length (k .choose-landmarks .result .choice .vertices) ≡ maxLandmarks)
+few k =
+    let a = begin k .args in
+    chosen-few (a .n) (columns (a .tails .now) (a .heads .now) (a .weights .now)) (a .count) (k .choose-landmarks .result) (k .choose-landmarks .ensures)
+
+most : (k : tie.After-choose-landmarks) → cells k ≤ 5120
+most k = rows-most (held k) (begin k .args .n) (few k .0) (begin k .pre .0)
+
+-- the rows fit both lists
+ahead : (f : tie.After-fill) → cells (f .before .before .before .before) ≤ length (f .fill .last .0)
+ahead f = let s = begin (f .before .before .before .before) in omega (arith, most (f .before .before .before .before), f .fill .kept .0, s .pre .1)
+
+back : (f : tie.After-fill2) → cells (f .before .before .before .before .before .before .before .before) ≤ length (f .fill2 .last .0)
+back f = let s = begin (f .before .before .before .before .before .before .before .before) in omega (arith, most (f .before .before .before .before .before .before .before .before), f .fill2 .kept .0, s .pre .2)
+
+choose-landmarks-requires : tie.Need-choose-landmarks-requires
+choose-landmarks-requires c κs = search needs
+
+mul-k : tie.Need-mul-k
+mul-k c = let h = few (c .before .before) in omega (arith, h .0)
+
+mul-k-2 : tie.Need-mul-k-2
+mul-k-2 c = omega (arith, most (c .before .before))
+
+fill-requires : tie.Need-fill-requires
+fill-requires c κs = search needs
+
+fill-requires-2 : tie.Need-fill-requires-2
+fill-requires-2 c κs = search needs
+
+array-share-prefix-vertices : tie.Need-array-share-prefix-vertices
+array-share-prefix-vertices c = let h = few (c .before .before .before .before .before .before .before .before .before .before) in omega (arith, h .0, h .1)
+
+slice-aggregate-open : tie.Need-slice-aggregate-open
+slice-aggregate-open c =
+    let k = c .before .before .before .before .before .before .before .before .before .before .before in
+    let h = few k in
+    sym (length-take-le (held k) (k .choose-landmarks .result .choice .vertices) (omega (arith, h .0, h .1)))
+
+slice-relend-prefix-open : tie.Need-slice-relend-prefix-open
+slice-relend-prefix-open c = ahead (c .before .before .before .before .before .before .before)
+
+slice-aggregate-open-2 : tie.Need-slice-aggregate-open-2
+slice-aggregate-open-2 c =
+    let f = c .before .before .before .before .before .before .before .before in
+    sym (length-take-le (cells (f .before .before .before .before)) (f .fill .last .0) (ahead f))
+
+slice-relend-prefix-open-2 : tie.Need-slice-relend-prefix-open-2
+slice-relend-prefix-open-2 c = back (c .before .before .before .before)
+
+slice-aggregate-open-3 : tie.Need-slice-aggregate-open-3
+slice-aggregate-open-3 c =
+    let f = c .before .before .before .before .before in
+    sym (length-take-le (cells (f .before .before .before .before .before .before .before .before)) (f .fill2 .last .0) (back f))
+
+open-requires : tie.Need-open-requires
+open-requires c κs = search needs
+
+same-length : tie.Need-same-length
+same-length c = search needs
+
+same-length-2 : tie.Need-same-length-2
+same-length-2 c = search needs
+
+returns : tie.Need-returns
+returns c =
+    let o = c .before .before .before .before in
+    let b = o .before .before .before .before .before .before in
+    let f = b .before .before .before .before in
+    let k = f .before .before .before .before in
+    let s = begin k in
+    let a = s .args in
+    let zf = ap (λ (xs : List ℕ). take (cells k) xs) (f .fill .ensures) ∙ take-replicate {A = ℕ} (cells k) (length (a .forward .now)) 0 (omega (arith, most k, s .pre .1)) in
+    let zb = ap (λ (xs : List ℕ). take (cells k) xs) (b .fill2 .ensures) ∙ take-replicate {A = ℕ} (cells k) (length (a .backward .now)) 0 (omega (arith, most k, s .pre .2)) in (
+      few k,
+      λ es h.
+          ready (a .n) es (a .tails .now) (a .heads .now) (a .weights .now) (a .count) h (k .choose-landmarks .result) (k .choose-landmarks .ensures)
+          (f .fill .last .0) (b .fill2 .last .0) _ _ (o .«open» .result) zf zb
+          (o .«open» .kept .1 .1 .1 .1 .1 .1 .0 ∙ length-take-le (cells k) (f .fill .last .0) (ahead f))
+          (o .«open» .kept .1 .1 .1 .1 .1 .1 .1 .0 ∙ length-take-le (cells k) (b .fill2 .last .0) (back b))
+          (o .«open» .ensures),
+    )
+
+pub open-network-spec : {M : Type 1} → statement M
+open-network-spec =
+    tie.close
+    (tie.spec
+    choose-landmarks-requires
+    mul-k
+    mul-k-2
+    fill-requires
+    fill-requires-2
+    array-share-prefix-vertices
+    slice-aggregate-open
+    slice-relend-prefix-open
+    slice-aggregate-open-2
+    slice-relend-prefix-open-2
+    slice-aggregate-open-3
+    open-requires
+    same-length
+    same-length-2
+    returns)

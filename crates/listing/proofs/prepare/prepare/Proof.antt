@@ -1,0 +1,185 @@
+-- `listing::prepare::prepare` meets its contract: deck.gr, deck.ss, and the opening. Assumes nothing.
+use borrow.Author.Needs.{needs}
+use native.Mathlib.Omega.{arith}
+use mathlib.Core.Path.{refl, ap, _∙_}
+use Prim.Native.Nat.{ℕ, _≤_}
+use Rattle.graph.specs.Limits.{maxVertices}
+use Rattle.graph.proofs.Judging.{size-accept}
+use Rattle.reader.specs.declared.network.ReadReply.the-variants as graphs
+use Rattle.reader.specs.declared.sources.SourcesReply.the-variants as lists
+use Rattle.dimacs.specs.Network.{readNetwork}
+use Rattle.dimacs.specs.Sources.{readSources}
+use Rattle.dimacs.specs.Call.{edgesRead, sourcesRead}
+use Rattle.listing.specs.Code.{GraphRead}
+use Rattle.listing.proofs.Reading.{graph-refused, graph-given, sources-refused, sources-given, files-first, files-second, shown-refused, shown-running}
+use Rattle.listing.proofs.prepare.prepare.Statement.{statement}
+use Rattle.listing.proofs.prepare.prepare.Tie as tie
+
+abbrev begin : tie.After-read-graph → tie.Start
+begin g = g .before .before .before .before .before .before .before .before .before .before .before .before
+
+-- what a good deck.gr tells
+known : (f : tie.After-first2) →
+    let g = f .before .before .before .before .before .before .before .before in
+    GraphRead (begin g .args .gr .now) (graphs.Read (f .first2 .given .0 .0) (f .first2 .given .0 .1 .0)) (g .read-graph .last .1 .0) (g .read-graph .last .1 .1 .0) (g .read-graph .last .1 .1 .1 .0)
+known f = let g = f .before .before .before .before .before .before .before .before in graph-given (begin g .args .gr .now) _ _ _ _ (g .read-graph .ensures) _ _ (f .first2 .given .1)
+
+few : (f : tie.After-first2) → f .first2 .given .0 .0 ≤ maxVertices
+few f = size-accept _ (known f .2 .good .vertices) .1
+
+read-graph-requires : tie.Need-read-graph-requires
+read-graph-requires c κs = search needs
+
+enum-known-first : tie.Need-enum-known-first
+enum-known-first c = search needs
+
+refused-requires : tie.Need-refused-requires
+refused-requires c κs = search needs
+
+enum-known-first-2 : tie.Need-enum-known-first-2
+enum-known-first-2 c = search needs
+
+read-list-requires : tie.Need-read-list-requires
+read-list-requires c κs =
+    let f = c .before .before in
+    (known f .2 .good .vertices, omega (arith, begin (f .before .before .before .before .before .before .before .before) .pre .1 .0))
+
+enum-known-second : tie.Need-enum-known-second
+enum-known-second c = search needs
+
+refused-requires-2 : tie.Need-refused-requires-2
+refused-requires-2 c κs = search needs
+
+enum-known-second-2 : tie.Need-enum-known-second-2
+enum-known-second-2 c = search needs
+
+open-network-requires : tie.Need-open-network-requires
+open-network-requires c κs =
+    let f = c .before .before .before .before .before .before .before .before .before .before .before .before .before in
+    let s = begin (f .before .before .before .before .before .before .before .before) in
+    (few f, s .pre .1 .1, s .pre .1 .2)
+
+cast-t40 : tie.Need-cast-t40
+cast-t40 c = search needs
+
+same-length : tie.Need-same-length
+same-length c = search needs
+
+same-length-2 : tie.Need-same-length-2
+same-length-2 c = search needs
+
+same-length-3 : tie.Need-same-length-3
+same-length-3 c = search needs
+
+returns : tie.Need-returns
+returns c =
+    let f = c .before .before in
+    let g = c .before .before .before .before .before .before .before .before .before .before in
+    let s = begin g in
+    let a = s .args in
+    let e = c .refused .ensures in (
+      record { vertices = omega (arith, e .1); landmarks = omega (arith, e .2); places = e .3; sources = omega (arith, e .4); forward = s .pre .1 .1; backward = s .pre .1 .2 },
+      shown-refused (a .gr .now) (a .ss .now) (c .refused .result) _ _ _ _ _ _ _ _
+          (files-first (a .gr .now) (a .ss .now) _ _ (graph-refused (a .gr .now) _ _ _ _ (g .read-graph .ensures) _ _ (f .first .given .1))) (e .0),
+    )
+
+same-length-4 : tie.Need-same-length-4
+same-length-4 c = search needs
+
+same-length-5 : tie.Need-same-length-5
+same-length-5 c = search needs
+
+same-length-6 : tie.Need-same-length-6
+same-length-6 c = search needs
+
+same-length-7 : tie.Need-same-length-7
+same-length-7 c = search needs
+
+returns-2 : tie.Need-returns-2
+returns-2 c =
+    let l = c .before .before .before .before .before .before in
+    let f = l .before .before .before in
+    let s = begin (f .before .before .before .before .before .before .before .before) in
+    let a = s .args in
+    let k = known f in
+    let e = c .refused2 .ensures in (
+      record { vertices = omega (arith, e .1); landmarks = omega (arith, e .2); places = e .3; sources = omega (arith, e .4); forward = s .pre .1 .1; backward = s .pre .1 .2 },
+      shown-refused (a .gr .now) (a .ss .now) (c .refused2 .result) _ _ _ _ _ _ _ _
+          (files-second (a .gr .now) (a .ss .now) _ _ (k .0) (k .1) (sources-refused (f .first2 .given .0 .0) (a .ss .now) _ _ (l .read-list .ensures) _ _ (c .before .before .second .given .1))) (e .0),
+    )
+
+same-length-8 : tie.Need-same-length-8
+same-length-8 c = search needs
+
+same-length-9 : tie.Need-same-length-9
+same-length-9 c = search needs
+
+same-length-10 : tie.Need-same-length-10
+same-length-10 c = search needs
+
+same-length-11 : tie.Need-same-length-11
+same-length-11 c = search needs
+
+same-length-12 : tie.Need-same-length-12
+same-length-12 c = search needs
+
+same-length-13 : tie.Need-same-length-13
+same-length-13 c = search needs
+
+returns-3 : tie.Need-returns-3
+returns-3 c =
+    let o = c .before .before .before .before in
+    let q = o .before .before .before .before .before .before .before in
+    let l = q .before .before .before .before in
+    let f = l .before .before .before in
+    let s = begin (f .before .before .before .before .before .before .before .before) in
+    let a = s .args in
+    let k = known f in
+    let t = sources-given (f .first2 .given .0 .0) (a .ss .now) _ _ (l .read-list .ensures) _ (q .second2 .given .1) in
+    let e = o .open-network .ensures in (
+      record {
+        vertices = few f;
+        landmarks = e .0 .0;
+        places = e .0 .1;
+        sources = t .2;
+        forward = omega (arith, o .open-network .kept .1 .1 .1 .1 .1 .0, s .pre .1 .1);
+        backward = omega (arith, o .open-network .kept .1 .1 .1 .1 .1 .1 .0, s .pre .1 .2);
+      },
+      shown-running (a .gr .now) (a .ss .now) _ _ _ _ _ _ _ (files-second (a .gr .now) (a .ss .now) _ _ (k .0) (k .1) (t .0)) refl
+          (record {
+            vertices = k .1;
+            ready = e .1 (edgesRead (readNetwork (a .gr .now))) (k .2);
+            sources = t .1 ∙ ap (λ (n : ℕ). sourcesRead (readSources n (a .ss .now))) (k .1);
+          }),
+    )
+
+pub prepare-spec : {M : Type 1} → statement M
+prepare-spec =
+    tie.close
+    (tie.spec
+    read-graph-requires
+    enum-known-first
+    refused-requires
+    enum-known-first-2
+    read-list-requires
+    enum-known-second
+    refused-requires-2
+    enum-known-second-2
+    open-network-requires
+    cast-t40
+    same-length
+    same-length-2
+    same-length-3
+    returns
+    same-length-4
+    same-length-5
+    same-length-6
+    same-length-7
+    returns-2
+    same-length-8
+    same-length-9
+    same-length-10
+    same-length-11
+    same-length-12
+    same-length-13
+    returns-3)

@@ -1,0 +1,57 @@
+-- `listing::prepare::read_graph` meets its contract: a file that is not too long is read into lists of zeros. Assumes nothing.
+use borrow.Author.Needs.{needs}
+use native.Mathlib.Omega.{arith}
+use mathlib.Core.Path.{ap, _∙_}
+use Rattle.graph.specs.Table.{Columns}
+use Rattle.dimacs.specs.Call.{readCall}
+use Rattle.listing.proofs.Reading.{zero-columns, graph-long, graph-read}
+use Rattle.listing.proofs.prepare.read_graph.Statement.{statement}
+use Rattle.listing.proofs.prepare.read_graph.Tie as tie
+
+returns : tie.Need-returns
+returns c = graph-long (c .before .before .before .before .before .args .gr .now) (omega arith)
+
+fill-requires : tie.Need-fill-requires
+fill-requires c κs = search needs
+
+fill-requires-2 : tie.Need-fill-requires-2
+fill-requires-2 c κs = search needs
+
+fill-requires-3 : tie.Need-fill-requires-3
+fill-requires-3 c κs = search needs
+
+read-network-requires : tie.Need-read-network-requires
+read-network-requires c κs = search needs
+
+same-length : tie.Need-same-length
+same-length c = search needs
+
+same-length-2 : tie.Need-same-length-2
+same-length-2 c = search needs
+
+same-length-3 : tie.Need-same-length-3
+same-length-3 c = search needs
+
+returns-2 : tie.Need-returns-2
+returns-2 c =
+    let r = c .before .before .before .before .before .before in
+    let w = r .before .before .before .before .before .before in
+    let h = w .before .before .before .before in
+    let t = h .before .before .before .before in
+    let s = t .before .before .before .before .before .before .before in
+    graph-read (s .args .gr .now) _ _ _ (omega arith) _
+    (r .read-network .ensures ∙ ap (λ (cs : Columns). readCall (s .args .gr .now) cs) (zero-columns (s .args .tails .now) (s .args .heads .now) (s .args .weights .now) (t .fill .ensures) (h .fill2 .ensures) (w .fill3 .ensures) (s .pre .0) (s .pre .1) (s .pre .2)))
+
+pub read-graph-spec : {M : Type 1} → statement M
+read-graph-spec =
+    tie.close
+    (tie.spec
+    returns
+    fill-requires
+    fill-requires-2
+    fill-requires-3
+    read-network-requires
+    same-length
+    same-length-2
+    same-length-3
+    returns-2)

@@ -1,0 +1,123 @@
+-- What the functions that print values ask and answer. Assumes nothing.
+--
+--   graph n es                         == the network of n vertices and the edges es
+--   settledRow n ls w s p              == the settled words of a query for property p from s, with an empty schedule
+--   Rows n a b c d e                   == five rows have a word for each of n vertices
+--   rowsLine s t rs                    == the line of source s and vertex t, with the vertex's word of each row of rs
+--   rowsLines s ts rs                  == the lines of source s and the vertices ts
+--   Loaded n es ts hs ws m             == three lists of 2,048 words hold the table of the edges es, m of them, and zeros past them
+--   Ready n es ts hs ws m k vs f b     == the network of n and es is opened: its k landmarks stand in front of vs, its rows in front of f and b
+--   graphVerdict gr                    == deck.gr judged alone: number 2 for its size, then 14
+--   sourcesVerdict n ss                == deck.ss judged alone, for a network of n vertices
+--   GraphRead gr r ts hs ws            == the reply r to reading deck.gr tells its verdict, and where it is read, three lists are loaded with it
+--   SourcesRead n ss r xs              == the reply r to reading deck.ss tells its verdict, and where it is read, its sources stand in front of xs
+--   filesVerdict gr ss                 == whether either file is refused: the verdict of `printed`
+--   partsOf v d ss                     == what is printed under the verdict v, piece by piece: a refusal, or the header and each source's lines
+--   parts gr ss                        == the output for two files, piece by piece
+--   Bounded p xs f b                   == the numbers of a Prepared are within the lists that belong to it
+--   Running gr ss p ts hs ws xs f b    == the lists hold the opened network and the sources of two good files
+--   Shown gr ss p ts hs ws xs f b      == a Prepared tells the verdict of two files, and where it accepts, the lists hold them
+use mathlib.Core.Path.{_≡_}
+use mathlib.Core.List.{List, [], _∷_, _++_, map}
+use Prim.Native.Nat.{ℕ, suc, _*_, _≤_}
+use lib.ListN.{length, getD, take, replicate}
+use lib.Dec.{ltb}
+use Rattle.graph.specs.Limits.{maxVertices, maxEdges, maxLandmarks}
+use Rattle.graph.specs.Refusal.{Verdict, accept, refuse, _▷_, refuseIf}
+use Rattle.graph.specs.Edge.{Edge, range}
+use Rattle.graph.specs.Code.{told, columns}
+use Rattle.network.specs.Network.{Network}
+use Rattle.network.specs.Query.{queryCall}
+use Rattle.calls.specs.Code.{network}
+use Rattle.dimacs.specs.Network.{readNetwork}
+use Rattle.dimacs.specs.Sources.{readSources}
+use Rattle.dimacs.specs.Call.{filled, judged, vertexCount, edgesRead, sourcesRead}
+use Rattle.dimacs.specs.Claims.{Table}
+use Rattle.reader.specs.declared.network.ReadReply.{ReadReply}
+use Rattle.reader.specs.declared.network.ReadReply.the-variants as graphs
+use Rattle.reader.specs.declared.sources.SourcesReply.{SourcesReply}
+use Rattle.reader.specs.declared.sources.SourcesReply.the-variants as sources
+use Rattle.listing.specs.declared.parts.Prepared.{Prepared}
+use Rattle.listing.specs.Listing.{maxFile, Graph, graphOf, header, spaced, refusedLine, landmarksOf, networkOf, linesOf}
+
+abbrev pub graph : ℕ → List Edge → Graph
+graph n es = record { n = n; edges = es }
+
+-- ---- the lines of a source
+
+abbrev pub settledRow : ℕ → List ℕ → Network → ℕ → ℕ → List ℕ
+settledRow n ls w s p =
+    (queryCall n ls w (record { property = p; source = s; schedule = [] }) (record { starts = replicate n 0; settled = replicate n 0 })) .memory .settled
+
+pub record Rows (n : ℕ) (a b c d e : List ℕ) : Type 0 where
+  pub sssp : n ≤ length a
+  pub bfs : n ≤ length b
+  pub sswp : n ≤ length c
+  pub ssnp : n ≤ length d
+  pub ssr : n ≤ length e
+
+abbrev pub rowsLine : ℕ → ℕ → List (List ℕ) → List ℕ
+rowsLine s t rs = spaced (suc s ∷ suc t ∷ map (λ r. getD r t 0) rs)
+
+unfoldable pub rowsLines : ℕ → List ℕ → List (List ℕ) → List ℕ
+rowsLines s [] rs = []
+rowsLines s (t ∷ ts) rs = rowsLine s t rs ++ rowsLines s ts rs
+
+-- ---- the network
+
+pub record Loaded (n : ℕ) (es : List Edge) (ts hs ws : List ℕ) (m : ℕ) : Type 0 where
+  pub good : Table n es
+  pub count : m ≡ length es
+  pub table : columns ts hs ws ≡ filled es (columns (replicate maxEdges 0) (replicate maxEdges 0) (replicate maxEdges 0))
+
+pub record Ready (n : ℕ) (es : List Edge) (ts hs ws : List ℕ) (m k : ℕ) (vs f b : List ℕ) : Type 0 where
+  pub landmarks : landmarksOf (graph n es) ≡ take k vs
+  pub opened : network ts hs ws (take (k * 5 * n) f) (take (k * 5 * n) b) m ≡ networkOf (graph n es)
+
+-- ---- files
+
+abbrev pub graphVerdict : List ℕ → Verdict
+graphVerdict gr = refuseIf (ltb maxFile (length gr)) 2 0 ▷ judged (readNetwork gr)
+
+abbrev pub sourcesVerdict : ℕ → List ℕ → Verdict
+sourcesVerdict n ss = refuseIf (ltb maxFile (length ss)) 2 0 ▷ judged (readSources n ss)
+
+abbrev pub GraphRead : List ℕ → ReadReply → List ℕ → List ℕ → List ℕ → Type 0
+GraphRead gr (graphs.Read n m) ts hs ws = (graphVerdict gr ≡ accept) × (n ≡ vertexCount (readNetwork gr)) × Loaded n (edgesRead (readNetwork gr)) ts hs ws m
+GraphRead gr (graphs.Refused k i) ts hs ws = graphVerdict gr ≡ refuse k i
+
+abbrev pub SourcesRead : ℕ → List ℕ → SourcesReply → List ℕ → Type 0
+SourcesRead n ss (sources.Read k) xs = (sourcesVerdict n ss ≡ accept) × (take k xs ≡ sourcesRead (readSources n ss)) × (k ≤ length xs)
+SourcesRead n ss (sources.Refused k i) xs = sourcesVerdict n ss ≡ refuse k i
+
+-- ---- the output, piece by piece
+
+abbrev pub filesVerdict : List ℕ → List ℕ → Verdict
+filesVerdict gr ss =
+    let r = readNetwork gr in
+    let q = readSources (vertexCount r) ss in
+    refuseIf (ltb maxFile (length gr)) 2 0 ▷ judged r ▷ refuseIf (ltb maxFile (length ss)) 2 0 ▷ judged q
+
+unfoldable pub partsOf : Verdict → Graph → List ℕ → List (List ℕ)
+partsOf accept d ss = header ∷ map (λ s. linesOf d (networkOf d) s (range 0 (d .n))) ss
+partsOf (refuse k i) d ss = refusedLine k i ∷ []
+
+abbrev pub parts : List ℕ → List ℕ → List (List ℕ)
+parts gr ss = let r = readNetwork gr in partsOf (filesVerdict gr ss) (graphOf r) (sourcesRead (readSources (vertexCount r) ss))
+
+pub record Bounded (p : Prepared) (xs f b : List ℕ) : Type 0 where
+  pub vertices : p .n ≤ maxVertices
+  pub landmarks : p .choice .count ≤ maxLandmarks
+  pub places : length (p .choice .vertices) ≡ maxLandmarks
+  pub sources : p .sources ≤ length xs
+  pub forward : 5120 ≤ length f
+  pub backward : 5120 ≤ length b
+
+pub record Running (gr ss : List ℕ) (p : Prepared) (ts hs ws xs f b : List ℕ) : Type 0 where
+  pub vertices : p .n ≡ vertexCount (readNetwork gr)
+  pub ready : Ready (p .n) (edgesRead (readNetwork gr)) ts hs ws (p .count) (p .choice .count) (p .choice .vertices) f b
+  pub sources : take (p .sources) xs ≡ sourcesRead (readSources (vertexCount (readNetwork gr)) ss)
+
+pub record Shown (gr ss : List ℕ) (p : Prepared) (ts hs ws xs f b : List ℕ) : Type 0 where
+  pub verdict : told (p .verdict) ≡ filesVerdict gr ss
+  pub running : filesVerdict gr ss ≡ accept → Running gr ss p ts hs ws xs f b

@@ -1,0 +1,5 @@
+pub mod Digits
+pub mod Laid
+pub mod Fields
+pub mod Text
+pub mod Writing

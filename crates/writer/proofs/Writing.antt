@@ -1,0 +1,68 @@
+-- The reply of a writing and the buffer after it, in the order of the refusals. Assumes nothing.
+use mathlib.Core.Path.{_≡_, refl, sym, ap, _∙_}
+use mathlib.Core.List.{List}
+use Prim.Native.Nat.{ℕ, _≤_, _<_}
+use native.Mathlib.Nat.{zero-add}
+use lib.ListN.{length}
+use lib.Dec.{ltb}
+use borrow.Author.Tests.{lt-ltb, le-ltb}
+use Rattle.graph.specs.declared.Judged.{Judged}
+use Rattle.graph.specs.declared.Judged.the-variants.{Fine, Refused}
+use Rattle.graph.specs.Refusal.{Verdict, accept, refuse, _▷_, refuseIf, replied, choose, over}
+use Rattle.graph.specs.Limits.{maxEdges}
+use Rattle.graph.specs.Table.{Columns, edgesOf, size, shortTable, table}
+use Rattle.graph.specs.Code.{told, Room, columns}
+use Rattle.graph.proofs.Verdicts.{then-accept}
+use Rattle.graph.proofs.Judging.{lengths-accept, table-accept}
+use Rattle.graph.proofs.Records.{room-less}
+use Rattle.dimacs.specs.Network.{written}
+use Rattle.dimacs.specs.Call.{writeCall}
+use Rattle.writer.specs.declared.WriteReply.the-variants as reply
+use Rattle.writer.specs.Code.{laid, Wrote, writing, writeOutcome}
+
+-- ---- writing
+
+-- what is judged before the buffer
+abbrev pub judgedWrite : ℕ → Columns → ℕ → Verdict
+judgedWrite n cs m = size n ▷ shortTable cs ▷ table n cs m
+
+pub record Writable (n : ℕ) (ts hs ws : List ℕ) (m : ℕ) : Type 0 where
+  pub count : m ≤ maxEdges
+  pub room : Room m ts hs ws
+
+pub write-accept : (n : ℕ) (ts hs ws : List ℕ) (m : ℕ) → judgedWrite n (columns ts hs ws) m ≡ accept → Writable n ts hs ws m
+write-accept n ts hs ws m e =
+    let a = then-accept (size n) _ e in
+    let s = then-accept (shortTable (columns ts hs ws)) _ (a .1) in
+    let t = table-accept n (columns ts hs ws) m (s .1) in
+    record { count = t .0; room = room-less (t .0) (lengths-accept ts hs ws (s .0)) }
+
+then-last : (a b c d : Verdict) → (a ▷ b ▷ c ▷ d) ≡ ((a ▷ b ▷ c) ▷ d)
+unfolding _▷_
+then-last accept accept c d = refl
+then-last accept (refuse k i) c d = refl
+then-last (refuse k i) b c d = refl
+
+module _ (n : ℕ) (cs : Columns) (m : ℕ) (out : List ℕ) where
+  abbrev text : List ℕ
+  text = written n (edgesOf cs m)
+
+  -- the whole chain, by its value
+  chain : (v : Verdict) → judgedWrite n cs m ≡ v → (size n ▷ shortTable cs ▷ table n cs m ▷ refuseIf (ltb (length out) (length text)) 2 0) ≡ (v ▷ refuseIf (ltb (length out) (length text)) 2 0)
+  chain v e = then-last (size n) (shortTable cs) (table n cs m) _ ∙ rw e
+
+  pub write-refused : (j : Judged) (k i : ℕ) → told j ≡ judgedWrite n cs m → j ≡ Refused k i → writeOutcome (reply.Refused k i) out ≡ writeCall n cs m out
+  unfolding writeCall told _▷_ replied choose writing
+  write-refused j k i e q = rw (chain (refuse k i) (sym e ∙ ap told q))
+
+  pub write-short : judgedWrite n cs m ≡ accept → length out < length text → writeOutcome (reply.Refused 2 0) out ≡ writeCall n cs m out
+  unfolding writeCall _▷_ refuseIf replied choose writing
+  write-short e l = rw (chain accept e, lt-ltb (length out) (length text) l)
+
+  pub write-accepted : (k : ℕ) (new : List ℕ) → judgedWrite n cs m ≡ accept → length text ≤ length out → k ≡ length text → new ≡ over text out → writeOutcome (reply.Length k) new ≡ writeCall n cs m out
+  unfolding writeCall _▷_ refuseIf replied choose writing
+  write-accepted k new e l p q = rw (chain accept e, le-ltb (length out) (length text) l, p, q)
+
+pub wrote-over : {text out new : List ℕ} {r : ℕ} → Wrote text 0 out r new → new ≡ over text out
+unfolding laid
+wrote-over w = rw zero-add at (w .bytes)

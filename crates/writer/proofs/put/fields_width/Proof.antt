@@ -1,0 +1,76 @@
+-- `writer::put::fields_width` meets its contract: the bytes of the numbers below i are summed. Assumes nothing.
+use borrow.Author.Needs.{needs}
+use native.Mathlib.Omega.{arith}
+use mathlib.Core.Path.{_≡_}
+use Prim.Native.Nat.{_+_, _*_, _-_, _≤_}
+use lib.ListN.{length, getD, drop}
+use Rattle.dimacs.specs.Decimal.{digits}
+use Rattle.dimacs.specs.Lines.{fieldsOf}
+use Rattle.writer.proofs.Fields.{width-word, fields-sum, fields-all}
+use Rattle.writer.proofs.put.fields_width.Statement.{statement}
+use Rattle.writer.proofs.put.fields_width.Tie as tie
+
+abbrev Inv-loop : tie.InvT-loop
+Inv-loop values sum₀ i₀ sum i = (sum + length (fieldsOf (drop i values)) ≡ length (fieldsOf values)) × (sum ≤ 21 * i) × (i ≤ length values)
+
+abbrev μ-loop : tie.MeasureT-loop
+μ-loop values sum₀ i₀ sum i = length values - i
+
+loop-holds : tie.Need-loop-holds Inv-loop μ-loop
+loop-holds c = (omega arith, omega arith, omega arith)
+
+mul-width : tie.Need-mul-width Inv-loop μ-loop
+mul-width c = search needs
+
+shared-slice-read-width : tie.Need-shared-slice-read-width Inv-loop μ-loop
+shared-slice-read-width c = search needs
+
+width-requires : tie.Need-width-requires Inv-loop μ-loop
+width-requires c κs = search needs
+
+-- a number takes at most 20 bytes
+most : (c : tie.After-width Inv-loop μ-loop) → c .width .result ≤ 20
+most c =
+    let l = c .before .before .before in
+    rw (c .width .ensures) (width-word (getD (l .before .before .args .values .now) (l .loop .i) 0) (omega (arith, c .before .shared-slice-known2 .given (l .loop .i))))
+
+add-sum : tie.Need-add-sum Inv-loop μ-loop
+add-sum c = omega (arith, most c)
+
+add-sum-2 : tie.Need-add-sum-2 Inv-loop μ-loop
+add-sum-2 c = omega (arith, most c)
+
+add-i : tie.Need-add-i Inv-loop μ-loop
+add-i c = search needs
+
+loop-less : tie.Need-loop-less Inv-loop μ-loop
+loop-less c = search needs
+
+loop-again : tie.Need-loop-again Inv-loop μ-loop
+loop-again c =
+    let l = c .before .before .before in
+    let vs = l .before .before .args .values .now in
+    let e : c .width .result ≡ length (digits (getD vs (l .loop .i) 0)) = c .width .ensures in
+    (rw e (fields-sum vs (l .loop .i) (l .loop .sum) _ (omega arith) (l .loop .inv .0)), omega (arith, most c), omega arith)
+
+returns : tie.Need-returns Inv-loop μ-loop
+returns c =
+    let l = c .before in
+    (fields-all (l .before .before .args .values .now) (l .loop .i) (l .loop .sum) _ (omega arith) (l .loop .inv .0), omega arith)
+
+pub fields-width-spec : {M : Type 1} → statement M
+fields-width-spec =
+    tie.close
+    (tie.spec
+    Inv-loop
+    μ-loop
+    loop-holds
+    mul-width
+    shared-slice-read-width
+    width-requires
+    add-sum
+    add-sum-2
+    add-i
+    loop-less
+    loop-again
+    returns)

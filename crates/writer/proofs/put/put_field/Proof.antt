@@ -1,0 +1,26 @@
+-- `writer::put::put_field` meets its contract. Assumes nothing.
+use borrow.Author.Needs.{needs}
+use mathlib.Core.Path.{refl}
+use mathlib.Core.List.{[], _∷_}
+use Rattle.writer.proofs.Laid.{pending-start, pending-turn, pending-last}
+use Rattle.writer.proofs.put.put_field.Statement.{statement}
+use Rattle.writer.proofs.put.put_field.Tie as tie
+
+put-byte-requires : tie.Need-put-byte-requires
+put-byte-requires c κs = search needs
+
+put-number-requires : tie.Need-put-number-requires
+put-number-requires c κs = search needs
+
+same-length : tie.Need-same-length
+same-length c = search needs
+
+returns : tie.Need-returns
+returns c =
+    let n = c .before .before in
+    let b = n .before .before .before .before in
+    let s = b .before .before .before in
+    pending-last (pending-turn (pending-start (s .pre)) (32 ∷ []) _ refl (b .put-byte .ensures)) (n .put-number .ensures)
+
+pub put-field-spec : {M : Type 1} → statement M
+put-field-spec = tie.close (tie.spec put-byte-requires put-number-requires same-length returns)

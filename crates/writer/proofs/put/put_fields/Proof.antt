@@ -1,0 +1,68 @@
+-- `writer::put::put_fields` meets its contract: the numbers from i on are still to be put. Assumes nothing.
+use borrow.Author.Needs.{needs}
+use native.Mathlib.Omega.{arith}
+use Prim.Native.Nat.{_+_, _-_, _≤_}
+use lib.ListN.{length, drop}
+use Rattle.dimacs.specs.Lines.{fieldsOf}
+use Rattle.writer.proofs.Laid.{Pending, pending-start, pending-fits, pending-turn, pending-done}
+use Rattle.writer.proofs.Fields.{fields-more, fields-none}
+use Rattle.writer.proofs.put.put_fields.Statement.{statement}
+use Rattle.writer.proofs.put.put_fields.Tie as tie
+
+abbrev Inv-loop : tie.InvT-loop
+Inv-loop values at out₀ end₀ i₀ out end i = Pending (fieldsOf values) at out₀ (fieldsOf (drop i values)) end out × (i ≤ length values)
+
+abbrev μ-loop : tie.MeasureT-loop
+μ-loop values at out₀ end₀ i₀ out end i = length values - i
+
+loop-holds : tie.Need-loop-holds Inv-loop μ-loop
+loop-holds c = (pending-start (c .before .before .pre), omega arith)
+
+mul-put-field : tie.Need-mul-put-field Inv-loop μ-loop
+mul-put-field c = search needs
+
+shared-slice-read-put-field : tie.Need-shared-slice-read-put-field Inv-loop μ-loop
+shared-slice-read-put-field c = search needs
+
+put-field-requires : tie.Need-put-field-requires Inv-loop μ-loop
+put-field-requires c κs =
+    let l = c .before .before .before in
+    let vs = l .before .before .before .args .values .now in
+    pending-fits (l .loop .inv .0) _ (fieldsOf (drop (l .loop .i + 1) vs)) (fields-more vs (l .loop .i) (omega arith))
+
+add-i : tie.Need-add-i Inv-loop μ-loop
+add-i c = search needs
+
+loop-less : tie.Need-loop-less Inv-loop μ-loop
+loop-less c = search needs
+
+loop-again : tie.Need-loop-again Inv-loop μ-loop
+loop-again c =
+    let f = c .before .before in
+    let l = f .before .before .before .before in
+    let vs = l .before .before .before .args .values .now in
+    (pending-turn (l .loop .inv .0) _ (fieldsOf (drop (l .loop .i + 1) vs)) (fields-more vs (l .loop .i) (omega arith)) (f .put-field .ensures), omega arith)
+
+same-length : tie.Need-same-length Inv-loop μ-loop
+same-length c = c .before .loop .inv .0 .same
+
+returns : tie.Need-returns Inv-loop μ-loop
+returns c =
+    let l = c .before in
+    pending-done (l .loop .inv .0) (fields-none (l .before .before .before .args .values .now) (l .loop .i) (omega arith))
+
+pub put-fields-spec : {M : Type 1} → statement M
+put-fields-spec =
+    tie.close
+    (tie.spec
+    Inv-loop
+    μ-loop
+    loop-holds
+    mul-put-field
+    shared-slice-read-put-field
+    put-field-requires
+    add-i
+    loop-less
+    loop-again
+    same-length
+    returns)

@@ -1,0 +1,73 @@
+-- `writer::put::put_word` meets its contract: the bytes below i are put. Assumes nothing.
+use borrow.Author.Needs.{needs}
+use native.Mathlib.Omega.{arith}
+use mathlib.Core.Path.{_≡_, refl}
+use Prim.Native.Nat.{_-_, _≤_}
+use lib.ListN.{length, length-set}
+use lib.Seq.{paste, paste-zero}
+use Rattle.graph.proofs.Copies.{copy-turn}
+use Rattle.writer.proofs.Laid.{paste-wrote}
+use Rattle.writer.proofs.put.put_word.Statement.{statement}
+use Rattle.writer.proofs.put.put_word.Tie as tie
+
+abbrev Inv-loop : tie.InvT-loop
+Inv-loop word at out₀ i₀ out i = (out ≡ paste out₀ at word i) × (i ≤ length word) × (length out ≡ length out₀)
+
+abbrev μ-loop : tie.MeasureT-loop
+μ-loop word at out₀ i₀ out i = length word - i
+
+loop-holds : tie.Need-loop-holds Inv-loop μ-loop
+loop-holds c = (paste-zero (c .args .out .now) (c .args .at) (c .args .word .now), search needs, refl)
+
+shared-slice-read-out : tie.Need-shared-slice-read-out Inv-loop μ-loop
+shared-slice-read-out c = search needs
+
+add-out : tie.Need-add-out Inv-loop μ-loop
+add-out c = search needs
+
+slice-write-out : tie.Need-slice-write-out Inv-loop μ-loop
+slice-write-out c = search needs
+
+add-i : tie.Need-add-i Inv-loop μ-loop
+add-i c = search needs
+
+loop-less : tie.Need-loop-less Inv-loop μ-loop
+loop-less c = search needs
+
+loop-again : tie.Need-loop-again Inv-loop μ-loop
+loop-again c =
+    let l = c .before .before in
+    let s = l .before in (
+      copy-turn (s .args .word .now) (s .args .out .now) (l .loop .out) (s .args .at) (l .loop .i) (omega arith) (omega arith) (l .loop .inv .0),
+      omega arith,
+      simp length-set (l .loop .inv .2),
+    )
+
+add-result : tie.Need-add-result Inv-loop μ-loop
+add-result c = search needs
+
+same-length : tie.Need-same-length Inv-loop μ-loop
+same-length c = search needs
+
+returns : tie.Need-returns Inv-loop μ-loop
+returns c =
+    let l = c .before in
+    let s = l .before in
+    paste-wrote (s .args .word .now) (s .args .at) (s .args .out .now) (l .loop .i) (l .loop .out) (omega arith) (l .loop .inv .0)
+
+pub put-word-spec : {M : Type 1} → statement M
+put-word-spec =
+    tie.close
+    (tie.spec
+    Inv-loop
+    μ-loop
+    loop-holds
+    shared-slice-read-out
+    add-out
+    slice-write-out
+    add-i
+    loop-less
+    loop-again
+    add-result
+    same-length
+    returns)

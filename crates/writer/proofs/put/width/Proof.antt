@@ -1,0 +1,39 @@
+-- `writer::put::width` meets its contract: a number from ten on has one digit more than its tenth. Assumes nothing.
+use native.Mathlib.Omega.{arith}
+use mathlib.Core.Path.{_≡_, refl}
+use Prim.Native.Nat.{_+_, _≤_, _<_}
+use lib.ListN.{length}
+use Rattle.dimacs.specs.Decimal.{digits}
+use Rattle.writer.proofs.Digits.{width-small, width-big}
+use Rattle.writer.proofs.put.width.Statement.{statement}
+use Rattle.writer.proofs.put.width.Tie as tie
+
+abbrev Inv-loop : tie.InvT-loop
+Inv-loop v n₀ w₀ n w = (n + length (digits w) ≡ 1 + length (digits v)) × (n + w ≤ v + 1)
+
+abbrev μ-loop : tie.MeasureT-loop
+μ-loop v n₀ w₀ n w = w
+
+loop-holds : tie.Need-loop-holds Inv-loop μ-loop
+loop-holds c = (refl, omega arith)
+
+add-n : tie.Need-add-n Inv-loop μ-loop
+add-n c = omega arith
+
+loop-less : tie.Need-loop-less Inv-loop μ-loop
+loop-less c = omega arith
+
+loop-again : tie.Need-loop-again Inv-loop μ-loop
+loop-again c =
+    let l = c .before in
+    let b : 10 ≤ l .loop .w = omega arith in
+    (omega (arith, width-big (l .loop .w) b), omega arith)
+
+returns : tie.Need-returns Inv-loop μ-loop
+returns c =
+    let l = c .before in
+    let b : l .loop .w < 10 = omega arith in
+    omega (arith, width-small (l .loop .w) b)
+
+pub width-spec : {M : Type 1} → statement M
+width-spec = tie.close (tie.spec Inv-loop μ-loop loop-holds add-n loop-less loop-again returns)
