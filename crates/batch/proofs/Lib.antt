@@ -3,3 +3,6 @@ pub mod Batching
 pub mod BatchingRows
 pub mod BatchingSides
 pub mod BatchingCall
+pub mod Again
+pub mod Scratch
+pub mod Copying

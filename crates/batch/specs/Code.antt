@@ -2,6 +2,12 @@
 --
 --   change k t h w               == the change record of four words
 --   changes ks ts hs ws          == four lists side by side as change records, as far as the shortest goes
+--   recorded c                   == an element of the slice of changes, as a change record
+--   noChange                     == what is read past the last of them
+--   putChange xs i c             == four lists of 1,024 words, one after the other in xs, after the words of c went to place i of each
+--   copied ys xs k               == those lists after the first k records of ys went there, each to its own place
+--   changeAt xs i                == the change record whose words are at place i of the four lists
+--   Laid k cs xs                 == cs are k changes, whose words are in the four lists as far as these have places
 --   verdict r                    == an Edited as a verdict
 --   Tabled n m ts hs ws          == three lists with room for every edge hold m edges that keep the rules of n vertices
 --   Leaves n r ts hs ws fs       == where r tells a count, the three lists hold the edges fs below it
@@ -18,10 +24,10 @@
 use mathlib.Core.Path.{_≡_}
 use mathlib.Core.Bool.{_||_}
 use mathlib.Core.List.{List, [], _∷_}
-use Prim.Native.Nat.{ℕ, _*_, _≤_}
-use lib.ListN.{length}
+use Prim.Native.Nat.{ℕ, zero, suc, _+_, _*_, _<_, _≤_}
+use lib.ListN.{length, getD, set}
 use Rattle.frontier.specs.Waiting.{anyOf, countOf}
-use Rattle.graph.specs.Limits.{maxVertices, maxEdges}
+use Rattle.graph.specs.Limits.{maxVertices, maxEdges, maxBatch}
 use Rattle.graph.specs.Refusal.{Verdict, accept, refuse, Reply, accepted, refused, Outcome, outcome}
 use Rattle.graph.specs.Edge.{Edge, edges}
 use Rattle.graph.specs.Table.{rules}
@@ -34,6 +40,7 @@ use Rattle.batch.specs.declared.sides.Rowed.{Rowed}
 use Rattle.batch.specs.declared.Applied.{Applied}
 use Rattle.batch.specs.declared.Applied.the-variants as applied
 use Rattle.batch.specs.declared.Report as declared
+use Rattle.batch.specs.declared.Change as slice
 use Rattle.network.specs.Network.{Memory, Network, rowCount, flat, unsettled, storesOf}
 use Rattle.network.specs.Change.{Change}
 use Rattle.network.specs.Batch.{Report, rowAffected, rowEnd, batchRows, affectedOf, newForward, newBackward, stillWaiting, batchMemory, report}
@@ -50,6 +57,28 @@ changes (k ∷ ks) [] hs ws = []
 changes (k ∷ ks) (t ∷ ts) [] ws = []
 changes (k ∷ ks) (t ∷ ts) (h ∷ hs) [] = []
 changes (k ∷ ks) (t ∷ ts) (h ∷ hs) (w ∷ ws) = change k t h w ∷ changes ks ts hs ws
+
+-- ---- a lent slice of records, and its words in four lists of 1,024, one after the other
+
+abbrev pub recorded : slice.Change → Change
+recorded c = change (c .kind) (c .tail) (c .head) (c .weight)
+
+abbrev pub noChange : slice.Change
+noChange = record { kind = 0; tail = 0; head = 0; weight = 0 }
+
+abbrev pub putChange : List ℕ → ℕ → slice.Change → List ℕ
+putChange xs i c = set (set (set (set xs i (c .kind)) (maxBatch + i) (c .tail)) (2 * maxBatch + i) (c .head)) (3 * maxBatch + i) (c .weight)
+
+abbrev pub changeAt : List ℕ → ℕ → Change
+changeAt xs i = change (getD xs i 0) (getD xs (maxBatch + i) 0) (getD xs (2 * maxBatch + i) 0) (getD xs (3 * maxBatch + i) 0)
+
+abbrev pub copied : List slice.Change → List ℕ → ℕ → List ℕ
+copied ys xs zero = xs
+copied ys xs (suc i) = putChange (copied ys xs i) i (getD ys i noChange)
+
+pub record Laid (k : ℕ) (cs : List Change) (xs : List ℕ) : Type 0 where
+  pub size : length cs ≡ k
+  pub words : (i : ℕ) → i < k → i < maxBatch → changeAt xs i ≡ getD cs i (recorded noChange)
 
 -- ---- the scratch table
 
