@@ -1,13 +1,13 @@
 -- A batch as a call: numbers 1 to 4, then its changes, then number 13, and what is lent. Assumes nothing.
-use mathlib.Core.Path.{_≡_, sym, ap, _∙_}
-use mathlib.Core.Bool.{true, false, not, _||_}
+use mathlib.Core.Path.{_≡_, refl, sym, ap, _∙_}
+use mathlib.Core.Bool.{Bool, true, false, not, _||_}
 use mathlib.Core.List.{List, [], _∷_, map}
 use Prim.Native.Nat.{ℕ, zero, suc, _+_, _*_, _≤_, _<_, min}
 use native.Mathlib.Nat.{zero-add, mul-le-mul-right}
 use native.Mathlib.Omega.{arith}
 use lib.ListN.{length, getD, take, drop}
 use lib.Seq.{paste, take-at, take-all, length-take-le}
-use lib.Dec.{ltb}
+use lib.Dec.{ltb, eqb}
 use borrow.Author.Tests.{lt-ltb, le-ltb, ltb-true}
 use Rattle.graph.specs.declared.Judged.{Judged}
 use Rattle.graph.specs.declared.Judged.the-variants.{Fine, Refused}
@@ -44,6 +44,15 @@ changes-length (k ∷ ks) (t ∷ ts) (h ∷ hs) [] = omega arith
 changes-length (k ∷ ks) (t ∷ ts) (h ∷ hs) (w ∷ ws) = let z = changes-length ks ts hs ws in omega arith
 
 -- ---- numbers 1 to 4
+
+-- a batch that is too long is number 1, and so is a size that is refused
+pub faults-long : (n : ℕ) (ls : List ℕ) (w : Network) (j : ℕ) → maxBatch < j → refuse 1 0 ≡ batchFaults n ls w j
+unfolding batchFaults refuseIf _▷_
+faults-long n ls w j h = pick (eqb n 0 || ltb maxVertices n) refl
+  where
+    pick : (b : Bool) → (eqb n 0 || ltb maxVertices n) ≡ b → refuse 1 0 ≡ batchFaults n ls w j
+    pick true e = rw e
+    pick false e = rw (e, lt-ltb maxBatch j h)
 
 module _ (n : ℕ) (ls : List ℕ) (w : Network) (j : ℕ) where
   module _ (a : Judged) (e : told a ≡ size n) where

@@ -1,2 +1,5 @@
 pub mod Writing
 pub mod Calling
+pub mod Again
+pub mod Scratch
+pub mod Copying

@@ -6,15 +6,34 @@ use graph::rules;
 use graph::words;
 use items::Edited;
 ghost use mathlib.Core.Path.{_≡_};
-ghost use Prim.Native.Nat.{min};
+ghost use mathlib.Core.List.{List, map};
+ghost use Prim.Native.Nat.{_*_, _<_, _≤_, min};
 ghost use lib.ListN.{length};
-ghost use Rattle.graph.specs.Limits.{maxEdges};
+ghost use Rattle.graph.specs.Limits.{maxEdges, maxBatch};
 ghost use Rattle.graph.specs.Refusal.{accept};
 ghost use Rattle.graph.specs.Code.{told, Room};
+ghost use Rattle.network.specs.Change as spec;
 ghost use Rattle.network.specs.Batch.{batchCall, batchFaults};
 ghost use Rattle.calls.specs.Code.{network};
 ghost use Rattle.items.specs.Code.{changes};
-ghost use Rattle.batch.specs.Code.{batchOutcome};
+ghost use Rattle.batch.specs.Code.{batchOutcome, recorded, putChange, copied, Laid};
+
+// The words of the longest batch, list after list: its kinds, and where its tails, heads and weights start.
+const TAILS: usize = graph::MAX_BATCH;
+
+const HEADS: usize = 2 * graph::MAX_BATCH;
+
+const WEIGHTS: usize = 3 * graph::MAX_BATCH;
+
+const BATCH_WORDS: usize = 4 * graph::MAX_BATCH;
+
+// A change: kind 1 adds an edge, 2 takes the one from `tail` to `head`, with weight 0.
+pub struct Change {
+    pub kind: u32,
+    pub tail: u32,
+    pub head: u32,
+    pub weight: u32,
+}
 
 // The new count, and affected vertices and stores over all rows.
 pub struct Report {
@@ -132,8 +151,8 @@ fn batch_in(
     }
 }
 
-// A batch of changes, all or none: refused, or the table and all rows are as they are after it, and the report says so.
-pub fn batch(
+// A batch whose changes are four lists side by side, for callers that can lend no slice of records.
+pub fn batch_lists(
     n: u32,
     landmarks: &[u32],
     tails: &mut [u32],
@@ -184,5 +203,94 @@ pub fn batch(
         &mut tails2,
         &mut heads2,
         &mut weights2,
+    )
+}
+
+// The words of a change go to place `i` of the four lists.
+fn put_change(lists: &mut [u32], i: usize, c: Change)
+    requires { ⌜ (i < maxBatch) × (length (now lists) ≡ 4 * maxBatch) ⌝ }
+    ensures { λ _. ⌜ now (lists .exit) ≡ putChange (now (lists .entry)) i c ⌝ }
+{
+    lists[i] = c.kind;
+    lists[TAILS + i] = c.tail;
+    lists[HEADS + i] = c.head;
+    lists[WEIGHTS + i] = c.weight;
+}
+
+// The first `k` changes are copied to the four lists.
+fn copy_changes(changes: &[Change], k: usize, lists: &mut [u32])
+    requires { ⌜ (k ≤ length (now changes)) × (k ≤ maxBatch) × (length (now lists) ≡ 4 * maxBatch) ⌝ }
+    ensures { λ _. ⌜ now (lists .exit) ≡ copied (now (changes .entry)) (now (lists .entry)) k ⌝ }
+{
+    let mut i = 0;
+    while i < k {
+        let c = changes[i];
+        put_change(lists, i, c);
+        i += 1;
+    }
+}
+
+// A batch of `size` changes, of which the four lists hold as many as they have room for: more are refused by number 1.
+fn batch_copied(
+    n: u32,
+    landmarks: &[u32],
+    tails: &mut [u32],
+    heads: &mut [u32],
+    weights: &mut [u32],
+    count: u32,
+    forward: &mut [u32],
+    backward: &mut [u32],
+    lists: &[u32],
+    size: usize,
+) -> Applied
+    requires { ⌜ length (now lists) ≡ 4 * maxBatch ⌝ }
+    ensures { λ r. ⌜ ((cs : List spec.Change) → Laid size cs (now (lists .entry)) → batchOutcome r (now (tails .exit)) (now (heads .exit)) (now (weights .exit)) (now (forward .exit)) (now (backward .exit)) ≡ batchCall n (now (landmarks .entry)) (network (now (tails .entry)) (now (heads .entry)) (now (weights .entry)) (now (forward .entry)) (now (backward .entry)) count) cs) ⌝ }
+{
+    if size > graph::MAX_BATCH {
+        return Applied::Refused(1, 0);
+    }
+    batch_lists(
+        n,
+        landmarks,
+        tails,
+        heads,
+        weights,
+        count,
+        forward,
+        backward,
+        &lists[..size],
+        &lists[TAILS..TAILS + size],
+        &lists[HEADS..HEADS + size],
+        &lists[WEIGHTS..WEIGHTS + size],
+    )
+}
+
+// A batch of changes, all or none: refused, or the table and all rows are as they are after it, and the report says so.
+pub fn batch(
+    n: u32,
+    landmarks: &[u32],
+    tails: &mut [u32],
+    heads: &mut [u32],
+    weights: &mut [u32],
+    count: u32,
+    forward: &mut [u32],
+    backward: &mut [u32],
+    changes: &[Change],
+) -> Applied
+    ensures { λ r. ⌜ batchOutcome r (now (tails .exit)) (now (heads .exit)) (now (weights .exit)) (now (forward .exit)) (now (backward .exit)) ≡ batchCall n (now (landmarks .entry)) (network (now (tails .entry)) (now (heads .entry)) (now (weights .entry)) (now (forward .entry)) (now (backward .entry)) count) (map recorded (now (changes .entry))) ⌝ }
+{
+    let mut lists = [0u32; BATCH_WORDS];
+    copy_changes(changes, lesser(changes.len(), graph::MAX_BATCH), &mut lists);
+    batch_copied(
+        n,
+        landmarks,
+        tails,
+        heads,
+        weights,
+        count,
+        forward,
+        backward,
+        &lists,
+        changes.len(),
     )
 }

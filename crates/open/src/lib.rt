@@ -3,7 +3,6 @@ use frontier::Words;
 use graph::Judged;
 use graph::index;
 use graph::words;
-use run::Tally;
 ghost use mathlib.Core.Path.{_≡_};
 ghost use mathlib.Core.List.{List, map};
 ghost use Prim.Native.Nat.{_*_, _<_};
@@ -42,12 +41,7 @@ fn open_row(
     let i = r / 5;
     let s = landmarks[i] as usize;
     run::open_row(p, n, s, part, waiting);
-    let none = Tally {
-        taken: 0,
-        rounds: 0,
-        stores: 0,
-    };
-    run::settle(p, n, count, firsts, heads, weights, part, waiting, none);
+    run::run_unscheduled(p, n, count, firsts, heads, weights, part, waiting);
     frontier::any(waiting)
 }
 

@@ -5,7 +5,6 @@ use graph::rules;
 use run::Tally;
 ghost use mathlib.Core.Path.{_≡_};
 ghost use mathlib.Core.Bool.{cond};
-ghost use mathlib.Core.List.{List};
 ghost use Prim.Native.Nat.{_<_};
 ghost use lib.ListN.{length};
 ghost use lib.Dec.{eqb};
@@ -13,11 +12,7 @@ ghost use Rattle.property.specs.Property.{property};
 ghost use Rattle.graph.specs.Refusal.{accept, _▷_};
 ghost use Rattle.graph.specs.Table.{size};
 ghost use Rattle.graph.specs.Code.{told};
-ghost use Rattle.graph.specs.Edge.{Edge};
-ghost use Rattle.graph.specs.Own.{Fit, Own};
-ghost use Rattle.run.specs.Run as runs;
 ghost use Rattle.run.specs.Start as start;
-ghost use Rattle.run.specs.Code.{state, noCounts, Sized, Scheduled};
 ghost use Rattle.network.specs.Query.{scheduled, longSchedule, shortWords, requested, queryFaults, queryCall};
 ghost use Rattle.calls.specs.Code.{network};
 ghost use Rattle.query.specs.Code.{asking, wordsOf, asOutcome, knownBy, Rowed};
@@ -182,42 +177,6 @@ fn start_words(
     }
 }
 
-// The run of a query from its start words: the schedule, then rounds.
-fn run_query(
-    p: u32,
-    n: usize,
-    count: usize,
-    firsts: &[u32],
-    heads: &[u32],
-    weights: &[u32],
-    schedule: &[u32],
-    words: &mut [u32],
-    waiting: &mut Words,
-) -> Tally
-    requires { ⌜ Fit n count (now firsts) (now heads) (now weights) × Sized n (now words) (now waiting) × Scheduled n (now schedule) ⌝ }
-    ensures { λ r. ⌜ ((es : List Edge) → Own n (now (firsts .entry)) (now (heads .entry)) (now (weights .entry)) es → state n (now (words .exit)) (now (waiting .exit)) r ≡ runs.settle (property p) es n n (runs.pass (property p) es (now (schedule .entry)) (state n (now (words .entry)) (now (waiting .entry)) noCounts))) ⌝ }
-    ensures { λ r. ⌜ Sized n (now (words .exit)) (now (waiting .exit)) ⌝ }
-{
-    let none = Tally {
-        taken: 0,
-        rounds: 0,
-        stores: 0,
-    };
-    let passed = run::pass(
-        p,
-        n,
-        count,
-        firsts,
-        heads,
-        weights,
-        schedule,
-        words,
-        waiting,
-        none,
-    );
-    run::settle(p, n, count, firsts, heads, weights, words, waiting, passed)
-}
-
 // A query that every refusal before the run lets pass, in scratch lists: start words, run, and the answer where it came to rest.
 fn query_in(
     n: usize,
@@ -246,7 +205,7 @@ fn query_in(
     graph::words::copy(n, start, row, 0);
     let mut waiting = frontier::empty();
     run::start_at(n, source, &mut waiting);
-    let tally = run_query(
+    let tally = run::run_counted(
         property,
         n,
         count,

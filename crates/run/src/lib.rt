@@ -1,16 +1,16 @@
-// Runs: handling a vertex, the schedule, rounds, and where a run starts. The tally goes in by value and comes back.
+// Runs: handling a vertex, the schedule, rounds, and where a run starts. Each step takes the tally by value and returns it; `run` alone is lent it.
 use frontier::Next;
 use frontier::Words;
 ghost use mathlib.Core.Path.{_≡_};
 ghost use mathlib.Core.List.{List};
 ghost use mathlib.Core.Bool.{true, false};
-ghost use Prim.Native.Nat.{_*_, _<_, _≤_};
+ghost use Prim.Native.Nat.{_+_, _*_, _<_, _≤_};
 ghost use lib.ListN.{length, set, replicate};
 ghost use Rattle.property.specs.Property.{property};
 ghost use Rattle.frontier.specs.Waiting.{capacity};
 ghost use Rattle.graph.specs.Limits.{maxVertices, maxEdges, maxSchedule};
 ghost use Rattle.graph.specs.Edge.{Edge};
-ghost use Rattle.graph.specs.Own.{Own};
+ghost use Rattle.graph.specs.Own.{Fit, Own};
 ghost use Rattle.run.specs.Run as spec;
 ghost use Rattle.run.specs.Start.{opened};
 ghost use Rattle.run.specs.Code.{bits, noCounts, state, Marks, Sized, Low, Ready, Ran, Scheduled};
@@ -186,7 +186,7 @@ pub fn pass(
     requires { ⌜ Ready 32 n count (now firsts) (now heads) (now weights) (now words) (now waiting) tally ⌝ }
     requires { ⌜ Scheduled n (now schedule) ⌝ }
     ensures { λ r. ⌜ ((es : List Edge) → Own n (now (firsts .entry)) (now (heads .entry)) (now (weights .entry)) es → state n (now (words .exit)) (now (waiting .exit)) r ≡ spec.pass (property p) es (now (schedule .entry)) (state n (now (words .entry)) (now (waiting .entry)) tally)) ⌝ }
-    ensures { λ r. ⌜ Ran n (now (words .exit)) (now (waiting .exit)) tally r maxSchedule 0 (maxSchedule * maxEdges) ⌝ }
+    ensures { λ r. ⌜ Ran n (now (words .exit)) (now (waiting .exit)) tally r (length (now (schedule .entry))) 0 (maxEdges * length (now (schedule .entry))) ⌝ }
 {
     let mut t = tally;
     let mut entry = 0;
@@ -196,6 +196,131 @@ pub fn pass(
         entry += 1;
     }
     t
+}
+
+// A run on a tally by value: the schedule, then rounds.
+pub fn run_from(
+    p: u32,
+    n: usize,
+    count: usize,
+    firsts: &[u32],
+    heads: &[u32],
+    weights: &[u32],
+    schedule: &[u32],
+    words: &mut [u32],
+    waiting: &mut Words,
+    tally: Tally,
+) -> Tally
+    requires { ⌜ Ready 31 n count (now firsts) (now heads) (now weights) (now words) (now waiting) tally × Scheduled n (now schedule) ⌝ }
+    ensures { λ r. ⌜ ((es : List Edge) → Own n (now (firsts .entry)) (now (heads .entry)) (now (weights .entry)) es → state n (now (words .exit)) (now (waiting .exit)) r ≡ spec.settle (property p) es n n (spec.pass (property p) es (now (schedule .entry)) (state n (now (words .entry)) (now (waiting .entry)) tally))) × Ran n (now (words .exit)) (now (waiting .exit)) tally r (length (now (schedule .entry))) n (maxEdges * length (now (schedule .entry)) + maxVertices * maxVertices * maxEdges) ⌝ }
+{
+    let passed = pass(
+        p,
+        n,
+        count,
+        firsts,
+        heads,
+        weights,
+        schedule,
+        words,
+        waiting,
+        tally,
+    );
+    settle(p, n, count, firsts, heads, weights, words, waiting, passed)
+}
+
+// A run, the schedule and then rounds, on the tally that its caller lends.
+pub fn run(
+    p: u32,
+    n: usize,
+    count: usize,
+    firsts: &[u32],
+    heads: &[u32],
+    weights: &[u32],
+    schedule: &[u32],
+    words: &mut [u32],
+    waiting: &mut Words,
+    tally: &mut Tally,
+)
+    requires { ⌜ Ready 31 n count (now firsts) (now heads) (now weights) (now words) (now waiting) (now tally) × Scheduled n (now schedule) ⌝ }
+    ensures { λ _. ⌜ ((es : List Edge) → Own n (now (firsts .entry)) (now (heads .entry)) (now (weights .entry)) es → state n (now (words .exit)) (now (waiting .exit)) (now (tally .exit)) ≡ spec.settle (property p) es n n (spec.pass (property p) es (now (schedule .entry)) (state n (now (words .entry)) (now (waiting .entry)) (now (tally .entry))))) × Ran n (now (words .exit)) (now (waiting .exit)) (now (tally .entry)) (now (tally .exit)) (length (now (schedule .entry))) n (maxEdges * length (now (schedule .entry)) + maxVertices * maxVertices * maxEdges) ⌝ }
+{
+    *tally = run_from(
+        p,
+        n,
+        count,
+        firsts,
+        heads,
+        weights,
+        schedule,
+        words,
+        waiting,
+        *tally,
+    );
+}
+
+// A run on a tally of its own, which is its reply.
+pub fn run_counted(
+    p: u32,
+    n: usize,
+    count: usize,
+    firsts: &[u32],
+    heads: &[u32],
+    weights: &[u32],
+    schedule: &[u32],
+    words: &mut [u32],
+    waiting: &mut Words,
+) -> Tally
+    requires { ⌜ Fit n count (now firsts) (now heads) (now weights) × Sized n (now words) (now waiting) × Scheduled n (now schedule) ⌝ }
+    ensures { λ r. ⌜ ((es : List Edge) → Own n (now (firsts .entry)) (now (heads .entry)) (now (weights .entry)) es → state n (now (words .exit)) (now (waiting .exit)) r ≡ spec.settle (property p) es n n (spec.pass (property p) es (now (schedule .entry)) (state n (now (words .entry)) (now (waiting .entry)) noCounts))) × Ran n (now (words .exit)) (now (waiting .exit)) noCounts r (length (now (schedule .entry))) n (maxEdges * length (now (schedule .entry)) + maxVertices * maxVertices * maxEdges) ⌝ }
+{
+    let mut tally = Tally {
+        taken: 0,
+        rounds: 0,
+        stores: 0,
+    };
+    run(
+        p,
+        n,
+        count,
+        firsts,
+        heads,
+        weights,
+        schedule,
+        words,
+        waiting,
+        &mut tally,
+    );
+    tally
+}
+
+// A run without a schedule: rounds alone, on a tally of its own.
+pub fn run_unscheduled(
+    p: u32,
+    n: usize,
+    count: usize,
+    firsts: &[u32],
+    heads: &[u32],
+    weights: &[u32],
+    words: &mut [u32],
+    waiting: &mut Words,
+) -> Tally
+    requires { ⌜ Fit n count (now firsts) (now heads) (now weights) × Sized n (now words) (now waiting) ⌝ }
+    ensures { λ r. ⌜ ((es : List Edge) → Own n (now (firsts .entry)) (now (heads .entry)) (now (weights .entry)) es → state n (now (words .exit)) (now (waiting .exit)) r ≡ spec.settle (property p) es n n (state n (now (words .entry)) (now (waiting .entry)) noCounts)) ⌝ }
+    ensures { λ r. ⌜ Ran n (now (words .exit)) (now (waiting .exit)) noCounts r 0 n 134217728 ⌝ }
+{
+    let schedule = [0u32; 0];
+    run_counted(
+        p,
+        n,
+        count,
+        firsts,
+        heads,
+        weights,
+        &schedule,
+        words,
+        waiting,
+    )
 }
 
 // Vertex `s` alone waits.

@@ -111,7 +111,7 @@ fn change(
     backward: &mut [u32; 20],
 ) -> u32 {
     let landmarks = [0u32];
-    let applied = batch::batch(
+    let applied = batch::batch_lists(
         4,
         &landmarks,
         tails,

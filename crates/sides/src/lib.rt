@@ -1,7 +1,6 @@
 // The rows of one side of a batch: each is prepared for the new edges and settled. The lists of 1 are the table before the batch, those
 // of 2 the one after it, which a run reads by `firsts`, `ends` and `lengths`.
 use graph::index;
-use run::Tally;
 ghost use mathlib.Core.Path.{_≡_};
 ghost use mathlib.Core.List.{map};
 ghost use Prim.Native.Nat.{_*_, _<_, _≤_};
@@ -66,12 +65,7 @@ fn batch_row(
         out,
         &mut waiting,
     );
-    let none = Tally {
-        taken: 0,
-        rounds: 0,
-        stores: 0,
-    };
-    let t = run::settle(p, n, count2, firsts, ends, lengths, out, &mut waiting, none);
+    let t = run::run_unscheduled(p, n, count2, firsts, ends, lengths, out, &mut waiting);
     Rowed {
         unsettled: frontier::any(&waiting),
         affected,

@@ -28,8 +28,8 @@ open-row-requires c κs =
     let s = c .before .before .before .before .before .before .before .before in
     (s .pre .0 .landmarks .vertices (s .args .r / 5) (omega arith), s .pre .0 .index .few, s .pre .1 .1)
 
-settle-requires : tie.Need-settle-requires
-settle-requires c κs = search needs
+run-unscheduled-requires : tie.Need-run-unscheduled-requires
+run-unscheduled-requires c κs = search needs
 
 any-requires : tie.Need-any-requires
 any-requires c κs = search needs
@@ -43,7 +43,7 @@ returns c =
     let o = q .before .before .before .before .before in
     let s = o .before .before .before .before .before .before .before .before .before in
     let g = s .args in
-    λ es h. row-settled (g .n) (g .r) (g .landmarks .now) es _ _ _ _ (q .settle .result) (o .open-row .ensures .0) (q .settle .ensures .0 es h) (c .any .result) (q .settle .ensures .1 .sized .waiting) (c .any .ensures)
+    λ es h. row-settled (g .n) (g .r) (g .landmarks .now) es _ _ _ _ (q .run-unscheduled .result) (o .open-row .ensures .0) (q .run-unscheduled .ensures .0 es h) (c .any .result) (q .run-unscheduled .ensures .1 .sized .waiting) (c .any .ensures)
 
 pub open-row-spec : {M : Type 1} → statement M
 open-row-spec =
@@ -55,7 +55,7 @@ open-row-spec =
     shared-slice-read-s
     cast-s
     open-row-requires
-    settle-requires
+    run-unscheduled-requires
     any-requires
     same-length
     returns)

@@ -29,7 +29,7 @@ indexed w = w .before .before .before .before
 abbrev worded : tie.After-start-at → tie.After-start-words
 worded a = a .before .before .before .before .before .before .before .before .before .before
 
-abbrev placed : tie.After-run-query → tie.After-start-at
+abbrev placed : tie.After-run-counted → tie.After-start-at
 placed e = e .before .before .before .before
 
 abbrev net : tie.Start → Network
@@ -53,12 +53,12 @@ starts c =
     (c .before .before .before .before .before .copy .ensures ∙ paste-whole (s .args .row .now) _ (s .args .n) (s .pre .1 .2) (w .start-words .kept .1 .1 .1 .1 .1 .1 .0 ∙ s .pre .1 .1) ∙ w .start-words .ensures)
     (c .start-at .ensures .0)
 
-ends : (c : tie.After-run-query) → let s = begin (indexed (worded (placed c))) in state (s .args .n) (c .run-query .last .1 .1 .1 .1 .1 .1 .1 .0) (c .run-query .last .1 .1 .1 .1 .1 .1 .1 .1 .0) (c .run-query .result) ≡ atEnd (s .args .n) (s .args .landmarks .now) (net s) (ask s)
+ends : (c : tie.After-run-counted) → let s = begin (indexed (worded (placed c))) in state (s .args .n) (c .run-counted .last .1 .1 .1 .1 .1 .1 .1 .0) (c .run-counted .last .1 .1 .1 .1 .1 .1 .1 .1 .0) (c .run-counted .result) ≡ atEnd (s .args .n) (s .args .landmarks .now) (net s) (ask s)
 ends c =
     let i = indexed (worded (placed c)) in
     let s = begin i in
     let a = s .args in
-    c .run-query .ensures .0 (edgesIn (net s)) (own-table (a .n) (a .count) (a .tails .now) (a .heads .now) (a .weights .now) (room s) (sound s .rules) (i .index .last .1 .1 .1 .0) (i .index .ensures))
+    c .run-counted .ensures .0 (edgesIn (net s)) (own-table (a .n) (a .count) (a .tails .now) (a .heads .now) (a .weights .now) (room s) (sound s .rules) (i .index .last .1 .1 .1 .0) (i .index .ensures))
     ∙ ap (λ (st : State). settle (property (a .property)) (edgesIn (net s)) (a .n) (a .n) (pass (property (a .property)) (edgesIn (net s)) (a .schedule .now) st)) (starts (placed c))
 
 index-requires : tie.Need-index-requires
@@ -79,8 +79,8 @@ empty-requires c κs = search needs
 start-at-requires : tie.Need-start-at-requires
 start-at-requires c κs = let s = begin (indexed (c .before .before .before .before .before .before .before .before .before)) in let h = sound s .rows in (omega arith, h .few)
 
-run-query-requires : tie.Need-run-query-requires
-run-query-requires c κs =
+run-counted-requires : tie.Need-run-counted-requires
+run-counted-requires c κs =
     let p = c .before .before .before in
     let i = indexed (worded p) in
     let s = begin i in
@@ -107,7 +107,7 @@ returns : tie.Need-returns
 returns c =
     let e = c .before .before .before .before .before in
     let s = begin (indexed (worded (placed e))) in
-    let h = e .run-query .ensures .1 in
+    let h = e .run-counted .ensures .1 .sized in
     query-unsettled (s .args .n) (s .args .landmarks .now) (net s) (ask s) (s .args .starts .now) (s .args .settled .now) (s .pre .0) _ _ _ (ends e)
     (bits-any (s .args .n) _ (h .waiting) ∙ sym (c .before .any .ensures) ∙ c .if1 .taken)
 
@@ -115,13 +115,13 @@ copy-requires-2 : tie.Need-copy-requires-2
 copy-requires-2 c κs =
     let w = worded (placed (c .before .before .before .before .before .before .before)) in
     let s = begin (indexed w) in
-    omega (arith, w .start-words .kept .1 .1 .1 .1 .1 .1 .0, s .pre .1 .1, c .before .before .before .before .before .before .before .run-query .ensures .1 .words, sound s .starts)
+    omega (arith, w .start-words .kept .1 .1 .1 .1 .1 .1 .0, s .pre .1 .1, c .before .before .before .before .before .before .before .run-counted .ensures .1 .sized .words, sound s .starts)
 
 copy-requires-3 : tie.Need-copy-requires-3
 copy-requires-3 c κs =
     let e = c .before .before .before .before .before .before .before .before .before .before .before .before in
     let s = begin (indexed (worded (placed e))) in
-    omega (arith, e .run-query .ensures .1 .words, sound s .settled)
+    omega (arith, e .run-counted .ensures .1 .sized .words, sound s .settled)
 
 same-length-4 : tie.Need-same-length-4
 same-length-4 c = indexed (worded (placed (c .before .before .before .before .before .before .before .before .before .before .before .before .before .before .before))) .index .kept .1 .1 .1 .0
@@ -146,7 +146,7 @@ returns-2 c =
     let e = n .before .before .before .before in
     let w = worded (placed e) in
     let s = begin (indexed w) in
-    let h = e .run-query .ensures .1 in
+    let h = e .run-counted .ensures .1 .sized in
     query-settled (s .args .n) (s .args .landmarks .now) (net s) (ask s) (s .args .starts .now) (s .args .settled .now) (s .pre .0) _ _ _ (ends e) _ _ _
     (bits-any (s .args .n) _ (h .waiting) ∙ sym (n .any .ensures) ∙ x .before .before .before .if1 .left) (w .start-words .ensures) (w .start-words .kept .1 .1 .1 .1 .1 .1 .0 ∙ s .pre .1 .1) (h .words)
     (x .copy2 .ensures) (y .copy3 .ensures)
@@ -160,7 +160,7 @@ query-in-spec =
     copy-requires
     empty-requires
     start-at-requires
-    run-query-requires
+    run-counted-requires
     any-requires
     same-length
     same-length-2

@@ -79,8 +79,7 @@ returns : tie.Need-returns Inv-loop μ-loop
 returns c =
     let l = c .before in
     let s = l .before .before .before .before .before .before in
-    let g = s .args in
-    let v = s .pre .1 .few in (
+    let g = s .args in (
       λ es o. fold-done (spec.take (property (g .p)) es) (drop-of-length-le (g .schedule .now) (c .loop-test .left)) (l .loop .inv .0 es o),
       ran-within (l .loop .inv .2) (omega arith) (omega arith) (omega arith),
     )

@@ -36,16 +36,14 @@ prepare-requires c κs =
       ),
     )
 
-settle-requires : tie.Need-settle-requires
-settle-requires c κs =
+run-unscheduled-requires : tie.Need-run-unscheduled-requires
+run-unscheduled-requires c κs =
     let p = c .before .before .before .before in
     let s = start (p .before .before .before .before) in
-    let m = p .prepare .ensures .1 .1 in
-    record {
-      index = s .pre .1 .1 .1 .fit;
-      sized = record { words = p .prepare .kept .1 .1 .1 .1 .1 .1 .1 .1 .1 .1 .1 .1 .1 .1 .0 ∙ s .pre .0 .3; waiting = record { few = s .pre .1 .1 .1 .fit .few; bits = m .bits; idle = m .idle } };
-      low = record { taken = omega arith; rounds = omega arith; stores = omega arith };
-    }
+    let m = p .prepare .ensures .1 .1 in (
+      s .pre .1 .1 .1 .fit,
+      record { words = p .prepare .kept .1 .1 .1 .1 .1 .1 .1 .1 .1 .1 .1 .1 .1 .1 .0 ∙ s .pre .0 .3; waiting = record { few = s .pre .1 .1 .1 .fit .few; bits = m .bits; idle = m .idle } },
+    )
 
 any-requires : tie.Need-any-requires
 any-requires c κs = search needs
@@ -58,8 +56,8 @@ returns c =
     let q = c .before .before .before .before in
     let p = q .before .before .before .before .before in
     let s = start (p .before .before .before .before) in
-    row-done (s .args .n) (s .args .r) (s .args .landmarks .now) _ _ _ _ _ _ _ (q .settle .result) (p .prepare .ensures .0) (q .settle .ensures .0 _ (s .pre .1 .1 .1 .own))
-    _ (s .pre .1 .1 .1 .fit .few) (q .settle .ensures .1) (c .any .ensures) (p .prepare .ensures .1 .0) refl
+    row-done (s .args .n) (s .args .r) (s .args .landmarks .now) _ _ _ _ _ _ _ (q .run-unscheduled .result) (p .prepare .ensures .0) (q .run-unscheduled .ensures .0 _ (s .pre .1 .1 .1 .own))
+    _ (s .pre .1 .1 .1 .fit .few) (q .run-unscheduled .ensures .1) (c .any .ensures) (p .prepare .ensures .1 .0) refl
 
 pub batch-row-spec : {M : Type 1} → statement M
 batch-row-spec =
@@ -71,7 +69,7 @@ batch-row-spec =
     mul-prepare
     shared-slice-read-prepare
     prepare-requires
-    settle-requires
+    run-unscheduled-requires
     any-requires
     same-length
     returns)
