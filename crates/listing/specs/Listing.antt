@@ -1,6 +1,7 @@
 -- What the values program prints for the bytes of deck.gr and deck.ss: document 01, "Text". Assumes nothing.
 --
 --   maxFile                          == a file of more than 65,536 bytes is refused with number 2
+--   header                           == the first line: the names of the columns
 --   spaced vs                        == numbers parted by single spaces, and a line feed
 --   Graph                            == a network that was read: n and its edges
 --   networkOf d                      == the network, opened with the landmarks of choice, four or n if fewer
@@ -8,6 +9,7 @@
 --   lineOf d w s t                   == the line of a source and a vertex: both from 1, then the five properties
 --   listed d ss                      == the header, and per source in file order and vertex ascending a line
 --   refusedLine k i                  == `refused`, number, place
+--   output v text                    == the text where the verdict v accepts, else the refused line
 --   printed gr ss                    == the whole output: a refusal in either file, deck.gr first, or what is listed
 --   landmarksOf d                    == its landmarks: those of choice, four or n if fewer
 --   linesOf .. ts, sourceLines .. ss == the lines of a source, and of all sources
