@@ -1,0 +1,180 @@
+// A query of a lent network, held to its number and place.
+use super::lent;
+use super::lent::Network;
+use super::lists;
+use super::score;
+use super::score::Reply;
+use super::score::Score;
+use query::Answered;
+
+// What is asked: the schedule has vertex 0 up to index `entry`, and `vertex` from there on. The lists for the answer have `starts`
+// and `settled` words.
+pub struct Request {
+    pub property: u32,
+    pub source: u32,
+    pub entries: usize,
+    pub entry: usize,
+    pub vertex: u32,
+    pub starts: usize,
+    pub settled: usize,
+}
+
+// Time from vertex 0, with no schedule, of deck A.
+pub fn usual() -> Request {
+    Request {
+        property: 1,
+        source: 0,
+        entries: 0,
+        entry: 0,
+        vertex: 0,
+        starts: 4,
+        settled: 4,
+    }
+}
+
+impl Request {
+    pub fn property(mut self, property: u32) -> Request {
+        self.property = property;
+        self
+    }
+
+    pub fn source(mut self, source: u32) -> Request {
+        self.source = source;
+        self
+    }
+
+    // A schedule of `entries` vertices: 0 below index `entry`, then `vertex`.
+    pub fn schedule(mut self, entries: usize, entry: usize, vertex: u32) -> Request {
+        self.entries = entries;
+        self.entry = entry;
+        self.vertex = vertex;
+        self
+    }
+
+    pub fn starts(mut self, words: usize) -> Request {
+        self.starts = words;
+        self
+    }
+
+    pub fn settled(mut self, words: usize) -> Request {
+        self.settled = words;
+        self
+    }
+}
+
+// The reply as its number and place.
+pub fn told(answered: Answered) -> Reply {
+    match answered {
+        Answered::Settled(_) => score::fine(),
+        Answered::Refused(number, place) => Reply { number, place },
+    }
+}
+
+// A query with the first words of the two lists for its answer.
+fn ask_words(
+    n: u32,
+    landmarks: &[u32],
+    tails: &[u32],
+    heads: &[u32],
+    weights: &[u32],
+    count: u32,
+    forward: &[u32],
+    backward: &[u32],
+    property: u32,
+    source: u32,
+    schedule: &[u32],
+    starts: &mut [u32],
+    a: usize,
+    settled: &mut [u32],
+    b: usize,
+) -> Answered {
+    let x = lists::cap(a, starts.len());
+    let y = lists::cap(b, settled.len());
+    query::query(
+        n,
+        landmarks,
+        tails,
+        heads,
+        weights,
+        count,
+        forward,
+        backward,
+        property,
+        source,
+        schedule,
+        &mut starts[0..x],
+        &mut settled[0..y],
+    )
+}
+
+// A query with the parts of the lists that a network lends.
+fn ask_lent(
+    c: Network,
+    q: Request,
+    landmarks: &[u32; 5],
+    tails: &[u32; 2049],
+    heads: &[u32; 2049],
+    weights: &[u32; 2049],
+    rows: &[u32; 5121],
+    schedule: &[u32; 4097],
+    starts: &mut [u32; 257],
+    settled: &mut [u32; 257],
+) -> Answered {
+    ask_words(
+        c.n,
+        lists::part(landmarks, c.landmark_count),
+        lists::part(tails, c.tails),
+        lists::part(heads, c.heads),
+        lists::part(weights, c.weights),
+        c.count,
+        lists::part(rows, c.forward),
+        lists::part(rows, c.backward),
+        q.property,
+        q.source,
+        lists::part(schedule, q.entries),
+        starts,
+        q.starts,
+        settled,
+        q.settled,
+    )
+}
+
+// `vertex` at every index from `entry` on.
+fn fill_schedule(schedule: &mut [u32; 4097], entry: usize, vertex: u32) {
+    for i in entry..4097 {
+        lists::put(schedule, i, vertex);
+    }
+}
+
+fn are_kept(words: &[u32; 257], start: usize) -> bool {
+    lists::all(words, start, 257, 7)
+}
+
+// Words past `n` stay in any case.
+pub fn case(s: Score, c: Network, q: Request, number: u32, place: usize) -> Score {
+    let mut tails = [9u32; 2049];
+    let mut heads = [9u32; 2049];
+    let mut weights = [9u32; 2049];
+    lent::fill(c, &mut tails, &mut heads, &mut weights);
+    let rows = [7u32; 5121];
+    let landmarks = c.landmarks;
+    let mut schedule = [0u32; 4097];
+    fill_schedule(&mut schedule, q.entry, q.vertex);
+    let mut starts = [7u32; 257];
+    let mut settled = [7u32; 257];
+    let answered = ask_lent(
+        c,
+        q,
+        &landmarks,
+        &tails,
+        &heads,
+        &weights,
+        &rows,
+        &schedule,
+        &mut starts,
+        &mut settled,
+    );
+    let written = if number == 0 { c.n as usize } else { 0 };
+    let kept = are_kept(&starts, written) && are_kept(&settled, written);
+    s.with(kept && score::meets(told(answered), kept, number, place))
+}

@@ -1,0 +1,217 @@
+// A batch on a lent network, held to its number and place.
+use super::changes;
+use super::lent;
+use super::lent::Network;
+use super::lists;
+use super::score;
+use super::score::Reply;
+use super::score::Score;
+use batch::Applied;
+
+// A batch of `size` changes that take the edge 0→1 and put it back in turn, but for the one at index `item`.
+pub struct Batch {
+    pub size: usize,
+    pub item: usize,
+    pub kind: u32,
+    pub tail: u32,
+    pub head: u32,
+    pub weight: u32,
+}
+
+// `size` good changes. 9999 is past them.
+pub fn good(size: usize) -> Batch {
+    changed(size, 9999, 0, 0, 0, 0)
+}
+
+// `size` changes, all of them good but perhaps for the one at index `item`.
+pub fn changed(size: usize, item: usize, kind: u32, t: u32, h: u32, w: u32) -> Batch {
+    Batch {
+        size,
+        item,
+        kind,
+        tail: t,
+        head: h,
+        weight: w,
+    }
+}
+
+// The reply as its number and place.
+pub fn told(applied: Applied) -> Reply {
+    match applied {
+        Applied::Done(_) => score::fine(),
+        Applied::Refused(number, place) => Reply { number, place },
+    }
+}
+
+// A batch with the first words of the lists that it writes.
+fn apply_parts(
+    c: Network,
+    landmarks: &[u32],
+    tails: &mut [u32],
+    heads: &mut [u32],
+    weights: &mut [u32],
+    forward: &mut [u32],
+    backward: &mut [u32],
+    kinds: &[u32],
+    froms: &[u32],
+    tos: &[u32],
+    values: &[u32],
+) -> Applied {
+    let t = lists::cap(c.tails, tails.len());
+    let h = lists::cap(c.heads, heads.len());
+    let w = lists::cap(c.weights, weights.len());
+    let f = lists::cap(c.forward, forward.len());
+    let b = lists::cap(c.backward, backward.len());
+    changes::apply(
+        c.n,
+        landmarks,
+        &mut tails[0..t],
+        &mut heads[0..h],
+        &mut weights[0..w],
+        c.count,
+        &mut forward[0..f],
+        &mut backward[0..b],
+        kinds,
+        froms,
+        tos,
+        values,
+    )
+}
+
+// A batch with the parts of the lists that a network lends.
+fn apply_lent(
+    c: Network,
+    d: Batch,
+    landmarks: &[u32; 5],
+    tails: &mut [u32; 2049],
+    heads: &mut [u32; 2049],
+    weights: &mut [u32; 2049],
+    forward: &mut [u32; 5121],
+    backward: &mut [u32; 5121],
+    kinds: &[u32; 1025],
+    froms: &[u32; 1025],
+    tos: &[u32; 1025],
+    values: &[u32; 1025],
+) -> Applied {
+    apply_parts(
+        c,
+        lists::part(landmarks, c.landmark_count),
+        tails,
+        heads,
+        weights,
+        forward,
+        backward,
+        lists::part(kinds, d.size),
+        lists::part(froms, d.size),
+        lists::part(tos, d.size),
+        lists::part(values, d.size),
+    )
+}
+
+// The change at index `i`.
+fn put(
+    kinds: &mut [u32; 1025],
+    froms: &mut [u32; 1025],
+    tos: &mut [u32; 1025],
+    values: &mut [u32; 1025],
+    i: usize,
+    kind: u32,
+    t: u32,
+    h: u32,
+    w: u32,
+) {
+    lists::put(kinds, i, kind);
+    lists::put(froms, i, t);
+    lists::put(tos, i, h);
+    lists::put(values, i, w);
+}
+
+// Takes and adds in turn.
+fn fill_turns(
+    kinds: &mut [u32; 1025],
+    froms: &mut [u32; 1025],
+    tos: &mut [u32; 1025],
+    values: &mut [u32; 1025],
+) {
+    for i in 0..1025 {
+        if i % 2 == 0 {
+            put(kinds, froms, tos, values, i, 2, 0, 1, 0);
+        } else {
+            put(kinds, froms, tos, values, i, 1, 0, 1, 4);
+        }
+    }
+}
+
+// The batch on lists that are made for it.
+fn apply_batch(
+    c: Network,
+    d: Batch,
+    tails: &mut [u32; 2049],
+    heads: &mut [u32; 2049],
+    weights: &mut [u32; 2049],
+    forward: &mut [u32; 5121],
+    backward: &mut [u32; 5121],
+) -> Applied {
+    let mut kinds = [0u32; 1025];
+    let mut froms = [0u32; 1025];
+    let mut tos = [0u32; 1025];
+    let mut values = [0u32; 1025];
+    fill_turns(&mut kinds, &mut froms, &mut tos, &mut values);
+    put(
+        &mut kinds,
+        &mut froms,
+        &mut tos,
+        &mut values,
+        d.item,
+        d.kind,
+        d.tail,
+        d.head,
+        d.weight,
+    );
+    let landmarks = c.landmarks;
+    apply_lent(
+        c,
+        d,
+        &landmarks,
+        tails,
+        heads,
+        weights,
+        forward,
+        backward,
+        &kinds,
+        &froms,
+        &tos,
+        &values,
+    )
+}
+
+// Whether two lists of a table are the same to the last word.
+pub fn is_same(xs: &[u32; 2049], ys: &[u32; 2049]) -> bool {
+    lists::same(xs, ys, 0, 2049)
+}
+
+pub fn case(s: Score, c: Network, d: Batch, number: u32, place: usize) -> Score {
+    let mut tails = [9u32; 2049];
+    let mut heads = [9u32; 2049];
+    let mut weights = [9u32; 2049];
+    lent::fill(c, &mut tails, &mut heads, &mut weights);
+    let tails1 = tails;
+    let heads1 = heads;
+    let weights1 = weights;
+    let mut forward = [7u32; 5121];
+    let mut backward = [7u32; 5121];
+    let applied = apply_batch(
+        c,
+        d,
+        &mut tails,
+        &mut heads,
+        &mut weights,
+        &mut forward,
+        &mut backward,
+    );
+    let table = is_same(&tails, &tails1)
+        && is_same(&heads, &heads1)
+        && is_same(&weights, &weights1);
+    let kept = table && lent::are_kept(&forward) && lent::are_kept(&backward);
+    s.with(score::meets(told(applied), kept, number, place))
+}

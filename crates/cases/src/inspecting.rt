@@ -1,0 +1,124 @@
+// Settled check, landmark choice and row look-up on a lent network, held to number and place.
+use super::lent;
+use super::lent::Network;
+use super::lists;
+use super::score;
+use super::score::Reply;
+use super::score::Score;
+use graph::Judged;
+use inspect::Checked;
+use inspect::choose;
+use inspect::lookup;
+use inspect::settled;
+
+// The replies as number and place.
+pub fn told_checked(checked: Checked) -> Reply {
+    match checked {
+        Checked::Settled => score::fine(),
+        Checked::Found(_, _, _) => score::fine(),
+        Checked::Refused(number, place) => Reply { number, place },
+    }
+}
+
+pub fn told(judged: Judged) -> Reply {
+    match judged {
+        Judged::Fine => score::fine(),
+        Judged::Refused(number, place) => Reply { number, place },
+    }
+}
+
+// A settled check with the parts of the lists that a network lends.
+fn check_lent(
+    c: Network,
+    landmarks: &[u32; 5],
+    tails: &[u32; 2049],
+    heads: &[u32; 2049],
+    weights: &[u32; 2049],
+    rows: &[u32; 5121],
+) -> Checked {
+    settled::find_relaxable(
+        c.n,
+        lists::part(landmarks, c.landmark_count),
+        lists::part(tails, c.tails),
+        lists::part(heads, c.heads),
+        lists::part(weights, c.weights),
+        c.count,
+        lists::part(rows, c.forward),
+        lists::part(rows, c.backward),
+    )
+}
+
+pub fn check_case(s: Score, c: Network, number: u32, place: usize) -> Score {
+    let mut tails = [9u32; 2049];
+    let mut heads = [9u32; 2049];
+    let mut weights = [9u32; 2049];
+    lent::fill(c, &mut tails, &mut heads, &mut weights);
+    let rows = [7u32; 5121];
+    let landmarks = c.landmarks;
+    let checked = check_lent(c, &landmarks, &tails, &heads, &weights, &rows);
+    s.with(score::meets(told_checked(checked), true, number, place))
+}
+
+// How many vertices a choice gives, by its verdict: none where it is refused.
+fn choose_lent(
+    c: Network,
+    tails: &[u32; 2049],
+    heads: &[u32; 2049],
+    weights: &[u32; 2049],
+    k: u32,
+    number: u32,
+    place: usize,
+    count: usize,
+) -> bool {
+    let chosen = choose::choose_landmarks(
+        c.n,
+        lists::part(tails, c.tails),
+        lists::part(heads, c.heads),
+        lists::part(weights, c.weights),
+        c.count,
+        k,
+    );
+    let verdict = chosen.verdict;
+    let choice = chosen.choice;
+    score::meets(told(verdict), true, number, place) && choice.count == count
+}
+
+pub fn choose_case(s: Score, c: Network, k: u32, number: u32, place: usize, count: usize) -> Score {
+    let mut tails = [9u32; 2049];
+    let mut heads = [9u32; 2049];
+    let mut weights = [9u32; 2049];
+    lent::fill(c, &mut tails, &mut heads, &mut weights);
+    s.with(choose_lent(c, &tails, &heads, &weights, k, number, place, count))
+}
+
+// Whether a look-up gives its number, and shows a part of `words` words.
+fn look_up(
+    c: Network,
+    landmarks: &[u32; 5],
+    rows: &[u32; 5121],
+    side: u32,
+    landmark: u32,
+    property: u32,
+    number: u32,
+) -> bool {
+    let list = lists::part(landmarks, c.landmark_count);
+    let forward = lists::part(rows, c.forward);
+    let backward = lists::part(rows, c.backward);
+    let judged = lookup::row_number(c.n, list, forward, backward, side, landmark, property);
+    let shown = lookup::row(c.n, list, forward, backward, side, landmark, property);
+    let words = if number == 0 { c.n as usize } else { 0 };
+    score::meets(told(judged), true, number, 0) && shown.len() == words
+}
+
+pub fn row_case(
+    s: Score,
+    c: Network,
+    side: u32,
+    landmark: u32,
+    property: u32,
+    number: u32,
+) -> Score {
+    let rows = [7u32; 5121];
+    let landmarks = c.landmarks;
+    s.with(look_up(c, &landmarks, &rows, side, landmark, property, number))
+}
