@@ -8,7 +8,7 @@ ghost use Rattle.network.specs.Lookup.{indexOf, lookupRow, lookupNumber};
 ghost use Rattle.calls.specs.Code.{rowLists};
 
 // Where `v` stands among the vertices; past them where it does not.
-fn index_of(v: u32, vertices: &[u32]) -> usize
+pub fn index_of(v: u32, vertices: &[u32]) -> usize
     ensures { λ r. ⌜ r ≡ indexOf v (now (vertices .entry)) ⌝ }
 {
     let mut i = 0;

@@ -1,0 +1,4 @@
+mod Spelling
+mod Choosing
+mod Rows
+mod Unpacking

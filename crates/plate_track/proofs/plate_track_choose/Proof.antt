@@ -1,0 +1,30 @@
+-- `plate_track::plate_track_choose` meets its contract. Assumes nothing.
+use borrow.Author.Needs.{needs}
+use mathlib.Core.Path.{refl}
+use Rattle.plate_track.specs.Code.{choiceWords}
+use Rattle.plate_track.proofs.Spelling.{spelled-short, spelled-told}
+use Rattle.plate_track.proofs.plate_track_choose.Statement.{statement}
+use Rattle.plate_track.proofs.plate_track_choose.Tie as tie
+
+returns : tie.Need-returns
+returns c = spelled-short choiceWords _ _ _ (c .if1 .taken)
+
+choose-landmarks-requires : tie.Need-choose-landmarks-requires
+choose-landmarks-requires c κs = search needs
+
+spell-choice-requires : tie.Need-spell-choice-requires
+spell-choice-requires c κs = search needs
+
+same-length : tie.Need-same-length
+same-length c = search needs
+
+returns-2 : tie.Need-returns-2
+returns-2 c =
+    let t = c .before .before in
+    let o = t .before .before in
+    spelled-told choiceWords _ _ _ _ (o .before .if1 .left) refl (t .spell-choice .ensures _ (o .choose-landmarks .ensures))
+
+pub plate-track-choose-spec : {M : Type 1} → statement M
+plate-track-choose-spec =
+    tie.close
+    (tie.spec returns choose-landmarks-requires spell-choice-requires same-length returns-2)

@@ -1,0 +1,42 @@
+-- `plate_track::plate_track_open` meets its contract. Assumes nothing.
+use borrow.Author.Needs.{needs}
+use Rattle.plate_track.specs.Code.{openWords}
+use Rattle.plate_track.proofs.Spelling.{spelled-short, spelled-told}
+use Rattle.plate_track.proofs.plate_track_open.Statement.{statement}
+use Rattle.plate_track.proofs.plate_track_open.Tie as tie
+
+returns : tie.Need-returns
+returns c = spelled-short openWords _ _ _ (c .if1 .taken)
+
+open-requires : tie.Need-open-requires
+open-requires c κs = search needs
+
+spell-open-requires : tie.Need-spell-open-requires
+spell-open-requires c κs = search needs
+
+same-length : tie.Need-same-length
+same-length c = search needs
+
+same-length-2 : tie.Need-same-length-2
+same-length-2 c = search needs
+
+same-length-3 : tie.Need-same-length-3
+same-length-3 c = search needs
+
+returns-2 : tie.Need-returns-2
+returns-2 c =
+    let t = c .before .before in
+    let o = t .before .before .before .before .before .before in
+    spelled-told openWords _ _ _ _ (o .before .before .before .if1 .left) (o .«open» .ensures) (t .spell-open .ensures)
+
+pub plate-track-open-spec : {M : Type 1} → statement M
+plate-track-open-spec =
+    tie.close
+    (tie.spec
+    returns
+    open-requires
+    spell-open-requires
+    same-length
+    same-length-2
+    same-length-3
+    returns-2)

@@ -1,0 +1,38 @@
+-- `plate_track::plate_track_read_sources` meets its contract. Assumes nothing.
+use borrow.Author.Needs.{needs}
+use Rattle.plate_track.specs.Code.{oneWord}
+use Rattle.plate_track.proofs.Spelling.{spelled-short, spelled-told}
+use Rattle.plate_track.proofs.plate_track_read_sources.Statement.{statement}
+use Rattle.plate_track.proofs.plate_track_read_sources.Tie as tie
+
+returns : tie.Need-returns
+returns c = spelled-short oneWord _ _ _ (c .if1 .taken)
+
+read-sources-requires : tie.Need-read-sources-requires
+read-sources-requires c κs = search needs
+
+spell-sources-requires : tie.Need-spell-sources-requires
+spell-sources-requires c κs = search needs
+
+same-length : tie.Need-same-length
+same-length c = search needs
+
+same-length-2 : tie.Need-same-length-2
+same-length-2 c = search needs
+
+returns-2 : tie.Need-returns-2
+returns-2 c =
+    let t = c .before .before in
+    let o = t .before .before .before .before in
+    spelled-told oneWord _ _ _ _ (o .before .before .if1 .left) (o .read-sources .ensures) (t .spell-sources .ensures)
+
+pub plate-track-read-sources-spec : {M : Type 1} → statement M
+plate-track-read-sources-spec =
+    tie.close
+    (tie.spec
+    returns
+    read-sources-requires
+    spell-sources-requires
+    same-length
+    same-length-2
+    returns-2)

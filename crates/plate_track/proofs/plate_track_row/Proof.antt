@@ -1,0 +1,90 @@
+-- `plate_track::plate_track_row` meets its contract. Assumes nothing.
+use borrow.Author.Needs.{needs}
+use native.Mathlib.Omega.{arith}
+use mathlib.Core.Path.{ap, _∙_}
+use Prim.Native.Nat.{ℕ, _*_}
+use Rattle.network.specs.Query.{rowAt}
+use Rattle.inspect.proofs.LookupLaws.{Shown, lookup-accept}
+use Rattle.plate_track.specs.Code.{oneWord, alone}
+use Rattle.plate_track.proofs.Spelling.{set-one, refused-tells, accepted-tells, spelled-short, spelled-told}
+use Rattle.plate_track.proofs.Rows.{start-refused, start-shown}
+use Rattle.plate_track.proofs.plate_track_row.Statement.{statement}
+use Rattle.plate_track.proofs.plate_track_row.Tie as tie
+
+abbrev begin : tie.After-row-number → tie.Start
+begin o = o .before .before .before .before .before .before
+
+shown : (c : tie.After-enum-told) →
+    let a = begin (c .before .before) .args in
+    Shown (a .n) (a .landmarks .now) (a .forward .now) (a .backward .now) (a .side) (a .landmark) (a .property)
+shown c =
+    let a = begin (c .before .before) .args in
+    lookup-accept (a .n) (a .landmarks .now) (a .forward .now) (a .backward .now) (a .side) (a .landmark) (a .property) _ (c .before .before .row-number .ensures) (c .enum-told .given .1)
+
+returns : tie.Need-returns
+returns c = spelled-short oneWord _ _ _ (c .if1 .taken)
+
+row-number-requires : tie.Need-row-number-requires
+row-number-requires c κs = search needs
+
+enum-known-r : tie.Need-enum-known-r
+enum-known-r c = search needs
+
+slice-write-reply : tie.Need-slice-write-reply
+slice-write-reply c = search needs
+
+same-length : tie.Need-same-length
+same-length c = search needs
+
+returns-2 : tie.Need-returns-2
+returns-2 c =
+    let o = c .before .before .before in
+    let s = begin o in
+    spelled-told oneWord _ _ _ _ (o .before .if1 .left)
+    (ap alone (start-refused _ _ _ _ _ _ _ (o .row-number .ensures) _ _ (c .before .r .given .1)))
+    (refused-tells oneWord (s .args .reply .now) (o .before .if1 .left) _ _)
+
+enum-told : tie.Need-enum-told
+enum-told c = search needs
+
+index-of-requires : tie.Need-index-of-requires
+index-of-requires c κs = search needs
+
+row-start-requires : tie.Need-row-start-requires
+row-start-requires c κs =
+    let s = shown (c .before) in
+    (s .first, s .last, s .few, omega (arith, s .listed, c .index-of .ensures))
+
+slice-write-reply-2 : tie.Need-slice-write-reply-2
+slice-write-reply-2 c = search needs
+
+same-length-2 : tie.Need-same-length-2
+same-length-2 c = search needs
+
+returns-3 : tie.Need-returns-3
+returns-3 c =
+    let d = c .before .before in
+    let o = d .before .before in
+    let s = begin o in
+    let a = s .args in
+    let e = c .row-start .ensures ∙ ap (λ (i : ℕ). rowAt i (a .property) * a .n) (c .before .index-of .ensures) in
+    spelled-told oneWord _ _ _ _ (o .before .if1 .left)
+    (ap alone (start-shown _ _ _ _ _ _ _ (o .row-number .ensures) _ (d .enum-told .given .1) e))
+    (accepted-tells oneWord (a .reply .now) (o .before .if1 .left) (c .row-start .result) (set-one (a .reply .now) (c .row-start .result) (omega arith)))
+
+pub plate-track-row-spec : {M : Type 1} → statement M
+plate-track-row-spec =
+    tie.close
+    (tie.spec
+    returns
+    row-number-requires
+    enum-known-r
+    slice-write-reply
+    same-length
+    returns-2
+    enum-told
+    index-of-requires
+    row-start-requires
+    slice-write-reply-2
+    same-length-2
+    returns-3)

@@ -1,0 +1,30 @@
+-- `plate_track::plate_track_settled` meets its contract. Assumes nothing.
+use borrow.Author.Needs.{needs}
+use mathlib.Core.Path.{ap}
+use Rattle.plate_track.specs.Code.{alone}
+use Rattle.plate_track.specs.Code.{checkWords}
+use Rattle.plate_track.proofs.Spelling.{spelled-short, spelled-told}
+use Rattle.plate_track.proofs.plate_track_settled.Statement.{statement}
+use Rattle.plate_track.proofs.plate_track_settled.Tie as tie
+
+returns : tie.Need-returns
+returns c = spelled-short checkWords _ _ _ (c .if1 .taken)
+
+find-relaxable-requires : tie.Need-find-relaxable-requires
+find-relaxable-requires c κs = search needs
+
+spell-check-requires : tie.Need-spell-check-requires
+spell-check-requires c κs = search needs
+
+same-length : tie.Need-same-length
+same-length c = search needs
+
+returns-2 : tie.Need-returns-2
+returns-2 c =
+    let t = c .before .before in
+    let o = t .before .before in
+    spelled-told checkWords _ _ _ _ (o .before .if1 .left) (ap alone (o .find-relaxable .ensures)) (t .spell-check .ensures)
+
+pub plate-track-settled-spec : {M : Type 1} → statement M
+plate-track-settled-spec =
+    tie.close (tie.spec returns find-relaxable-requires spell-check-requires same-length returns-2)

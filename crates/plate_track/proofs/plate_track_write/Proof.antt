@@ -1,0 +1,38 @@
+-- `plate_track::plate_track_write` meets its contract. Assumes nothing.
+use borrow.Author.Needs.{needs}
+use Rattle.plate_track.specs.Code.{oneWord}
+use Rattle.plate_track.proofs.Spelling.{spelled-short, spelled-told}
+use Rattle.plate_track.proofs.plate_track_write.Statement.{statement}
+use Rattle.plate_track.proofs.plate_track_write.Tie as tie
+
+returns : tie.Need-returns
+returns c = spelled-short oneWord _ _ _ (c .if1 .taken)
+
+write-network-requires : tie.Need-write-network-requires
+write-network-requires c κs = search needs
+
+spell-write-requires : tie.Need-spell-write-requires
+spell-write-requires c κs = search needs
+
+same-length : tie.Need-same-length
+same-length c = search needs
+
+same-length-2 : tie.Need-same-length-2
+same-length-2 c = search needs
+
+returns-2 : tie.Need-returns-2
+returns-2 c =
+    let t = c .before .before in
+    let o = t .before .before .before .before in
+    spelled-told oneWord _ _ _ _ (o .before .before .if1 .left) (o .write-network .ensures) (t .spell-write .ensures)
+
+pub plate-track-write-spec : {M : Type 1} → statement M
+plate-track-write-spec =
+    tie.close
+    (tie.spec
+    returns
+    write-network-requires
+    spell-write-requires
+    same-length
+    same-length-2
+    returns-2)

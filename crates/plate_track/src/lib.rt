@@ -1,0 +1,255 @@
+// The calls for C. Each calls the proved call and spells its reply: the refusal number is returned, 0 where the call is accepted, and
+// the reply list gets the words of the answer, or the place of a refusal. A reply list of fewer than 8 words is number 2.
+pub mod spell;
+pub mod unpack;
+
+use graph::Judged;
+ghost use mathlib.Core.Path.{_≡_};
+ghost use Rattle.network.specs.Open.{openCall};
+ghost use Rattle.network.specs.Query.{queryCall};
+ghost use Rattle.network.specs.Batch.{batchCall};
+ghost use Rattle.network.specs.Settled.{settledCall};
+ghost use Rattle.network.specs.Choice.{choiceCall};
+ghost use Rattle.dimacs.specs.Call.{readCall, writeCall, sourcesCall};
+ghost use Rattle.graph.specs.Code.{columns};
+ghost use Rattle.calls.specs.Code.{rowLists, lists, network};
+ghost use Rattle.query.specs.Code.{asking, wordsOf};
+ghost use Rattle.plate_track.specs.Code.{spelled, alone, openWords, tallyWords, reportWords, checkWords, choiceWords, sizeWords, oneWord, lookupStart, changesOf};
+
+// Opening.
+#[no_mangle]
+pub extern "C" fn plate_track_open(
+    n: u32,
+    landmarks: &[u32],
+    tails: &[u32],
+    heads: &[u32],
+    weights: &[u32],
+    count: u32,
+    forward: &mut [u32],
+    backward: &mut [u32],
+    reply: &mut [u64],
+) -> u32
+    ensures { λ k. ⌜ record { number = k; reply = now (reply .exit); memory = lists (now (tails .entry)) (now (heads .entry)) (now (weights .entry)) (now (forward .exit)) (now (backward .exit)) } ≡ spelled openWords (openCall n (now (landmarks .entry)) (network (now (tails .entry)) (now (heads .entry)) (now (weights .entry)) (now (forward .entry)) (now (backward .entry)) count)) (lists (now (tails .entry)) (now (heads .entry)) (now (weights .entry)) (now (forward .entry)) (now (backward .entry))) (now (reply .entry)) ⌝ }
+{
+    if reply.len() < 8 {
+        return 2;
+    }
+    let r = open::open(
+        n,
+        landmarks,
+        tails,
+        heads,
+        weights,
+        count,
+        forward,
+        backward,
+    );
+    spell::spell_open(r, reply)
+}
+
+// Query.
+#[no_mangle]
+pub extern "C" fn plate_track_query(
+    n: u32,
+    landmarks: &[u32],
+    tails: &[u32],
+    heads: &[u32],
+    weights: &[u32],
+    count: u32,
+    forward: &[u32],
+    backward: &[u32],
+    property: u32,
+    source: u32,
+    schedule: &[u32],
+    starts: &mut [u32],
+    settled: &mut [u32],
+    reply: &mut [u64],
+) -> u32
+    ensures { λ k. ⌜ record { number = k; reply = now (reply .exit); memory = wordsOf (now (starts .exit)) (now (settled .exit)) } ≡ spelled tallyWords (queryCall n (now (landmarks .entry)) (network (now (tails .entry)) (now (heads .entry)) (now (weights .entry)) (now (forward .entry)) (now (backward .entry)) count) (asking property source (now (schedule .entry))) (wordsOf (now (starts .entry)) (now (settled .entry)))) (wordsOf (now (starts .entry)) (now (settled .entry))) (now (reply .entry)) ⌝ }
+{
+    if reply.len() < 8 {
+        return 2;
+    }
+    let r = query::query(
+        n,
+        landmarks,
+        tails,
+        heads,
+        weights,
+        count,
+        forward,
+        backward,
+        property,
+        source,
+        schedule,
+        starts,
+        settled,
+    );
+    spell::spell_query(r, reply)
+}
+
+// Batch: a change is four words, kind, tail, head and weight.
+#[no_mangle]
+pub extern "C" fn plate_track_batch(
+    n: u32,
+    landmarks: &[u32],
+    tails: &mut [u32],
+    heads: &mut [u32],
+    weights: &mut [u32],
+    count: u32,
+    forward: &mut [u32],
+    backward: &mut [u32],
+    changes: &[[u32; 4]],
+    reply: &mut [u64],
+) -> u32
+    ensures { λ k. ⌜ record { number = k; reply = now (reply .exit); memory = lists (now (tails .exit)) (now (heads .exit)) (now (weights .exit)) (now (forward .exit)) (now (backward .exit)) } ≡ spelled reportWords (batchCall n (now (landmarks .entry)) (network (now (tails .entry)) (now (heads .entry)) (now (weights .entry)) (now (forward .entry)) (now (backward .entry)) count) (changesOf (now (changes .entry)))) (lists (now (tails .entry)) (now (heads .entry)) (now (weights .entry)) (now (forward .entry)) (now (backward .entry))) (now (reply .entry)) ⌝ }
+{
+    if reply.len() < 8 {
+        return 2;
+    }
+    let r = unpack::batch(
+        n,
+        landmarks,
+        tails,
+        heads,
+        weights,
+        count,
+        forward,
+        backward,
+        changes,
+    );
+    spell::spell_batch(r, reply)
+}
+
+// Settled check.
+#[no_mangle]
+pub extern "C" fn plate_track_settled(
+    n: u32,
+    landmarks: &[u32],
+    tails: &[u32],
+    heads: &[u32],
+    weights: &[u32],
+    count: u32,
+    forward: &[u32],
+    backward: &[u32],
+    reply: &mut [u64],
+) -> u32
+    ensures { λ k. ⌜ record { number = k; reply = now (reply .exit); memory = tt } ≡ spelled checkWords (alone (settledCall n (now (landmarks .entry)) (network (now (tails .entry)) (now (heads .entry)) (now (weights .entry)) (now (forward .entry)) (now (backward .entry)) count))) tt (now (reply .entry)) ⌝ }
+{
+    if reply.len() < 8 {
+        return 2;
+    }
+    let r = inspect::settled::find_relaxable(
+        n,
+        landmarks,
+        tails,
+        heads,
+        weights,
+        count,
+        forward,
+        backward,
+    );
+    spell::spell_check(r, reply)
+}
+
+// Landmark choice.
+#[no_mangle]
+pub extern "C" fn plate_track_choose(
+    n: u32,
+    tails: &[u32],
+    heads: &[u32],
+    weights: &[u32],
+    count: u32,
+    k: u32,
+    reply: &mut [u64],
+) -> u32
+    ensures { λ number. ⌜ record { number = number; reply = now (reply .exit); memory = tt } ≡ spelled choiceWords (alone (choiceCall n (columns (now (tails .entry)) (now (heads .entry)) (now (weights .entry))) count k)) tt (now (reply .entry)) ⌝ }
+{
+    if reply.len() < 8 {
+        return 2;
+    }
+    let r = inspect::choose::choose_landmarks(n, tails, heads, weights, count, k);
+    spell::spell_choice(r, reply)
+}
+
+// Row look-up.
+#[no_mangle]
+pub extern "C" fn plate_track_row(
+    n: u32,
+    landmarks: &[u32],
+    forward: &[u32],
+    backward: &[u32],
+    side: u32,
+    landmark: u32,
+    property: u32,
+    reply: &mut [u64],
+) -> u32
+    ensures { λ k. ⌜ record { number = k; reply = now (reply .exit); memory = tt } ≡ spelled oneWord (alone (lookupStart n (now (landmarks .entry)) (rowLists (now (forward .entry)) (now (backward .entry))) side landmark property)) tt (now (reply .entry)) ⌝ }
+{
+    if reply.len() < 8 {
+        return 2;
+    }
+    let r = inspect::lookup::row_number(n, landmarks, forward, backward, side, landmark, property);
+    if let Judged::Refused(number, place) = r {
+        reply[0] = place as u64;
+        return number;
+    }
+    let i = inspect::lookup::index_of(landmark, landmarks);
+    reply[0] = calls::row_start(property, n as usize, i) as u64;
+    0
+}
+
+// Network text into table lists.
+#[no_mangle]
+pub extern "C" fn plate_track_read(
+    text: &[u8],
+    tails: &mut [u32],
+    heads: &mut [u32],
+    weights: &mut [u32],
+    reply: &mut [u64],
+) -> u32
+    ensures { λ k. ⌜ record { number = k; reply = now (reply .exit); memory = columns (now (tails .exit)) (now (heads .exit)) (now (weights .exit)) } ≡ spelled sizeWords (readCall (now (text .entry)) (columns (now (tails .entry)) (now (heads .entry)) (now (weights .entry)))) (columns (now (tails .entry)) (now (heads .entry)) (now (weights .entry))) (now (reply .entry)) ⌝ }
+{
+    if reply.len() < 8 {
+        return 2;
+    }
+    let r = reader::network::read_network(text, tails, heads, weights);
+    spell::spell_read(r, reply)
+}
+
+// A network's text.
+#[no_mangle]
+pub extern "C" fn plate_track_write(
+    n: u32,
+    tails: &[u32],
+    heads: &[u32],
+    weights: &[u32],
+    count: u32,
+    text: &mut [u8],
+    reply: &mut [u64],
+) -> u32
+    ensures { λ k. ⌜ record { number = k; reply = now (reply .exit); memory = now (text .exit) } ≡ spelled oneWord (writeCall n (columns (now (tails .entry)) (now (heads .entry)) (now (weights .entry))) count (now (text .entry))) (now (text .entry)) (now (reply .entry)) ⌝ }
+{
+    if reply.len() < 8 {
+        return 2;
+    }
+    let r = writer::network::write_network(n, tails, heads, weights, count, text);
+    spell::spell_write(r, reply)
+}
+
+// A source file into a list of vertices.
+#[no_mangle]
+pub extern "C" fn plate_track_read_sources(
+    text: &[u8],
+    n: u32,
+    sources: &mut [u32],
+    reply: &mut [u64],
+) -> u32
+    ensures { λ k. ⌜ record { number = k; reply = now (reply .exit); memory = now (sources .exit) } ≡ spelled oneWord (sourcesCall n (now (text .entry)) (now (sources .entry))) (now (sources .entry)) (now (reply .entry)) ⌝ }
+{
+    if reply.len() < 8 {
+        return 2;
+    }
+    let r = reader::sources::read_sources(n, text, sources);
+    spell::spell_sources(r, reply)
+}
