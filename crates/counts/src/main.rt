@@ -121,7 +121,7 @@ fn change(
     let froms = [0u32, 0];
     let tos = [1u32, 255];
     let values = [0u32, 9];
-    let applied = batch::batch(
+    let applied = batch::batch_lists(
         256,
         landmarks,
         tails,
