@@ -1,13 +1,12 @@
 -- The closure of affected vertices: its test agrees with its record, marks that are closed have all of it, marks that sweeps make
 -- are in it, and the order of records does not matter to it. Assumes nothing.
 --
---   Named P es fs s ws ms    == each mark of ms is of an affected vertex
 --   Closed P es fs s ws ms   == each edge that would mark its head finds it marked
 use mathlib.Core.Path.{_≡_, refl, sym, ap, _∙_}
-use mathlib.Core.Logic.{_↔_, _≢_}
-use mathlib.Core.Bool.{Bool, true, false, not, _||_, cond, false≢true}
+use mathlib.Core.Logic.{_≢_}
+use mathlib.Core.Bool.{Bool, true, false, not, _||_, cond}
 use mathlib.Core.List.{List, [], _∷_, foldl, List·Memᴰ, List·Memᴰ·head, List·Memᴰ·tail}
-use Prim.Native.Nat.{ℕ, zero, suc, _<_}
+use Prim.Native.Nat.{ℕ, zero, suc}
 use native.Mathlib.Decide.{ℕ-discrete}
 use lib.ListN.{set}
 use lib.Seq.{getD-set-other}
@@ -17,9 +16,9 @@ use Rattle.property.specs.Property.{Property}
 use Rattle.graph.specs.Edge.{Edge, among}
 use Rattle.graph.proofs.Tests.{both, and-true, or-right, same-test}
 use Rattle.graph.proofs.Edges.{among-mem, mem-among}
-use Rattle.graph.proofs.Order.{Within, Same}
+use Rattle.graph.proofs.Order.{Same}
 use Rattle.run.specs.Run.{word, tight}
-use Rattle.affected.specs.Affected.{removed, Held, Affected, struck, onward, held, marked, touches, mark, sweep, sweeps}
+use Rattle.affected.specs.Affected.{removed, Held, Affected, Named, struck, onward, held, marked, touches, mark, sweep, sweeps}
 
 -- ---- the test and the record
 
@@ -38,9 +37,6 @@ module _ (P : Property) (s : ℕ) (ws : List ℕ) (e : Edge) where
 
 -- ---- what marks say
 
-abbrev pub Named : Property → List Edge → List Edge → ℕ → List ℕ → List Bool → Type 0
-Named P es fs s ws ms = (t : ℕ) → marked ms t ≡ true → Affected P es fs s ws t
-
 abbrev pub Closed : Property → List Edge → List Edge → ℕ → List ℕ → List Bool → Type 0
 Closed P es fs s ws ms = (e : Edge) → List·Memᴰ e es → touches P fs s ws ms e ≡ true → marked ms (e .head) ≡ true
 
@@ -53,7 +49,7 @@ module _ (P : Property) (es fs : List Edge) (s : ℕ) (ws : List ℕ) where
 
   -- ---- sweeps mark affected vertices alone
 
-  touches-named : (ms : List Bool) (e : Edge) → Named P es fs s ws ms → List·Memᴰ e es → touches P fs s ws ms e ≡ true
+  pub touches-named : (ms : List Bool) (e : Edge) → Named P es fs s ws ms → List·Memᴰ e es → touches P fs s ws ms e ≡ true
       → Affected P es fs s ws (e .head)
   touches-named ms e g m h = let a = both (held P s ws e) _ h in pick (held-of P s ws e (a .0)) (removed fs e) refl (a .1)
     where
@@ -97,10 +93,6 @@ module _ (P : Property) (es fs : List Edge) (s : ℕ) (ws : List ℕ) where
   -- the landmark is never affected
   pub landmark-unaffected : Affected P es fs s ws s → ⊥
   landmark-unaffected a = affected-elsewhere a refl
-
-  pub affected-below : {n t : ℕ} → Within n es → Affected P es fs s ws t → t < n
-  affected-below inside (struck {e = e} m r h) = inside .heads e m
-  affected-below inside (onward {e = e} a m r h) = inside .heads e m
 
 -- ---- the order of records
 

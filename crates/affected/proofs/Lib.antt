@@ -2,11 +2,3 @@ pub mod Closure
 pub mod Sweeps
 pub mod Examples
 pub mod Batch
-pub mod Among
-pub mod Bits
-pub mod Bytes
-pub mod Marking
-pub mod Passes
-pub mod Reversed
-pub mod Starts
-pub mod Tests

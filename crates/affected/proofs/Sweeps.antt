@@ -20,10 +20,10 @@ use Rattle.graph.specs.Edge.{Edge}
 use Rattle.graph.proofs.Tests.{same-test}
 use Rattle.graph.proofs.Lists.{fold-keeps, replicate-at}
 use Rattle.graph.proofs.Edges.{among-mem}
-use Rattle.graph.proofs.Order.{Within, Same, same-back, same-within}
+use Rattle.graph.proofs.Order.{Within, Same}
 use Rattle.run.specs.Run.{word, tight}
-use Rattle.affected.specs.Affected.{removed, Held, Affected, struck, onward, marked, touches, mark, sweep, sweeps, affected}
-use Rattle.affected.proofs.Closure.{Named, Closed, sweeps-named, closed-marked, landmark-unaffected, affected-order}
+use Rattle.affected.specs.Affected.{removed, Held, Affected, Named, struck, onward, marked, touches, mark, sweep, sweeps, affected}
+use Rattle.affected.proofs.Closure.{Closed, sweeps-named, closed-marked, landmark-unaffected, affected-order}
 
 module _ (P : Property) (es fs : List Edge) (s : ℕ) (ws : List ℕ) where
   -- ---- sweeps keep the length
@@ -94,10 +94,10 @@ module _ (P : Property) (es fs : List Edge) (s : ℕ) (ws : List ℕ) where
   still-rest : (k : ℕ) (ms : List Bool) → sweep P es fs s ws ms ≡ ms → sweep P es fs s ws (sweeps P es fs s ws k ms) ≡ sweeps P es fs s ws k ms
   still-rest k ms q = rw (sweeps-still k ms q) q
 
-  module _ (n : ℕ) (inside : Within n es) where
+  module _ (n : ℕ) (heads : (e : Edge) → List·Memᴰ e es → e .head < n) where
     sweep-swept : (ms : List Bool) → length ms ≡ n → Swept es ms (sweep P es fs s ws ms)
     unfolding sweep
-    sweep-swept ms h = fold-swept n es (inside .heads) ms h
+    sweep-swept ms h = fold-swept n es heads ms h
 
     -- a sweep that changes nothing finds the marks closed
     pub still-closed : (ms : List Bool) → length ms ≡ n → sweep P es fs s ws ms ≡ ms → Closed P es fs s ws ms
@@ -141,10 +141,20 @@ module _ (P : Property) (es fs : List Edge) (s : ℕ) (ws : List ℕ) (n : ℕ) 
   pub landmark-safe : marked marks s ≡ false
   landmark-safe = unaffected-unmarked s (landmark-unaffected P es fs s ws)
 
+  module _ (heads : (e : Edge) → List·Memᴰ e es → e .head < n) where
+    all-marked : {t : ℕ} → Affected P es fs s ws t → marked marks t ≡ true
+    all-marked a = closed-marked P es fs s ws marks
+        (still-closed P es fs s ws n heads marks (affected-length P es fs s ws n) (affected-still P es fs s ws n heads)) a
+
+    -- What a program has to show that spreads marks in any order: it marks affected vertices alone, and no edge is left that would
+    -- mark its head. Then it has marked what the sweeps mark, since both have exactly the closure.
+    pub closed-exact : (ms : List Bool) → length ms ≡ n → Named P es fs s ws ms → Closed P es fs s ws ms → ms ≡ marks
+    closed-exact ms h g c = same-marks ms marks (h ∙ sym (affected-length P es fs s ws n))
+        (λ t. (λ q. all-marked (g t q), λ q. closed-marked P es fs s ws ms c (affected-named t q)))
+
   module _ (inside : Within n es) where
     pub named-affected : {t : ℕ} → Affected P es fs s ws t → marked marks t ≡ true
-    named-affected a = closed-marked P es fs s ws marks
-        (still-closed P es fs s ws n inside marks (affected-length P es fs s ws n) (affected-still P es fs s ws n inside)) a
+    named-affected a = all-marked (inside .heads) a
 
     -- The computed marks are the inductive closure. Each sweep marks only what the closure names. After n sweeps a further one would
     -- change nothing, so the marks are closed under both rules of the closure, and by induction along these rules they have all
@@ -170,26 +180,8 @@ module _ (P : Property) (es fs : List Edge) (s : ℕ) (ws : List ℕ) (n : ℕ) 
         → marked marks (e .head) ≡ false → List·Memᴰ e fs × (marked marks (e .tail) ≡ false)
     affected-closed e m t d w q = held-closed e m (record { tight = eqb-true _ _ t; elsewhere = d; routed = w }) q
 
-    -- ---- any marks that are named and closed
-
-    -- What a program has to show that spreads marks in any order: it marks affected vertices alone, and no edge is left that would
-    -- mark its head. Then it has marked what the sweeps mark, since both have exactly the closure.
-    pub closed-exact : (ms : List Bool) → length ms ≡ n → Named P es fs s ws ms → Closed P es fs s ws ms → ms ≡ marks
-    closed-exact ms h g c = same-marks ms marks (h ∙ sym (affected-length P es fs s ws n))
-        (λ t. (λ q. named-affected (g t q), λ q. closed-marked P es fs s ws ms c (affected-named t q)))
-
-    pub fixed-exact : (ms : List Bool) → length ms ≡ n → Named P es fs s ws ms → sweep P es fs s ws ms ≡ ms → ms ≡ marks
-    fixed-exact ms h g q = closed-exact ms h g (still-closed P es fs s ws n inside ms h q)
-
 -- ---- the order of records
 
 carried : (P : Property) (es es' fs fs' : List Edge) (s : ℕ) (ws : List ℕ) (n : ℕ) → Within n es' → Same es es' → Same fs fs'
     → (t : ℕ) → marked (affected P es fs s ws n) t ≡ true → marked (affected P es' fs' s ws n) t ≡ true
 carried P es es' fs fs' s ws n inside p q t h = named-affected P es' fs' s ws n inside (affected-order p q (affected-named P es fs s ws n t h))
-
--- lists with the same edges have the same marks, since they have the same closure
-pub marks-order : (P : Property) (es es' fs fs' : List Edge) (s : ℕ) (ws : List ℕ) (n : ℕ) → Within n es → Same es es' → Same fs fs'
-    → affected P es fs s ws n ≡ affected P es' fs' s ws n
-marks-order P es es' fs fs' s ws n inside p q =
-    same-marks (affected P es fs s ws n) (affected P es' fs' s ws n) (affected-length P es fs s ws n ∙ sym (affected-length P es' fs' s ws n))
-    (λ t. (carried P es es' fs fs' s ws n (same-within p inside) p q t, carried P es' es fs' fs s ws n inside (same-back p) (same-back q) t))

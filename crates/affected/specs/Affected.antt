@@ -13,11 +13,12 @@
 --   sweep .. ms             == one pass over the old edges, each marking its head where it does
 --   sweeps .. k ms          == k passes
 --   affected P es fs s ws n == the affected ones of n vertices, as marks: n passes find all
+--   Named P es fs s ws ms   == each mark of ms is of an affected vertex
 --   mark .. ms e            == the marks after one edge: its head is marked where it touches
 use mathlib.Core.Path.{_≡_}
 use mathlib.Core.Logic.{_≢_}
 use mathlib.Core.Bool.{Bool, true, false, not, _&&_, _||_, cond}
-use mathlib.Core.List.{List, [], _∷_, foldl, List·Memᴰ}
+use mathlib.Core.List.{List, foldl, List·Memᴰ}
 use Prim.Native.Nat.{ℕ, zero, suc}
 use lib.ListN.{getD, set, replicate}
 use lib.Dec.{eqb}
@@ -73,3 +74,6 @@ module _ (P : Property) (es fs : List Edge) (s : ℕ) (ws : List ℕ) where
 
   unfoldable pub affected : ℕ → List Bool
   affected n = sweeps n (replicate n false)
+
+abbrev pub Named : Property → List Edge → List Edge → ℕ → List ℕ → List Bool → Type 0
+Named P es fs s ws ms = (t : ℕ) → marked ms t ≡ true → Affected P es fs s ws t

@@ -1,3 +1,2 @@
 pub mod Affected
 pub mod Prepared
-pub mod Code

@@ -1,5 +1,3 @@
-pub mod Writing
-pub mod Calling
 pub mod Again
 pub mod Scratch
 pub mod Copying

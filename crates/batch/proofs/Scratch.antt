@@ -6,7 +6,7 @@
 --     lends-words      Held us ⊢ ⇛ ∃ γ. the `&[u32]` ∗ what the lender keeps
 --     words-back       [†ν] ∗ what the lender keeps ⊢ ⇛ room
 -- Assumes `Given`.
-use mathlib.Core.Path.{_≡_, refl, subst}
+use mathlib.Core.Path.{_≡_, refl}
 use Prim.Native.Nat.{ℕ, zero, suc}
 use mathlib.Core.List.{List, [], _∷_}
 use lib.Dec.{lit<}
@@ -19,7 +19,7 @@ use base.Logic.{ent, sep, ex}
 use base.Fml.{GName, Fml, fsep, fat, froom, fdead, flent}
 use prog.Wp.{Heap}
 use ghost.Atoms.{Atoms, sem}
-use types.Kit.{Given, ‵, some, later, _⊛_, _$_, _∵_, !, qed, by, move, keep, drop, use1, use3, split, pick, rewrite, fsplit, fjoin, fpick, fpack, feqL, feqI, await, updating, now as at-once, show, done}
+use types.Kit.{Given, ‵, some, later, _⊛_, _$_, _∵_, !, qed, by, move, keep, drop, use1, use3, split, pick, rewrite, fsplit, fjoin, fpick, fpack, feqI, await, updating, now as at-once, show, done}
 use types.SemTy.{cells, Arr}
 use types.Share.{arr-parts}
 use types.Tokens.{lent-back}

@@ -1,9 +1,8 @@
 -- Refusals 1 to 4 of a network as the code judges them, and what an accepted network tells. Assumes nothing.
-use mathlib.Core.Path.{_≡_, refl, sym, ap, _∙_}
-use mathlib.Core.Logic.{⊎-elim}
-use mathlib.Core.Bool.{Bool, true, false, not, _&&_, _||_}
-use mathlib.Core.List.{List, [], _∷_, List·Memᴰ, List·Memᴰ·head, List·Memᴰ·tail}
-use Prim.Native.Nat.{ℕ, zero, suc, _+_, _*_, _/_, _<_, _≤_}
+use mathlib.Core.Path.{_≡_, sym, _∙_}
+use mathlib.Core.Bool.{Bool, true, false, not}
+use mathlib.Core.List.{List, List·Memᴰ}
+use Prim.Native.Nat.{ℕ, _+_, _*_, _/_, _<_, _≤_}
 use native.Mathlib.Nat.{mul-assoc, mul-zero, div-lt-iff-lt-mul}
 use native.Mathlib.Decide.{decLt}
 use native.Mathlib.Numerals.{add-one}
@@ -11,14 +10,12 @@ use native.Mathlib.Omega.{arith}
 use lib.ListN.{length, getD, drop, drop-of-length-le}
 use lib.Seq.{drop-cons}
 use lib.Dec.{eqb, ltb}
-use borrow.Author.Tests.{eq-eqb, ne-eqb, lt-ltb, le-ltb, ltb-false, eqb-false, not-false}
-use Rattle.graph.specs.declared.Judged.{Judged}
-use Rattle.graph.specs.declared.Judged.the-variants.{Fine, Refused}
-use Rattle.graph.specs.Refusal.{Verdict, accept, refuse, _▷_, refuseIf}
+use borrow.Author.Tests.{eq-eqb, ne-eqb, lt-ltb, le-ltb, ltb-false, not-false}
+use Rattle.graph.specs.Refusal.{accept}
 use Rattle.graph.specs.Limits.{maxVertices, maxEdges, maxLandmarks}
 use Rattle.graph.specs.Edge.{edge, edges}
-use Rattle.graph.specs.Table.{Columns, edgesOf, rules, size, shortTable, table}
-use Rattle.graph.specs.Code.{told, Room, columns, edgeAt}
+use Rattle.graph.specs.Table.{rules, size, shortTable, table}
+use Rattle.graph.specs.Code.{Room, columns, edgeAt}
 use Rattle.graph.proofs.Tests.{neither}
 use Rattle.graph.proofs.Verdicts.{then-accept, if-accept}
 use Rattle.graph.proofs.Lists.{getD-mem}

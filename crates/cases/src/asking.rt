@@ -1,10 +1,10 @@
 // A query of a lent network, held to its number and place.
-use super::lent;
-use super::lent::Network;
-use super::lists;
-use super::score;
-use super::score::Reply;
-use super::score::Score;
+use model::lent;
+use model::lent::Network;
+use model::lists;
+use model::score;
+use model::score::Reply;
+use model::score::Score;
 use query::Answered;
 
 // What is asked: the schedule has vertex 0 up to index `entry`, and `vertex` from there on. The lists for the answer have `starts`
@@ -33,11 +33,13 @@ pub fn usual() -> Request {
 }
 
 impl Request {
+    // For another property.
     pub fn property(mut self, property: u32) -> Request {
         self.property = property;
         self
     }
 
+    // From another vertex.
     pub fn source(mut self, source: u32) -> Request {
         self.source = source;
         self
@@ -51,11 +53,13 @@ impl Request {
         self
     }
 
+    // With so many words for the start words.
     pub fn starts(mut self, words: usize) -> Request {
         self.starts = words;
         self
     }
 
+    // With so many words for the settled words.
     pub fn settled(mut self, words: usize) -> Request {
         self.settled = words;
         self
@@ -146,6 +150,7 @@ fn fill_schedule(schedule: &mut [u32; 4097], entry: usize, vertex: u32) {
     }
 }
 
+// Whether the words from `start` on are as they were made.
 fn are_kept(words: &[u32; 257], start: usize) -> bool {
     lists::all(words, start, 257, 7)
 }

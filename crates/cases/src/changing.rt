@@ -1,12 +1,11 @@
 // A batch on a lent network, held to its number and place.
-use super::changes;
-use super::lent;
-use super::lent::Network;
-use super::lists;
-use super::score;
-use super::score::Reply;
-use super::score::Score;
-use batch::Applied;
+use apply::Applied;
+use model::lent;
+use model::lent::Network;
+use model::lists;
+use model::score;
+use model::score::Reply;
+use model::score::Score;
 
 // A batch of `size` changes that take the edge 0→1 and put it back in turn, but for the one at index `item`.
 pub struct Batch {
@@ -43,7 +42,39 @@ pub fn told(applied: Applied) -> Reply {
     }
 }
 
-// A batch with the first words of the lists that it writes.
+// A batch with the first words of the row lists that it writes.
+fn apply_rows(
+    c: Network,
+    landmarks: &[u32],
+    tails: &mut [u32],
+    heads: &mut [u32],
+    weights: &mut [u32],
+    forward: &mut [u32],
+    backward: &mut [u32],
+    kinds: &[u32],
+    froms: &[u32],
+    tos: &[u32],
+    values: &[u32],
+) -> Applied {
+    let f = lists::cap(c.forward, forward.len());
+    let b = lists::cap(c.backward, backward.len());
+    plain_batch::batch_lists(
+        c.n,
+        landmarks,
+        tails,
+        heads,
+        weights,
+        c.count,
+        &mut forward[0..f],
+        &mut backward[0..b],
+        kinds,
+        froms,
+        tos,
+        values,
+    )
+}
+
+// A batch with the first words of the table's lists too.
 fn apply_parts(
     c: Network,
     landmarks: &[u32],
@@ -60,17 +91,14 @@ fn apply_parts(
     let t = lists::cap(c.tails, tails.len());
     let h = lists::cap(c.heads, heads.len());
     let w = lists::cap(c.weights, weights.len());
-    let f = lists::cap(c.forward, forward.len());
-    let b = lists::cap(c.backward, backward.len());
-    changes::apply(
-        c.n,
+    apply_rows(
+        c,
         landmarks,
         &mut tails[0..t],
         &mut heads[0..h],
         &mut weights[0..w],
-        c.count,
-        &mut forward[0..f],
-        &mut backward[0..b],
+        forward,
+        backward,
         kinds,
         froms,
         tos,
@@ -185,11 +213,7 @@ fn apply_batch(
     )
 }
 
-// Whether two lists of a table are the same to the last word.
-pub fn is_same(xs: &[u32; 2049], ys: &[u32; 2049]) -> bool {
-    lists::same(xs, ys, 0, 2049)
-}
-
+// A batch on a network: its number and place. Where it is refused, nothing lent may have changed.
 pub fn case(s: Score, c: Network, d: Batch, number: u32, place: usize) -> Score {
     let mut tails = [9u32; 2049];
     let mut heads = [9u32; 2049];
@@ -209,9 +233,7 @@ pub fn case(s: Score, c: Network, d: Batch, number: u32, place: usize) -> Score 
         &mut forward,
         &mut backward,
     );
-    let table = is_same(&tails, &tails1)
-        && is_same(&heads, &heads1)
-        && is_same(&weights, &weights1);
+    let table = lent::is_table(&tails, &heads, &weights, &tails1, &heads1, &weights1);
     let kept = table && lent::are_kept(&forward) && lent::are_kept(&backward);
     s.with(score::meets(told(applied), kept, number, place))
 }

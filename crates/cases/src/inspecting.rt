@@ -1,15 +1,15 @@
 // Settled check, landmark choice and row look-up on a lent network, held to number and place.
-use super::lent;
-use super::lent::Network;
-use super::lists;
-use super::score;
-use super::score::Reply;
-use super::score::Score;
 use graph::Judged;
 use inspect::Checked;
 use inspect::choose;
 use inspect::lookup;
 use inspect::settled;
+use model::lent;
+use model::lent::Network;
+use model::lists;
+use model::score;
+use model::score::Reply;
+use model::score::Score;
 
 // The replies as number and place.
 pub fn told_checked(checked: Checked) -> Reply {
@@ -20,6 +20,7 @@ pub fn told_checked(checked: Checked) -> Reply {
     }
 }
 
+// A verdict as its number and place.
 pub fn told(judged: Judged) -> Reply {
     match judged {
         Judged::Fine => score::fine(),
@@ -48,6 +49,7 @@ fn check_lent(
     )
 }
 
+// A settled check of a network: its number and place.
 pub fn check_case(s: Score, c: Network, number: u32, place: usize) -> Score {
     let mut tails = [9u32; 2049];
     let mut heads = [9u32; 2049];
@@ -83,6 +85,7 @@ fn choose_lent(
     score::meets(told(verdict), true, number, place) && choice.count == count
 }
 
+// A choice of `k` landmarks: its number and place, and how many vertices it gives.
 pub fn choose_case(s: Score, c: Network, k: u32, number: u32, place: usize, count: usize) -> Score {
     let mut tails = [9u32; 2049];
     let mut heads = [9u32; 2049];
@@ -110,6 +113,7 @@ fn look_up(
     score::meets(told(judged), true, number, 0) && shown.len() == words
 }
 
+// A look-up of a row: its number, and the length of the part that it shows.
 pub fn row_case(
     s: Score,
     c: Network,

@@ -2,9 +2,9 @@
 use super::asking;
 use super::changing;
 use super::inspecting;
-use super::lent;
 use super::refusals::case;
-use super::score::Score;
+use model::lent;
+use model::score::Score;
 
 // Vertices, records, weights and the lengths of lists, of a call that takes a whole network.
 pub fn network(call: u32, start: Score) -> Score {

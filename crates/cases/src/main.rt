@@ -1,22 +1,16 @@
 // The calls on the cases of document 01. A line for each group: how many of its cases came out as expected.
 pub mod asking;
-pub mod changes;
 pub mod changing;
-pub mod checks;
 pub mod deck;
-pub mod draws;
-pub mod histories;
 pub mod inspecting;
-pub mod large;
-pub mod lent;
 pub mod limits;
-pub mod lists;
-pub mod matrix;
-pub mod model;
 pub mod opening;
 pub mod refusals;
-pub mod score;
+pub mod traps;
 
+use model::score;
+
+// The groups of refusals, a line each.
 fn print_refusals() {
     let none = score::none();
     let asked = refusals::network(refusals::QUERY, none);
@@ -37,6 +31,7 @@ fn limits_of(call: u32) -> score::Score {
     limits::least(call, limits::network(call, score::none()))
 }
 
+// The groups of limits, a line each.
 fn print_limits() {
     let none = score::none();
     let changed = limits::network(refusals::BATCH, none);
@@ -48,30 +43,16 @@ fn print_limits() {
     score::print(b"row look-up limits", limits::lookup(none));
 }
 
+// The groups of document 01's small deck, a line each.
 fn print_deck() {
     let none = score::none();
     score::print(b"deck lines", deck::lines(none));
-    score::print(b"settled check spots", deck::spots(none));
-    score::print(b"traps", deck::traps(none));
-}
-
-fn print_histories() {
-    let x = histories::run();
-    score::print(b"generated openings", x.opened);
-    score::print(b"generated batches accepted", x.accepted);
-    score::print(b"generated batches refused", x.refused);
-    score::print(b"tables", x.tables);
-    score::print(b"rows of both sides", x.rows);
-    score::print(b"queries", x.queries);
-    score::print(b"settled checks", x.checked);
-    score::print(b"row look-ups", x.shown);
-    score::print(b"landmark choices", x.chosen);
-    score::print(b"large network", large::network(score::none()));
+    score::print(b"settled check spots", traps::spots(none));
+    score::print(b"traps", traps::traps(none));
 }
 
 fn main() {
     print_refusals();
     print_limits();
     print_deck();
-    print_histories();
 }

@@ -1,10 +1,10 @@
 // An opening of a lent network, held to its number and place.
-use super::lent;
-use super::lent::Network;
-use super::lists;
-use super::score;
-use super::score::Reply;
-use super::score::Score;
+use model::lent;
+use model::lent::Network;
+use model::lists;
+use model::score;
+use model::score::Reply;
+use model::score::Score;
 use open::Opened;
 
 // The reply as its number and place.
@@ -66,6 +66,7 @@ fn open_lent(
     )
 }
 
+// An opening of a network: its number and place. Where it is refused, no row word may have changed.
 pub fn case(s: Score, c: Network, number: u32, place: usize) -> Score {
     let mut tails = [9u32; 2049];
     let mut heads = [9u32; 2049];

@@ -1,10 +1,10 @@
 // Speed by construction, shown by counts: a network of 256 vertices and 2,048 edges is opened, then each of its rows is run again
 // and counted. A vertex costs as many looks as it has edges, never a scan of the table. A query for each property and a batch follow.
+mod counting;
 mod print;
-mod rows;
 mod table;
 
-use batch::Applied;
+use apply::Applied;
 use open::Opened;
 use query::Answered;
 
@@ -49,7 +49,7 @@ fn count_network(
     forward: &[u32; 5120],
     backward: &[u32; 5120],
 ) {
-    let work = rows::count_sides(
+    let work = counting::count_sides(
         256,
         landmarks,
         tails,
@@ -121,7 +121,7 @@ fn change(
     let froms = [0u32, 0];
     let tos = [1u32, 255];
     let values = [0u32, 9];
-    let applied = batch::batch_lists(
+    let applied = plain_batch::batch_lists(
         256,
         landmarks,
         tails,

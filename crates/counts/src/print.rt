@@ -1,5 +1,5 @@
 // What the program prints, in words of document 01 where it has them.
-use super::rows::Work;
+use super::counting::Work;
 use run::Tally;
 
 // A name of a row list.

@@ -11,7 +11,7 @@ use Rattle.graph.specs.Limits.{maxVertices, maxEdges, maxWeight}
 use Rattle.graph.specs.Edge.{Edge, edge}
 use Rattle.graph.specs.Table.{isEdge, isWeight}
 use Rattle.graph.proofs.Tests.{both}
-use Rattle.dimacs.proofs.Positions.{scan-digit, scan-other}
+use Rattle.dimacs.proofs.Digits.{scan-digit, scan-other}
 use Rattle.dimacs.proofs.Count.{edge-ends}
 use Rattle.dimacs.proofs.Network.{opens-facts, takes-facts}
 use Rattle.dimacs.specs.Decimal.{isDigit, scan}

@@ -1,7 +1,7 @@
 -- How many edges a table of n vertices can hold: n × (n − 1). A table with fewer lacks a pair. Assumes nothing.
 use mathlib.Core.Path.{_≡_, refl, sym, ap, _∙_}
 use mathlib.Core.Logic.{_⊎_, inl, inr}
-use mathlib.Core.Bool.{Bool, true, false, _&&_, _||_, not, cond, or-true, true≢false}
+use mathlib.Core.Bool.{Bool, true, false, _||_, not, cond, or-true, true≢false}
 use mathlib.Core.List.{List, [], _∷_, _++_, map}
 use Prim.Native.Nat.{ℕ, zero, suc, _+_, _-_, _*_, _/_, _%_, _≤_, _<_}
 use native.Mathlib.Nat.{mul-le-mul-right, div-add-mod', div-lt-iff-lt-mul, mod-lt}
@@ -9,7 +9,7 @@ use native.Mathlib.Omega.{arith}
 use lib.Dec.{ltb, eqb}
 use lib.ListN.{length, length-append, length-map}
 use borrow.Author.Tests.{lt-ltb, ltb-true, ltb-false, eqb-true, eqb-false, eq-eqb, ne-eqb, not-true}
-use Rattle.graph.specs.Edge.{Edge, edge, samePair, precedes, exists, present}
+use Rattle.graph.specs.Edge.{Edge, edge, samePair, exists, present}
 use Rattle.graph.specs.Table.{isEdge}
 use Rattle.graph.proofs.Tests.{both, neither, or-false}
 use Rattle.graph.proofs.Order.{Less, less-of, Follows, Sound}

@@ -47,6 +47,16 @@ pub is-digit : (b : ℕ) → isDigit b ≡ true → (48 ≤ b) × (b ≤ 57)
 unfolding isDigit
 is-digit b h = let (p, q) = both (leb 48 b) (leb b 57) h in (leb-true 48 b p, leb-true b 57 q)
 
+-- ---- the digits at the front, one by one
+
+pub scan-digit : (v b : ℕ) (s : List ℕ) → isDigit b ≡ true → scan v (b ∷ s) ≡ scan (v * 10 + (b - 48)) s
+unfolding scan
+scan-digit v b s e = rw e
+
+pub scan-other : (v b : ℕ) (s : List ℕ) → isDigit b ≡ false → scan v (b ∷ s) ≡ (v, b ∷ s)
+unfolding scan
+scan-other v b s e = rw e
+
 -- nothing that follows a number can be its next digit
 unfoldable pub stops : List ℕ → Bool
 stops [] = true
@@ -55,7 +65,7 @@ stops (b ∷ s) = not (isDigit b)
 pub scan-stops : (v : ℕ) (s : List ℕ) → stops s ≡ true → scan v s ≡ (v, s)
 unfolding scan stops
 scan-stops v [] h = refl
-scan-stops v (b ∷ s) h = rw (not-true (isDigit b) h)
+scan-stops v (b ∷ s) h = scan-other v b s (not-true (isDigit b) h)
 
 -- ---- what is read is printed so
 
@@ -99,12 +109,6 @@ number-spells (b ∷ s) r v h = pick (eqb b 48) (isDigit b) refl refl
 
 -- ---- printed numbers are read back
 
-scan-digit : (v d : ℕ) (s : List ℕ) → d < 10 → scan v ((48 + d) ∷ s) ≡ scan (v * 10 + d) s
-unfolding scan
-scan-digit v d s h =
-    let e : 48 + d - 48 ≡ d = omega arith in
-    rw (digit-is d h, e)
-
 number-small : (v : ℕ) (s : List ℕ) → v < 10 → 0 < v → number (digits v ++ s) ≡ some (scan v s)
 unfolding number
 number-small v s l h =
@@ -119,8 +123,8 @@ number-in (suc k) v s h hv = pick (ltb v 10) refl (λ l. number-in k (v / 10) ((
     pick true e ih = number-small v s (ltb-true v 10 e) hv
     pick false e ih =
         let l : 10 ≤ v = ltb-false v 10 e in
-        let w : v / 10 * 10 + v % 10 ≡ v = omega arith in
-        rw (digits-big v l, append-assoc) (ih l ∙ ap (λ (q : ℕ × List ℕ). some q) (scan-digit (v / 10) (v % 10) s (omega arith) ∙ ap (λ (x : ℕ). scan x s) w))
+        let w : v / 10 * 10 + (48 + v % 10 - 48) ≡ v = omega arith in
+        rw (digits-big v l, append-assoc) (ih l ∙ ap (λ (q : ℕ × List ℕ). some q) (scan-digit (v / 10) (48 + v % 10) s (digit-is (v % 10) (omega arith)) ∙ ap (λ (x : ℕ). scan x s) w))
 
 pub number-digits : (v : ℕ) (s : List ℕ) → stops s ≡ true → number (digits v ++ s) ≡ some (v, s)
 unfolding number

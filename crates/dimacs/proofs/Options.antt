@@ -16,6 +16,11 @@ unfolding bind
 bind-some none f y h = absurd (none-some h)
 bind-some (some x) f y h = (x, refl, h)
 
+pub bind-bind : {A B C : Type 0} (o : Option A) (f : A → Option B) (g : B → Option C) → bind (bind o f) g ≡ bind o (λ x. bind (f x) g)
+unfolding bind
+bind-bind none f g = refl
+bind-bind (some x) f g = refl
+
 pub cond-some : {A : Type 0} (b : Bool) (x y : A) → cond b (some x) none ≡ some y → (b ≡ true) × (x ≡ y)
 cond-some true x y h = (refl, some-same h)
 cond-some false x y h = absurd (none-some h)

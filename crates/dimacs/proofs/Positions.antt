@@ -1,32 +1,25 @@
--- Reading at a position of a text: one byte, one number, one field, one line at a time. For code that walks a list of bytes.
+-- Reading at a position of a text: one byte, one number, one line at a time. For code that walks a list of bytes.
 -- Assumes nothing.
-use mathlib.Core.Path.{_≡_, refl, sym, ap, _∙_}
+use mathlib.Core.Path.{_≡_, refl, ap, _∙_}
 use mathlib.Core.Bool.{true, false, not}
 use mathlib.Core.List.{List, [], _∷_, _++_}
-use mathlib.Core.Option.{Option, none, some, bind}
+use mathlib.Core.Option.{none, some}
 use Prim.Native.Nat.{ℕ, suc, _+_, _-_, _*_, _≤_, _<_}
 use native.Mathlib.Numerals.{add-one}
 use native.Mathlib.Omega.{arith}
 use lib.Dec.{eqb}
-use lib.ListN.{length, getD, take, drop, take-append-drop, drop-of-length-le, length-drop}
-use lib.Seq.{drop-cons, take-suc, getD-drop, drop-drop}
+use lib.ListN.{length, getD, take, drop, drop-of-length-le, length-drop}
+use lib.Seq.{drop-cons, take-suc, take-all, split-at, getD-drop, drop-drop}
 use borrow.Author.Tests.{eq-eqb, ne-eqb, not-true}
 use Rattle.graph.proofs.Tests.{both}
+use Rattle.dimacs.proofs.Digits.{scan-digit, scan-other}
 use Rattle.dimacs.proofs.Fields.{plain-append}
 use Rattle.dimacs.proofs.Split.{split-line}
 use Rattle.dimacs.specs.Decimal.{isDigit, scan, number}
 use Rattle.dimacs.specs.Lines.{before, split, plain}
-use Rattle.dimacs.specs.Read.{after, fields, commentOf, lineIn, spokenBy}
+use Rattle.dimacs.specs.Read.{fields}
 
 -- ---- numbers
-
-pub scan-digit : (v b : ℕ) (s : List ℕ) → isDigit b ≡ true → scan v (b ∷ s) ≡ scan (v * 10 + (b - 48)) s
-unfolding scan
-scan-digit v b s e = rw e
-
-pub scan-other : (v b : ℕ) (s : List ℕ) → isDigit b ≡ false → scan v (b ∷ s) ≡ (v, b ∷ s)
-unfolding scan
-scan-other v b s e = rw e
 
 module _ (s : List ℕ) (i : ℕ) where
   pub scan-more : (v : ℕ) → i < length s → isDigit (getD s i 0) ≡ true → scan v (drop i s) ≡ scan (v * 10 + (getD s i 0 - 48)) (drop (i + 1) s)
@@ -55,19 +48,7 @@ module _ (s : List ℕ) (i : ℕ) where
   unfolding number
   number-scan h d e = rw (drop-cons s i 0 h, ne-eqb (getD s i 0) 48 d, e, add-one)
 
-  -- ---- marks and fields
-
-  pub after-at : (c : ℕ) (p : List ℕ) → i < length s → getD s i 0 ≡ c → after (c ∷ p) (drop i s) ≡ after p (drop (i + 1) s)
-  unfolding after
-  after-at c p h e = rw (drop-cons s i 0 h, eq-eqb (getD s i 0) c e, add-one)
-
-  pub after-not : (c : ℕ) (p : List ℕ) → i < length s → (getD s i 0 ≡ c → ⊥) → after (c ∷ p) (drop i s) ≡ none
-  unfolding after
-  after-not c p h d = rw (drop-cons s i 0 h, ne-eqb (getD s i 0) c d)
-
-  pub after-end : (c : ℕ) (p : List ℕ) → length s ≤ i → after (c ∷ p) (drop i s) ≡ none
-  unfolding after
-  after-end c p h = rw (drop-of-length-le s h)
+  -- ---- the end of a line's fields
 
   pub fields-over : length s ≤ i → fields 0 (drop i s) ≡ some []
   unfolding fields
@@ -77,50 +58,51 @@ module _ (s : List ℕ) (i : ℕ) where
   unfolding fields
   fields-long h = rw (drop-cons s i 0 h)
 
--- one field more: a space, and a number that ends at r
-pub fields-more : (k : ℕ) (s t r : List ℕ) (v : ℕ) → after (32 ∷ []) s ≡ some t → number t ≡ some (v, r) → fields (suc k) s ≡ bind (fields k r) (λ vs. some (v ∷ vs))
-unfolding fields bind
-fields-more k s t r v p q = rw (p, q)
-
-pub fields-no-space : (k : ℕ) (s : List ℕ) → after (32 ∷ []) s ≡ none → fields (suc k) s ≡ none
-unfolding fields bind
-fields-no-space k s p = rw p
-
-pub fields-no-number : (k : ℕ) (s t : List ℕ) → after (32 ∷ []) s ≡ some t → number t ≡ none → fields (suc k) s ≡ none
-unfolding fields bind
-fields-no-number k s t p q = rw (p, q)
-
--- ---- comments
-
-pub line-comment : {A : Type 0} (parse : List ℕ → Option A) (s : List ℕ) → 0 < length s → getD s 0 0 ≡ 99 → lineIn parse s ≡ commentOf (drop 1 s)
-unfolding lineIn
-line-comment parse [] l h = absurd (omega arith)
-line-comment parse (b ∷ s) l h = rw (eq-eqb b 99 h)
-
-pub line-item : {A : Type 0} (parse : List ℕ → Option A) (s : List ℕ) → 0 < length s → (getD s 0 0 ≡ 99 → ⊥) → lineIn parse s ≡ spokenBy (parse s)
-unfolding lineIn
-line-item parse [] l h = absurd (omega arith)
-line-item parse (b ∷ s) l h = rw (ne-eqb b 99 h)
-
--- ---- lines
-
-pub plain-more : (s : List ℕ) (i k : ℕ) → i + k < length s → plain (take k (drop i s)) ≡ true → (getD s (i + k) 0 ≡ 10 → ⊥) → plain (take (k + 1) (drop i s)) ≡ true
-unfolding plain
-plain-more s i k h p d =
-    let l : k < length (drop i s) = omega (arith, length-drop i s) in
-    let e : getD (drop i s) k 0 ≡ getD s (i + k) 0 = getD-drop i s k 0 in
-    rw (add-one, take-suc (drop i s) k 0 l) (plain-append (take k (drop i s)) (getD (drop i s) k 0 ∷ []) p (rw (e, ne-eqb (getD s (i + k) 0) 10 d)))
-
--- the line from i on ends at the line feed at i + k
-pub split-feed : (s : List ℕ) (i k : ℕ) → i + k < length s → plain (take k (drop i s)) ≡ true → getD s (i + k) 0 ≡ 10
-    → split (drop i s) ≡ record { lines = take k (drop i s) ∷ split (drop (i + k + 1) s) .lines; rest = split (drop (i + k + 1) s) .rest }
-split-feed s i k h p e =
-    let l : k < length (drop i s) = omega (arith, length-drop i s) in
-    let f : drop k (drop i s) ≡ 10 ∷ drop (i + k + 1) s = drop-drop k i s ∙ drop-cons s (i + k) 0 h ∙ rw (e, add-one) in
-    ap split (sym (take-append-drop k (drop i s)) ∙ ap (λ (t : List ℕ). take k (drop i s) ++ t) f) ∙ split-line (take k (drop i s)) (drop (i + k + 1) s) p
+-- ---- the first line from a position on, found byte by byte
 
 -- no line feed follows
-pub split-rest : (s : List ℕ) → plain s ≡ true → split s ≡ record { lines = []; rest = s }
+split-open : (s : List ℕ) → plain s ≡ true → split s ≡ record { lines = []; rest = s }
 unfolding split before plain
-split-rest [] h = refl
-split-rest (b ∷ s) h = let (p, q) = both (not (eqb b 10)) (plain s) h in rw (not-true (eqb b 10) p, split-rest s q)
+split-open [] h = refl
+split-open (b ∷ s) h = let (p, q) = both (not (eqb b 10)) (plain s) h in rw (not-true (eqb b 10) p, split-open s q)
+
+pub feed-start : (s : List ℕ) (at : ℕ) → plain (take (at - at) (drop at s)) ≡ true
+unfolding plain
+feed-start s at =
+    let e : at - at ≡ 0 = omega arith in
+    rw e
+
+plain-one : (b : ℕ) → (b ≡ 10 → ⊥) → plain (b ∷ []) ≡ true
+unfolding plain
+plain-one b d = rw (ne-eqb b 10 d)
+
+module _ (s : List ℕ) (at i : ℕ) (from : at ≤ i) where
+  inside : i < length s → i - at < length (drop at s)
+  inside h = omega (arith, length-drop at s)
+
+  at-byte : getD (drop at s) (i - at) 0 ≡ getD s i 0
+  at-byte =
+      let e : at + (i - at) ≡ i = omega arith in
+      getD-drop at s (i - at) 0 ∙ ap (λ (k : ℕ). getD s k 0) e
+
+  pub feed-more : i < length s → (getD s i 0 ≡ 10 → ⊥) → plain (take (i - at) (drop at s)) ≡ true → plain (take (i + 1 - at) (drop at s)) ≡ true
+  feed-more h d p =
+      let e : i + 1 - at ≡ suc (i - at) = omega arith in
+      rw (e, take-suc (drop at s) (i - at) 0 (inside h), at-byte) (plain-append (take (i - at) (drop at s)) (getD s i 0 ∷ []) p (plain-one (getD s i 0) d))
+
+  parts : i < length s → getD s i 0 ≡ 10 → drop at s ≡ take (i - at) (drop at s) ++ (10 ∷ drop (i + 1) s)
+  parts h b =
+      let e : at + suc (i - at) ≡ i + 1 = omega arith in
+      split-at (drop at s) (i - at) 0 (inside h)
+      ∙ ap (λ (c : ℕ). take (i - at) (drop at s) ++ (c ∷ drop (suc (i - at)) (drop at s))) (at-byte ∙ b)
+      ∙ ap (λ (t : List ℕ). take (i - at) (drop at s) ++ (10 ∷ t)) (drop-drop (suc (i - at)) at s ∙ ap (λ (k : ℕ). drop k s) e)
+
+  -- the line feed at i ends the line
+  pub feed-ends : i < length s → getD s i 0 ≡ 10 → plain (take (i - at) (drop at s)) ≡ true
+      → split (drop at s) ≡ record { lines = take (i - at) (drop at s) ∷ split (drop (i + 1) s) .lines; rest = split (drop (i + 1) s) .rest }
+  feed-ends h b p = ap split (parts h b) ∙ split-line (take (i - at) (drop at s)) (drop (i + 1) s) p
+
+  pub feed-open : length s ≤ i → plain (take (i - at) (drop at s)) ≡ true → split (drop at s) ≡ record { lines = []; rest = drop at s }
+  feed-open h p =
+      let l : length (drop at s) ≤ i - at = omega (arith, length-drop at s) in
+      split-open (drop at s) (rw (take-all (i - at) (drop at s) l) at p)

@@ -7,7 +7,7 @@
 --   Ends act complete s      == items lead from s to a complete state
 --   Spelling spell parse     == each item has one spelling, which is one line and no comment, and is read from that alone
 --   NoDeadEnd                == each state that is reached can be completed
---   readFrom .. k s x        == the reader with x left, after k lines
+--   left .. x at k s         == the reader with x left from at on, after k lines
 --   steps s ls               == the state after the lines ls
 --   Accepts text             == the reader accepts text
 use mathlib.Core.Path.{_≡_, refl, sym, ap, subst, _∙_}
@@ -18,10 +18,10 @@ use Prim.Native.Nat.{ℕ, suc, _+_, _-_, _≤_, _<_}
 use native.Mathlib.Numerals.{add-one}
 use native.Mathlib.Omega.{arith}
 use lib.Dec.{eqb}
-use lib.ListN.{length, getD, take, drop}
-use borrow.Author.Tests.{eqb-true, eqb-false, not-true}
+use lib.ListN.{length, take, drop, drop-of-length-le}
+use lib.Seq.{drop-cons}
+use borrow.Author.Tests.{eqb-true, not-true}
 use Rattle.dimacs.proofs.Options.{none-some, some-same, bind-some}
-use Rattle.dimacs.proofs.Positions.{line-item, split-feed, split-rest}
 use Rattle.dimacs.proofs.Split.{Plains, joined-append, split-joined, split-spelled, split-plain, split-lines, plains-append, plains-take}
 use Rattle.dimacs.specs.Lines.{joined, Split, split, plain, Line, bare, comment, says, lineOf, spoken, Plain, Spelled, Begins, Place}
 use Rattle.dimacs.specs.Read.{commentOf, spokenBy, lineIn, Read, good, bad, heard, step, ended, reading, read}
@@ -79,40 +79,37 @@ module _ {A S : Type 0} (parse : List ℕ → Option A) (act : S → A → Optio
   unfolding reading
   reading-some l ls r k s t e = rw (e, reading)
 
-  -- the rest x of a text is left, k lines are read
-  abbrev pub readFrom : ℕ → S → List ℕ → Read S
-  readFrom k s x = reading parse act complete (split x .lines) (split x .rest) k s
+  -- what is left of x from at on, after k lines
+  abbrev pub left : List ℕ → ℕ → ℕ → S → Read S
+  left x at k s = reading parse act complete (split (drop at x) .lines) (split (drop at x) .rest) k s
 
-  pub read-from : (s : S) (text : List ℕ) → read parse act complete s text ≡ readFrom 0 s text
-  unfolding read
-  read-from s text = refl
+  -- each way in which the text goes on or ends there
+  module _ (x : List ℕ) (at k : ℕ) (s : S) where
+    left-is : (q : Split) → q ≡ split (drop at x) → left x at k s ≡ reading parse act complete (q .lines) (q .rest) k s
+    left-is q e = ap (λ (p : Split). reading parse act complete (p .lines) (p .rest) k s) (sym e)
 
-  -- the line from i on ends at the line feed at i + j
-  module _ (x : List ℕ) (i j : ℕ) (l : i + j < length x) (p : plain (take j (drop i x)) ≡ true) (e : getD x (i + j) 0 ≡ 10) (k : ℕ) (s : S) where
-    pub turn-some : (t : S) → step parse act complete s (take j (drop i x)) ≡ some t → readFrom k s (drop i x) ≡ readFrom (k + 1) t (drop (i + j + 1) x)
-    turn-some t h =
-        ap (λ (q : Split). reading parse act complete (q .lines) (q .rest) k s) (split-feed x i j l p e)
-        ∙ reading-some (take j (drop i x)) (split (drop (i + j + 1) x) .lines) (split (drop (i + j + 1) x) .rest) k s t h
-        ∙ ap (λ (m : ℕ). readFrom m t (drop (i + j + 1) x)) (sym (add-one k))
+    pub left-open : at < length x → record { lines = []; rest = drop at x } ≡ split (drop at x) → left x at k s ≡ bad (k + 1)
+    unfolding reading ended
+    left-open h e = left-is (record { lines = []; rest = drop at x }) e ∙ rw (drop-cons x at 0 h, add-one)
 
-    pub turn-none : step parse act complete s (take j (drop i x)) ≡ none → readFrom k s (drop i x) ≡ bad (k + 1)
-    turn-none h =
-        ap (λ (q : Split). reading parse act complete (q .lines) (q .rest) k s) (split-feed x i j l p e)
-        ∙ reading-none (take j (drop i x)) (split (drop (i + j + 1) x) .lines) (split (drop (i + j + 1) x) .rest) k s h
-        ∙ ap (λ (m : ℕ). bad m) (sym (add-one k))
+    module _ (l : List ℕ) (ls : List (List ℕ)) (r : List ℕ) (e : record { lines = l ∷ ls; rest = r } ≡ split (drop at x)) where
+      pub left-stop : none ≡ step parse act complete s l → left x at k s ≡ bad (k + 1)
+      left-stop h = left-is (record { lines = l ∷ ls; rest = r }) e ∙ rw add-one (reading-none l ls r k s (sym h))
 
-  -- no line feed follows
-  pub turn-rest : (x : List ℕ) → plain x ≡ true → (k : ℕ) (s : S) → readFrom k s x ≡ ended parse act complete x k s
-  unfolding reading
-  turn-rest x p k s = ap (λ (q : Split). reading parse act complete (q .lines) (q .rest) k s) (split-rest x p)
+      pub left-next : (t : S) → some t ≡ step parse act complete s l → left x at k s ≡ reading parse act complete ls r (k + 1) t
+      left-next t h = left-is (record { lines = l ∷ ls; rest = r }) e ∙ rw add-one (reading-some l ls r k s t (sym h))
+
+    pub left-end : length x ≤ at → left x at k s ≡ ended parse act complete [] k s
+    unfolding reading split
+    left-end h = rw (drop-of-length-le x h)
 
 module _ {A S : Type 0} {spell : A → List ℕ} {parse : List ℕ → Option A} (laws : Spelling spell parse) (act : S → A → Option S) (complete : S → Bool) (start : S) where
   -- ---- one line
 
   says-in : (l : List ℕ) → speaks l ≡ true → lineIn parse l ≡ spokenBy (parse l)
-  unfolding speaks
+  unfolding speaks lineIn
   says-in [] h = absurd (false≢true h)
-  says-in (b ∷ s) h = line-item parse (b ∷ s) (omega arith) (eqb-false b 99 (not-true (eqb b 99) h))
+  says-in (b ∷ s) h = rw (not-true (eqb b 99) h)
 
   pub line-in : (x : Line A) → lineIn parse (lineOf spell x) ≡ some x
   unfolding lineOf lineIn commentOf

@@ -43,11 +43,11 @@ network-reads text n es = (forth, network.good-read text n es)
 pub network-whole : NetworkWhole
 network-whole text s h = let (n, es, p, g) = network.read-good text s h in (n, es, p)
 
-size-accept : (n : ℕ) → 0 < n → n ≤ maxVertices → size n ≡ accept
-size-accept n p q = accept-if 1 0 (or-false (ne-eqb n 0 (λ z. omega arith)) (le-ltb maxVertices n q))
+accept-size : (n : ℕ) → 0 < n → n ≤ maxVertices → size n ≡ accept
+accept-size n p q = accept-if 1 0 (or-false (ne-eqb n 0 (λ z. omega arith)) (le-ltb maxVertices n q))
 
 table-sorted : (n : ℕ) (fs es : List Edge) → es ≡ net.sorted fs → 0 < n → n ≤ maxVertices → length fs ≤ maxEdges → net.Edges n fs → net.Distinct fs → Table n es
-table-sorted n fs es e p q r a d = rw e record { vertices = size-accept n p q; few = omega (arith, length-sorted fs); rules = accept-rules n (net.sorted fs) (sorted-sound n fs a d) }
+table-sorted n fs es e p q r a d = rw e record { vertices = accept-size n p q; few = omega (arith, length-sorted fs); rules = accept-rules n (net.sorted fs) (sorted-sound n fs a d) }
 
 pub network-tables : NetworkTables
 unfolding exists

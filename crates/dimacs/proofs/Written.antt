@@ -8,10 +8,10 @@ use lib.Dec.{ltb}
 use lib.ListN.{length, take, drop}
 use lib.Seq.{take-at}
 use Rattle.graph.specs.Limits.{maxEdges}
-use Rattle.graph.specs.Refusal.{Verdict, accept, refuse, _▷_, refuseIf, accepted, replied, choose}
+use Rattle.graph.specs.Refusal.{accept, _▷_, refuseIf, accepted, replied, choose}
 use Rattle.graph.specs.Edge.{Edge}
 use Rattle.graph.specs.Table.{Columns, edgesOf, rules, size, shortTable, table}
-use Rattle.graph.proofs.Verdicts.{then-accept}
+use Rattle.graph.proofs.Verdicts.{then-accept, reply-accepted}
 use Rattle.graph.proofs.Order.{Follows, Sound, rules-accept}
 use Rattle.graph.proofs.Judging.{size-accept, lengths-accept, table-accept}
 use Rattle.graph.proofs.Records.{edges-length, edges-back, room-less}
@@ -106,18 +106,13 @@ canonical-written text n es c =
 
 -- ---- what a call wrote
 
-pub replied-accepted : {A : Type 0} (v : Verdict) (a b : A) → replied v a ≡ accepted b → (v ≡ accept) × (a ≡ b)
-unfolding replied
-replied-accepted accept a b h = (refl, let w : a ≡ b = cc in w)
-replied-accepted (refuse k i) a b h = absurd (let z : _≡_ {A = ℕ} 0 1 = cc in omega arith)
-
 -- the verdict of an accepted writing
 pub write-verdict : (n : ℕ) (cs : Columns) (m : ℕ) (out : List ℕ) (k : ℕ) → writeCall n cs m out .reply ≡ accepted k
     → (Table n (edgesOf cs m)) × (length (edgesOf cs m) ≡ m) × (length (written n (edgesOf cs m)) ≡ k) × (take k (writeCall n cs m out .memory) ≡ written n (edgesOf cs m))
 unfolding writeCall choose
 write-verdict n cs m out k h =
     let text = written n (edgesOf cs m) in
-    let (v, w) = replied-accepted (size n ▷ shortTable cs ▷ table n cs m ▷ refuseIf (ltb (length out) (length text)) 2 0) (length text) k h in
+    let (v, w) = reply-accepted (size n ▷ shortTable cs ▷ table n cs m ▷ refuseIf (ltb (length out) (length text)) 2 0) (length text) k h in
     let (a, v₁) = then-accept (size n) (shortTable cs ▷ table n cs m ▷ refuseIf (ltb (length out) (length text)) 2 0) v in
     let (b, v₂) = then-accept (shortTable cs) (table n cs m ▷ refuseIf (ltb (length out) (length text)) 2 0) v₁ in
     let (c, v₃) = then-accept (table n cs m) (refuseIf (ltb (length out) (length text)) 2 0) v₂ in

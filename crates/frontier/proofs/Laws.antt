@@ -5,7 +5,7 @@ use mathlib.Core.List.{List, [], _∷_, _++_, append-nil}
 use Prim.Native.Nat.{ℕ, zero, suc, _+_, _-_, _*_, _≤_, _<_}
 use native.Mathlib.Nat.{not-suc-le-zero, le-of-suc-le-suc, suc-mul, zero-mul}
 use native.Mathlib.Omega.{arith}
-use lib.ListN.{length, getD, set, drop, replicate, length-drop, length-set, replicate-append-replicate, drop-of-length-le}
+use lib.ListN.{length, getD, set, drop, replicate, length-drop, replicate-append-replicate, drop-of-length-le}
 use lib.Seq.{getD-drop}
 use Rattle.frontier.specs.Waiting.{bitsOf, bitsOfAll, waitingOf, seek, nextFrom, anyOf, countOf}
 use Rattle.frontier.specs.declared.Next.the-variants.{At, None}
@@ -118,10 +118,6 @@ waiting-length ws = omega (arith, bits-all-length 64 ws)
 
 pub words-length : (vs ws : List ℕ) → length (waitingOf vs) ≡ length (waitingOf ws) → length vs ≡ length ws
 words-length vs ws e = omega (arith, waiting-length vs, waiting-length ws)
-
--- a bit that is put leaves as many words
-pub words-kept : (ws vs : List ℕ) (i : ℕ) (b : Bool) → waitingOf vs ≡ set (waitingOf ws) i b → length vs ≡ length ws
-words-kept ws vs i b e = words-length vs ws (ap length e ∙ length-set (waitingOf ws) i b)
 
 bits-zero : (n : ℕ) → bitsOf n 0 ≡ replicate n false
 unfolding bitsOf

@@ -1,6 +1,6 @@
 -- Look-up, insertion and deletion by the place that the order gives. Assumes nothing.
 use mathlib.Core.Path.{_≡_, refl, sym, ap, _∙_}
-use mathlib.Core.Bool.{Bool, true, false, _||_, cond, false≢true}
+use mathlib.Core.Bool.{Bool, true, false, _||_, cond}
 use mathlib.Core.List.{List, [], _∷_}
 use Prim.Native.Nat.{ℕ, zero, suc, _+_, _-_, _/_, _<_, _≤_}
 use native.Mathlib.Nat.{add-zero, zero-add, sub-zero}
@@ -110,17 +110,6 @@ module _ (e : Edge) (es : List Edge) where
   pub absent-present : find e es ≡ Absent → present es e ≡ false
   unfolding isAt
   absent-present h = sym find-present ∙ ap isAt h
-
-  pub present-absent : present es e ≡ false → find e es ≡ Absent
-  present-absent h = seek-absent 0 e es h
-
-  pub present-found : present es e ≡ true → (i : ℕ) × (find e es ≡ At i)
-  unfolding isAt
-  present-found h = pick (find e es) refl (find-present ∙ h)
-    where
-      pick : (f : Found) → find e es ≡ f → isAt f ≡ true → (i : ℕ) × (find e es ≡ At i)
-      pick (At i) q k = (i, q)
-      pick Absent q k = absurd (false≢true k)
 
   pub find-below : (i : ℕ) → find e es ≡ At i → i < length es
   find-below i h = let z = seek-below 0 i e es h in omega arith

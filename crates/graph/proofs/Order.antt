@@ -1,8 +1,8 @@
 -- The table's rules: what they say of each edge, and that insert and delete keep them; lists with the same edges. Assumes nothing.
 use mathlib.Core.Path.{_≡_, refl, sym, ap, _∙_}
 use mathlib.Core.Logic.{_↔_, _⊎_, inl, inr, ⊎-elim, _≢_}
-use mathlib.Core.Bool.{Bool, true, false, not, _&&_, _||_, cond, true≢false, false≢true}
-use mathlib.Core.List.{List, [], _∷_, List·Memᴰ, List·Memᴰ·head, List·Memᴰ·tail, List·Memᴰ·cases-cons, List·Memᴰ·not-nil}
+use mathlib.Core.Bool.{Bool, true, false, not, _&&_, _||_, cond, true≢false}
+use mathlib.Core.List.{List, [], _∷_, List·Memᴰ, List·Memᴰ·cases-cons, List·Memᴰ·not-nil}
 use Prim.Native.Nat.{ℕ, zero, suc, _≤_, _<_}
 use native.Mathlib.Decide.{ℕ-discrete, decLt}
 use native.Mathlib.Omega.{arith}
@@ -10,7 +10,7 @@ use lib.ListN.{length, getD}
 use lib.Dec.{ltb, leb, eqb}
 use Rattle.property.specs.Property.{M}
 use Rattle.graph.specs.Limits.{maxWeight}
-use Rattle.graph.specs.Refusal.{Verdict, accept, refuse, _▷_, refuseIf}
+use Rattle.graph.specs.Refusal.{accept, refuseIf}
 use Rattle.graph.specs.Edge.{Edge, edge, samePair, precedes, exists, present}
 use Rattle.graph.specs.Table.{isWeight, isEdge, follow, rules, insert, delete}
 use borrow.Author.Tests.{ltb-true, leb-true, eqb-true, not-false, lt-ltb, eq-eqb}
@@ -37,7 +37,7 @@ of-less e f (inr (p, h)) = pick (ltb (e .tail) (f .tail)) (and-true (eq-eqb _ _ 
     pick true k = refl
     pick false k = k
 
-precedes-trans : (e f g : Edge) → precedes e f ≡ true → precedes f g ≡ true → precedes e g ≡ true
+pub precedes-trans : (e f g : Edge) → precedes e f ≡ true → precedes f g ≡ true → precedes e g ≡ true
 precedes-trans e f g h k = of-less e g (pick (less-of e f h) (less-of f g k))
   where
     pick : Less e f → Less f g → Less e g
@@ -289,9 +289,6 @@ precedes-tail e f h = pick (less-of e f h)
 
 pub insert-rules : (n : ℕ) (e : Edge) (es : List Edge) → rules n es ≡ accept → isEdge n e ≡ true → present es e ≡ false → rules n (insert e es) ≡ accept
 insert-rules n e es h f a = accept-rules n (insert e es) (insert-sound n e es (rules-accept n es h) f a)
-
-pub delete-rules : (n : ℕ) (e : Edge) (es : List Edge) → rules n es ≡ accept → rules n (delete e es) ≡ accept
-delete-rules n e es h = accept-rules n (delete e es) (delete-sound n e es (rules-accept n es h))
 
 -- ---- lists with the same edges, in whatever order
 

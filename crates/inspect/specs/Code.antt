@@ -9,9 +9,9 @@
 --   Holds us k xs                                     == xs are the four places with us in them, and k is how many
 --   Counted es ds                                     == word v of the list ds is the degree of v, for every v: it is 0 past the list
 use mathlib.Core.Path.{_≡_}
-use mathlib.Core.List.{List, [], _∷_, _++_}
+use mathlib.Core.List.{List, [], _++_}
 use Prim.Native.Nat.{ℕ, _-_}
-use lib.ListN.{length, getD, take, drop, replicate}
+use lib.ListN.{length, getD, replicate}
 use Rattle.graph.specs.Limits.{maxLandmarks}
 use Rattle.graph.specs.Refusal.{Verdict, accept, refuse, Reply, accepted, refused}
 use Rattle.graph.specs.Edge.{Edge}

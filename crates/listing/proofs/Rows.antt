@@ -4,7 +4,7 @@ use mathlib.Core.List.{List, [], _∷_, _++_}
 use Prim.Native.Nat.{ℕ, zero, suc, _+_, _-_, _*_, _^_, _≤_, _<_}
 use native.Mathlib.Numerals.{add-one}
 use native.Mathlib.Omega.{arith}
-use lib.ListN.{length, getD, take, replicate, length-append}
+use lib.ListN.{length, getD, replicate, length-append}
 use Rattle.property.specs.Property.{property}
 use Rattle.graph.specs.Edge.{range}
 use Rattle.graph.specs.Limits.{maxVertices}

@@ -16,15 +16,15 @@
 --   graphOf r                        == the network that was read
 use mathlib.Core.List.{List, [], _∷_, _++_, map}
 use Prim.Native.Nat.{ℕ, suc}
-use lib.ListN.{length, getD, replicate}
+use lib.ListN.{length, replicate}
 use lib.Dec.{ltb}
 use Rattle.property.specs.Property.{property, properties}
 use Rattle.graph.specs.Limits.{maxLandmarks}
-use Rattle.graph.specs.Refusal.{Verdict, accept, refuse, _▷_, refuseIf, Outcome}
+use Rattle.graph.specs.Refusal.{Verdict, accept, refuse, _▷_, refuseIf}
 use Rattle.graph.specs.Edge.{Edge, range}
 use Rattle.run.specs.Run.{word}
 use Rattle.network.specs.Network.{Network}
-use Rattle.network.specs.Query.{Query, Words, queryCall}
+use Rattle.network.specs.Query.{queryCall}
 use Rattle.network.specs.Choice.{choice}
 use Rattle.network.specs.Caller.{holding, opened}
 use Rattle.dimacs.specs.Decimal.{digits}

@@ -6,7 +6,7 @@ use Rattle.property.specs.Property.{properties}
 use Rattle.property.proofs.Instances.{property-joins}
 use Rattle.theory.proofs.Reverse.{reversed-best}
 use Rattle.network.specs.Network.{Network, edgesIn}
-use Rattle.network.specs.History.{Holds, Applied, moment, History, BestOverRoutes}
+use Rattle.network.specs.History.{Holds, BatchHolds, moment, History, BestOverRoutes}
 use Rattle.network.proofs.Moment.{Good, good-count, steps, moment-good}
 use Rattle.network.proofs.Query.{query-good}
 use Rattle.network.proofs.Never.{open-judged, query-judged}
@@ -16,7 +16,7 @@ pub good-holds : (n : ℕ) (ls : List ℕ) (w : Network) → Good n ls w → Hol
 good-holds n ls w g = record {
   records = refl;
   count = sym (good-count n ls w g);
-  standing = record {
+  rows = record {
     forward = λ r t h k. g .forward r h t;
     backward = λ r t h k. reversed-best (property-joins (suc (r % properties))) (g .backward r h t);
   };
@@ -35,7 +35,7 @@ history n ls w = record {
     holds = λ past rest e. let z = moment-good n ls w (open-judged n ls w ∙ h) past in
         subst (λ es. Holds n ls es (moment n ls w past)) (z .1) (good-holds n ls (moment n ls w past) (z .0));
     applied = λ past rest b e. let z = moment-good n ls w (open-judged n ls w ∙ h) past in
-        subst (λ es. Applied n ls es (moment n ls w past) b) (z .1) ((steps n ls (moment n ls w past) b (z .0)) .applied);
+        subst (λ es. BatchHolds n ls es (moment n ls w past) b) (z .1) ((steps n ls (moment n ls w past) b (z .0)) .applied);
   };
 }
 
@@ -43,4 +43,4 @@ history n ls w = record {
 pub best-over-routes : BestOverRoutes
 best-over-routes n ls w h bs =
     let s = ((history n ls w) .later h bs) .holds bs [] (sym (append-nil bs)) in
-    record { standing = s .standing; query = λ q out tally e. (s .query q out tally e) .best }
+    record { rows = s .rows; query = λ q out tally e. (s .query q out tally e) .best }

@@ -1,18 +1,18 @@
 -- The table through a batch: accepted changes keep its rules and the limit of 2,048 edges, and what a batch writes into its lists is read
 -- back as the new edges. Assumes nothing.
-use mathlib.Core.Path.{_≡_, refl, ap, _∙_}
+use mathlib.Core.Path.{_≡_, ap, _∙_}
 use mathlib.Core.Bool.{Bool, true, false, not, _&&_, _||_, cond}
-use mathlib.Core.List.{List, [], _∷_, _++_, map, append-assoc}
-use Prim.Native.Nat.{ℕ, zero, suc, _-_, _≤_, _<_}
+use mathlib.Core.List.{List, [], _∷_, map, append-assoc}
+use Prim.Native.Nat.{ℕ, suc, _-_, _≤_, _<_}
 use native.Mathlib.Omega.{arith}
 use lib.ListN.{length, drop, replicate, length-append, length-drop, length-map, length-replicate}
 use lib.Dec.{ltb, eqb}
-use borrow.Author.Tests.{ltb-true, ltb-false, le-ltb, not-false}
+use borrow.Author.Tests.{ltb-true, le-ltb, not-false}
 use Rattle.graph.specs.Limits.{maxEdges}
 use Rattle.graph.specs.Refusal.{accept, refuseIf, over}
-use Rattle.graph.specs.Edge.{Edge, present, zip, edges}
-use Rattle.graph.specs.Table.{Columns, edgesOf, isWeight, rules, shortTable, table, insert, delete}
-use Rattle.graph.proofs.Tests.{both, and-true, neither}
+use Rattle.graph.specs.Edge.{Edge, present}
+use Rattle.graph.specs.Table.{Columns, edgesOf, isWeight, shortTable, table, insert, delete}
+use Rattle.graph.proofs.Tests.{both, and-true}
 use Rattle.graph.proofs.Records.{room-less, edges-length, edges-back}
 use Rattle.graph.proofs.Judging.{lengths-accept, table-accept}
 use Rattle.graph.proofs.Verdicts.{then-accept, accept-then, if-accept, accept-if}

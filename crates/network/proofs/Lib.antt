@@ -3,7 +3,7 @@ pub mod Refusals
 pub mod Examples
 pub mod Items
 pub mod Rows
-pub mod Suspects
+pub mod Reports
 pub mod Moment
 pub mod Query
 pub mod History

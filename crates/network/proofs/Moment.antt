@@ -24,9 +24,9 @@ use Rattle.network.specs.Change.{Change, items}
 use Rattle.network.specs.Batch.{batchRow, affectedOf, Report, newEdges, newForward, newBackward, stillWaiting, longBatch, batchFaults, batchVerdict, batchMemory, report, batchCall}
 use Rattle.network.specs.Caller.{opened, reported, handOn, lived}
 use Rattle.network.specs.Current.{turnedBack, after, current}
-use Rattle.network.specs.History.{Unworse, Reported, Applied, moment, now}
+use Rattle.network.specs.History.{Unworse, Reported, BatchHolds, moment, now}
 use Rattle.network.proofs.Items.{items-good, table-sound, accept-table, table-count, rewritten-edges, rewritten-long}
-use Rattle.network.proofs.Suspects.{rows-suspects}
+use Rattle.network.proofs.Reports.{rows-affected}
 use Rattle.network.proofs.Rows.{rows-long, open-sized, batch-sized, RowsBest, open-best, batch-rests, batch-best, batch-unworse}
 
 -- ---- the invariant
@@ -92,7 +92,7 @@ module _ (n : ℕ) (ls : List ℕ) (w : Network) where
 pub record Step (n : ℕ) (ls : List ℕ) (w : Network) (b : List Change) : Type 0 where
   pub kept : Good n ls (handOn w (batchCall n ls w b))
   pub moved : edgesIn (handOn w (batchCall n ls w b)) ≡ after n (edgesIn w) b
-  pub applied : Applied n ls (edgesIn w) w b
+  pub applied : BatchHolds n ls (edgesIn w) w b
 
 module _ (n : ℕ) (ls : List ℕ) (w : Network) (b : List Change) (g : Good n ls w) where
   -- the edges before and after the batch, and the rows before it
@@ -219,8 +219,8 @@ module _ (n : ℕ) (ls : List ℕ) (w : Network) (b : List Change) (g : Good n l
     reports = record {
       ahead = affectedOf n ls es fs ahead;
       back = affectedOf n ls (map reverse es) (map reverse fs) back;
-      forward = rows-suspects n ls es fs ahead old-in (rowsOf ls);
-      backward = rows-suspects n ls (map reverse es) (map reverse fs) back old-back (rowsOf ls);
+      forward = rows-affected n ls es fs ahead old-in (rowsOf ls);
+      backward = rows-affected n ls (map reverse es) (map reverse fs) back old-back (rowsOf ls);
       total = refl;
       count = refl;
     }

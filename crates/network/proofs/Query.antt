@@ -3,8 +3,8 @@
 use mathlib.Core.Path.{_≡_, refl, sym, ap, _∙_, subst}
 use mathlib.Core.Logic.{_⊎_, inl, inr, _≢_}
 use mathlib.Core.Bool.{not, false}
-use mathlib.Core.List.{List, [], _∷_, map, List·Memᴰ, List·Memᴰ·head, List·Memᴰ·tail, Memᴰ·map, Memᴰ·of-map}
-use Prim.Native.Nat.{ℕ, zero, suc, _-_, _/_, _%_, _≤_, _<_}
+use mathlib.Core.List.{List, map, List·Memᴰ, List·Memᴰ·head, List·Memᴰ·tail, Memᴰ·map, Memᴰ·of-map}
+use Prim.Native.Nat.{ℕ, suc, _-_, _/_, _%_, _≤_, _<_}
 use native.Mathlib.Nat.{mul-add-div-right, mul-add-mod-self-right, mod-eq-of-lt, div-eq-of-lt}
 use native.Mathlib.Omega.{arith}
 use lib.ListN.{length, getD, drop, List·getD-append}
@@ -32,7 +32,7 @@ use Rattle.theory.proofs.Reverse.{reversed-best}
 use Rattle.theory.proofs.Query.{by, Bounded, bound-under, bound-is, via, asked-source, asked-other, asked-good}
 use Rattle.network.specs.Network.{Network, edgesIn, rowCount, shortRows, landmarks, row, propertyOf, landmarkOf}
 use Rattle.network.specs.Query.{Query, Words, rowAt, scheduled, known, atStart, atRounds, atEnd, longSchedule, shortWords, requested, queryFaults, queryVerdict, answered, queryCall}
-use Rattle.network.specs.History.{Triangle, Answered}
+use Rattle.network.specs.History.{Triangle, QueryHolds}
 use Rattle.network.proofs.Moment.{Good, good-within}
 
 -- ---- lists and rows
@@ -191,7 +191,7 @@ module _ (n : ℕ) (ls : List ℕ) (w : Network) (g : Good n ls w) (q : Query) w
     end-word : (xs : List ℕ) (t : ℕ) → t < n → word P (over ((atEnd n ls w q) .words) xs) t ≡ word P ((atEnd n ls w q) .words) t
     end-word xs t h = read ((atEnd n ls w q) .words) xs t (end-good .words-n) h
 
-    well : (out : Words) → anyOf ((atEnd n ls w q) .waiting) ≡ false → Answered P n ls es s ((atEnd n ls w q) .tally) (answered n ls w q out)
+    well : (out : Words) → anyOf ((atEnd n ls w q) .waiting) ≡ false → QueryHolds P n ls es s ((atEnd n ls w q) .tally) (answered n ls w q out)
     well out rests = record {
       bounds = λ t h d. subst (Triangle P es ls s t) (sym (start-word (out .starts) t h d)) (triangle t);
       source = read ((atStart n ls w q) .words) (out .starts) s (start-good .words-n) source ∙ asked-source L J es s n inside source knowns ways rows s source refl;
@@ -205,12 +205,12 @@ module _ (n : ℕ) (ls : List ℕ) (w : Network) (g : Good n ls w) (q : Query) w
   -- start words are triangle bounds of best words: they keep the invariant of runs, and the schedule and the rounds go on keeping it. So
   -- its settled words are settled and best. A schedule counts no round, and there are at most n.
   pub query-good : (out : Words) (tally : Tally) → (queryCall n ls w q out) .reply ≡ accepted tally
-      → Answered P n ls es s tally ((queryCall n ls w q out) .memory)
+      → QueryHolds P n ls es s tally ((queryCall n ls w q out) .memory)
   unfolding queryCall
   query-good out tally h =
       let z = reply-accepted (queryVerdict n ls w q out) ((atEnd n ls w q) .tally) tally h in
       let a = then-accept (queryFaults n ls w q (length (out .starts)) (length (out .settled))) (refuseIf (anyOf ((atEnd n ls w q) .waiting)) 13 0) (z .0) in
       let r = query-request n ls w q (length (out .starts)) (length (out .settled)) (a .0) in
       let y = well (r .0) (r .1) (r .2) out (if-accept _ _ _ (a .1)) in
-      subst (Answered P n ls es s tally) (sym (choose-accept (answered n ls w q out) out (z .0)))
-      (subst (λ x. Answered P n ls es s x (answered n ls w q out)) (z .1) y)
+      subst (QueryHolds P n ls es s tally) (sym (choose-accept (answered n ls w q out) out (z .0)))
+      (subst (λ x. QueryHolds P n ls es s x (answered n ls w q out)) (z .1) y)

@@ -5,11 +5,11 @@
 use mathlib.Core.Path.{_≡_, refl}
 use mathlib.Core.List.{List, [], _∷_, _++_, map}
 use Prim.Native.Nat.{ℕ, _+_, _-_, _/_, _%_}
-use lib.ListN.{length, replicate}
+use lib.ListN.{replicate}
 use lib.ListN as list
 use Rattle.property.specs.Property.{property}
 use Rattle.frontier.specs.Waiting.{anyOf}
-use Rattle.graph.specs.Refusal.{Verdict, accept, refuse, _▷_, refuseIf, refused, replied, verdictOf}
+use Rattle.graph.specs.Refusal.{Verdict, accept, refuse, _▷_, refuseIf, replied, verdictOf}
 use Rattle.graph.specs.Edge.{Edge, edge, keep, exists, zip, edges, range}
 use Rattle.graph.specs.Table.{follow, rules, insert, delete}
 use Rattle.run.specs.Run.{clear, handle, visitIf, visit, takeIf, pass, round, settle}
@@ -24,10 +24,9 @@ use Rattle.network.specs.Query.{scheduled, queryCall, queryFaults}
 use Rattle.network.specs.Change.{Change, edit, item, items, words, against}
 use Rattle.network.specs.Batch.{batchCall, batchFaults}
 use Rattle.network.specs.Settled.{settled, settledCall}
-use Rattle.network.specs.Choice.{place, choiceCall}
+use Rattle.network.specs.Choice.{choiceCall}
 use Rattle.network.specs.Lookup.{lookupNumber}
 use Rattle.network.specs.Caller.{opened}
-use Rattle.network.specs.Current.{after}
 use Rattle.network.specs.Starred.{graphA, take, add}
 
 -- ---- numbers 1 to 6 of every call, in their order

@@ -3,7 +3,7 @@
 --
 --   turnedBack n es b   == what "Turned back" says of the batch b where the edges are es: 1, and 6 to 12 of its items. (On a network
 --                          of our calls n, the lists, the landmarks and the table are good, and nothing waits after n rounds, so that
---                          2 to 4 and 13 can't come: `Applied` claims that the call gives this very number and place.)
+--                          2 to 4 and 13 can't come: `BatchHolds` claims that the call gives this very number and place.)
 --   queryBack n q out   == what "Turned back" says of a query on a network of our calls: 1, 2, 5 and 6
 --   after n es b        == the edges after the batch b: its changes item by item where it is accepted, and else as they were
 --   current n es bs     == the network as it is now: the opening's edges es after the batches bs

@@ -4,15 +4,15 @@
 --
 --   Triangle P es ls s t v   == v is the triangle bound from s to t: the best, over the landmarks, of the best value to the landmark
 --                               joined with the best value on from it
---   Answered ..              == what an accepted query gives: bounds and the source's value, rounds, settled, best values
---   Standing n ls es w       == each word of the rows of w is the best value on the edges es, of its property, landmark and vertex
+--   QueryHolds ..            == what an accepted query gives: bounds and the source's value, rounds, settled, best values
+--   BestRows n ls es w       == each word of the rows of w is the best value on the edges es, of its property, landmark and vertex
 --   Holds n ls es w          == what holds of a network w whose edges are es: its records and count, its rows, and every query,
 --                               which is turned back as document 01 says and never for 13
 --   Unworse ..               == rows xs that become ys: a vertex that is not affected keeps its word or gets a better one
 --   Counted A i m k          == of the m numbers from i on, k are such that A
---   Suspects .. rs k         == the rows rs have k affected vertices in all
+--   TotalAffected .. rs k    == the rows rs have k affected vertices in all
 --   Reported .. r            == the report r has the affected vertices of all rows, no more and no fewer, and how many edges there are now
---   Applied n ls es w b      == what the batch b does to w: it is turned back as document 01 says, and then hands on words and
+--   BatchHolds n ls es w b   == what the batch b does to w: it is turned back as document 01 says, and then hands on words and
 --                               count as it found them; no word gets worse that is not affected; and what it reports
 --   moment n ls w bs         == the network after the opening on w and the batches bs
 --   now n w bs               == the network as it is now, at that moment
@@ -28,12 +28,12 @@ use mathlib.Core.List.{List, [], _∷_, _++_, map, List·Memᴰ}
 use Prim.Native.Nat.{ℕ, suc, _+_, _≤_, _<_}
 use lib.ListN.{length}
 use Rattle.property.specs.Property.{Property, property}
-use Rattle.graph.specs.Refusal.{accept, accepted, refused, verdictOf, Outcome}
+use Rattle.graph.specs.Refusal.{accept, accepted, refused, verdictOf}
 use Rattle.graph.specs.Edge.{Edge, reverse}
 use Rattle.graph.specs.Route.{Best}
 use Rattle.run.specs.Run.{Tally, word, relaxable}
 use Rattle.affected.specs.Affected.{Affected}
-use Rattle.network.specs.Network.{Memory, Network, edgesIn, faults, rowCount, row, propertyOf, landmarkOf, rowsOf}
+use Rattle.network.specs.Network.{Network, edgesIn, faults, rowCount, row, propertyOf, landmarkOf, rowsOf}
 use Rattle.network.specs.Open.{openCall}
 use Rattle.network.specs.Query.{Query, Words, queryCall}
 use Rattle.network.specs.Change.{Change}
@@ -47,7 +47,7 @@ pub record Triangle (P : Property) (es : List Edge) (ls : List ℕ) (s t v : ℕ
   pub unbettered : (l a b : ℕ) → List·Memᴰ l ls → Best P es s l a → Best P es l t b → P .better (P .join a b) v ≡ false
   pub attained : (l a b : ℕ) × List·Memᴰ l ls × Best P es s l a × Best P es l t b × (v ≡ P .join a b)
 
-pub record Answered (P : Property) (n : ℕ) (ls : List ℕ) (es : List Edge) (s : ℕ) (tally : Tally) (out : Words) : Type 0 where
+pub record QueryHolds (P : Property) (n : ℕ) (ls : List ℕ) (es : List Edge) (s : ℕ) (tally : Tally) (out : Words) : Type 0 where
   pub bounds : (t : ℕ) → t < n → t ≢ s → Triangle P es ls s t (word P (out .starts) t)
   pub source : word P (out .starts) s ≡ P .start
   pub quick : tally .rounds ≤ n
@@ -56,7 +56,7 @@ pub record Answered (P : Property) (n : ℕ) (ls : List ℕ) (es : List Edge) (s
 
 -- ---- any moment
 
-pub record Standing (n : ℕ) (ls : List ℕ) (es : List Edge) (w : Network) : Type 0 where
+pub record BestRows (n : ℕ) (ls : List ℕ) (es : List Edge) (w : Network) : Type 0 where
   pub forward : (r t : ℕ) → r < rowCount ls → t < n
       → Best (propertyOf r) es (landmarkOf ls r) t (word (propertyOf r) (row n r (w .memory .rows .forward)) t)
   pub backward : (r t : ℕ) → r < rowCount ls → t < n
@@ -65,10 +65,10 @@ pub record Standing (n : ℕ) (ls : List ℕ) (es : List Edge) (w : Network) : T
 pub record Holds (n : ℕ) (ls : List ℕ) (es : List Edge) (w : Network) : Type 0 where
   pub records : edgesIn w ≡ es
   pub count : w .count ≡ length es
-  pub standing : Standing n ls es w
+  pub rows : BestRows n ls es w
   pub judged : (q : Query) (out : Words) → verdictOf ((queryCall n ls w q out) .reply) ≡ queryBack n q out
   pub query : (q : Query) (out : Words) (tally : Tally) → (queryCall n ls w q out) .reply ≡ accepted tally
-      → Answered (property (q .property)) n ls es (q .source) tally ((queryCall n ls w q out) .memory)
+      → QueryHolds (property (q .property)) n ls es (q .source) tally ((queryCall n ls w q out) .memory)
 
 -- ---- one batch of the list
 
@@ -82,20 +82,20 @@ pub data Counted (A : ℕ → Type 0) : ℕ → ℕ → ℕ → Type 0 where
   one : {i m k : ℕ} → A i → Counted A (suc i) m k → Counted A i (suc m) (suc k)
   other : {i m k : ℕ} → (A i → ⊥) → Counted A (suc i) m k → Counted A i (suc m) k
 
-pub data Suspects (n : ℕ) (ls : List ℕ) (es fs : List Edge) (xs : List ℕ) : List ℕ → ℕ → Type 0 where
-  none : Suspects n ls es fs xs [] 0
-  more : {r a k : ℕ} {rs : List ℕ} → Counted (Affected (propertyOf r) es fs (landmarkOf ls r) (row n r xs)) 0 n a → Suspects n ls es fs xs rs k
-      → Suspects n ls es fs xs (r ∷ rs) (a + k)
+pub data TotalAffected (n : ℕ) (ls : List ℕ) (es fs : List Edge) (xs : List ℕ) : List ℕ → ℕ → Type 0 where
+  none : TotalAffected n ls es fs xs [] 0
+  more : {r a k : ℕ} {rs : List ℕ} → Counted (Affected (propertyOf r) es fs (landmarkOf ls r) (row n r xs)) 0 n a → TotalAffected n ls es fs xs rs k
+      → TotalAffected n ls es fs xs (r ∷ rs) (a + k)
 
 pub record Reported (n : ℕ) (ls : List ℕ) (es fs : List Edge) (w : Network) (r : Report) : Type 0 where
   pub ahead : ℕ
   pub back : ℕ
-  pub forward : Suspects n ls es fs (w .memory .rows .forward) (rowsOf ls) ahead
-  pub backward : Suspects n ls (map reverse es) (map reverse fs) (w .memory .rows .backward) (rowsOf ls) back
+  pub forward : TotalAffected n ls es fs (w .memory .rows .forward) (rowsOf ls) ahead
+  pub backward : TotalAffected n ls (map reverse es) (map reverse fs) (w .memory .rows .backward) (rowsOf ls) back
   pub total : r .affected ≡ ahead + back
   pub count : r .count ≡ length fs
 
-pub record Applied (n : ℕ) (ls : List ℕ) (es : List Edge) (w : Network) (b : List Change) : Type 0 where
+pub record BatchHolds (n : ℕ) (ls : List ℕ) (es : List Edge) (w : Network) (b : List Change) : Type 0 where
   pub judged : verdictOf ((batchCall n ls w b) .reply) ≡ turnedBack n es b
   pub kept : (k i : ℕ) → (batchCall n ls w b) .reply ≡ refused k i → handOn w (batchCall n ls w b) ≡ w
   pub forward : Unworse n ls es (after n es b) (w .memory .rows .forward) ((batchCall n ls w b) .memory .rows .forward)
@@ -115,7 +115,7 @@ now n w bs = current n (edgesIn w) bs
 pub record Past (n : ℕ) (ls : List ℕ) (w : Network) (bs : List (List Change)) : Type 0 where
   pub holds : (past rest : List (List Change)) → bs ≡ past ++ rest → Holds n ls (now n w past) (moment n ls w past)
   pub applied : (past rest : List (List Change)) (b : List Change) → bs ≡ past ++ b ∷ rest
-      → Applied n ls (now n w past) (moment n ls w past) b
+      → BatchHolds n ls (now n w past) (moment n ls w past) b
 
 pub record Lifetime (n : ℕ) (ls : List ℕ) (w : Network) : Type 0 where
   pub judged : verdictOf ((openCall n ls w) .reply) ≡ faults n ls w
@@ -127,7 +127,7 @@ History = (n : ℕ) (ls : List ℕ) (w : Network) → Lifetime n ls w
 -- ---- demand 2
 
 pub record RoutesBest (n : ℕ) (ls : List ℕ) (es : List Edge) (w : Network) : Type 0 where
-  pub standing : Standing n ls es w
+  pub rows : BestRows n ls es w
   pub query : (q : Query) (out : Words) (tally : Tally) → (queryCall n ls w q out) .reply ≡ accepted tally → (t : ℕ) → t < n
       → Best (property (q .property)) es (q .source) t (word (property (q .property)) ((queryCall n ls w q out) .memory .settled) t)
 

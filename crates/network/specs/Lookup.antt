@@ -4,7 +4,7 @@
 --   lookupVerdict           == numbers 1, 2, 3 (also a landmark not in the list), 5 (also a side neither 0 nor 1)
 --   lookupRow               == the row that is shown: a part of the list of its side; the empty part where the look-up is refused
 --   lookupNumber            == the call on the same inputs that gives the number
-use mathlib.Core.Bool.{not, _&&_, _||_, cond}
+use mathlib.Core.Bool.{not, _||_, cond}
 use mathlib.Core.List.{List, [], _∷_}
 use Prim.Native.Nat.{ℕ, suc}
 use lib.Dec.{eqb, ltb}

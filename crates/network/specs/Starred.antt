@@ -20,15 +20,15 @@
 --   onA, alone               == a line about Deck A, about one vertex and no edge
 use mathlib.Core.Path.{_≡_}
 use mathlib.Core.Bool.{Bool, true, false}
-use mathlib.Core.List.{List, [], _∷_, _++_, map}
-use Prim.Native.Nat.{ℕ, zero, suc, _+_, _*_, _-_}
-use lib.ListN.{length, replicate}
+use mathlib.Core.List.{List, [], _∷_, map}
+use Prim.Native.Nat.{ℕ, zero, suc}
+use lib.ListN.{replicate}
 use Rattle.property.specs.Property.{M}
-use Rattle.graph.specs.Refusal.{Reply, accepted, refused, Outcome}
+use Rattle.graph.specs.Refusal.{Reply, accepted, refused}
 use Rattle.graph.specs.Edge.{Edge, edge, reverse}
 use Rattle.run.specs.Run.{Tally}
 use Rattle.network.specs.Network.{Network, edgesIn}
-use Rattle.network.specs.Query.{Query, Words, rowAt, queryCall}
+use Rattle.network.specs.Query.{rowAt, queryCall}
 use Rattle.network.specs.Change.{Change}
 use Rattle.network.specs.Batch.{affectedIn, Report, newEdges, batchCall}
 use Rattle.network.specs.Caller.{holding, opened, lived}

@@ -1,23 +1,21 @@
 -- The run of a row as its functions leave it, what an accepted network tells an opening, and the opening's outcome. Assumes nothing.
 use mathlib.Core.Path.{_≡_, sym, ap, ap₂, _∙_}
 use mathlib.Core.Bool.{Bool, true, false, _||_}
-use mathlib.Core.List.{List, [], _∷_, map}
-use Prim.Native.Nat.{ℕ, zero, suc, _+_, _*_, _/_, _%_, _≤_, _<_}
+use mathlib.Core.List.{List, map}
+use Prim.Native.Nat.{ℕ, _+_, _*_, _/_, _%_, _≤_}
 use native.Mathlib.Nat.{mul-le-mul}
 use native.Mathlib.Numerals.{add-one}
 use native.Mathlib.Omega.{arith}
 use lib.ListN.{length, getD}
 use lib.Seq.{paste}
-use lib.Dec.{ltb}
 use Rattle.property.specs.Property.{property}
 use Rattle.frontier.specs.Waiting.{waitingOf, anyOf}
 use Rattle.graph.specs.declared.Judged.{Judged}
 use Rattle.graph.specs.declared.Judged.the-variants as judged
-use Rattle.graph.specs.Refusal.{accept, refuse, _▷_, refuseIf, replied, choose}
+use Rattle.graph.specs.Refusal.{accept, refuse, refuseIf, replied, choose}
 use Rattle.graph.specs.Edge.{Edge, reverse}
 use Rattle.graph.specs.Table.{size, shortTable, table}
 use Rattle.graph.specs.Code.{told, columns}
-use Rattle.graph.proofs.Tests.{both}
 use Rattle.graph.proofs.Records.{room-less}
 use Rattle.graph.proofs.Verdicts.{then-accept, accept-then, refuse-then}
 use Rattle.run.specs.declared.Tally.{Tally}

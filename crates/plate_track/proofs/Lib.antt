@@ -1,4 +1,2 @@
 mod Spelling
-mod Choosing
 mod Rows
-mod Unpacking

@@ -1,63 +1,25 @@
 -- What a caller in C gets: each call's outcome, spelled as a number and words. Assumes nothing.
 --
---   replyWords             == how many words a reply list has at least
 --   Spelled L              == the number that is returned, the reply list and everything else that is lent, at exit
---   numberOf r             == the refusal number of a reply; 0 where it is accepted
---   wordsOf f r            == the words of a reply: f of what is answered, or the place of a refusal
---   Tells f r k xs ys      == k and ys spell the reply r, where xs was the reply list: words past those of the reply stay
 --   spelled f o old xs     == the outcome o, spelled into the reply list xs: a list that is too short is number 2, and all that was
 --                             lent, old, is as before
 --   alone r                == a reply as the outcome of a call that writes nothing
---   openWords              == an opening tells only that it was accepted
---   tallyWords             == taken, rounds, stores
---   reportWords            == count, affected, stores
---   checkWords             == 1 where settled; else 0, side, row, record
---   choiceWords            == how many, then the four places
---   sizeWords              == n and the count of a network that was read
---   oneWord                == a single number: where a row starts, how long a text is, how many sources there are
 --   lookupStart            == where the row that a look-up shows starts in its list
---   wordsAt j cs           == word j of each of the changes cs
---   changeOf c             == four words as a change record
---   changesOf cs           == a list of four words each as change records
-use mathlib.Core.Path.{_≡_}
 use mathlib.Core.Bool.{cond}
-use mathlib.Core.List.{List, [], _∷_, map}
+use mathlib.Core.List.{List}
 use Prim.Native.Nat.{ℕ, _*_}
-use lib.ListN.{length, getD}
+use lib.ListN.{length}
 use lib.Dec.{ltb}
-use Rattle.graph.specs.Refusal.{Reply, accepted, refused, replied, Outcome, over}
-use Rattle.run.specs.Run.{Tally}
+use Rattle.graph.specs.Refusal.{Reply, replied, Outcome, over}
 use Rattle.network.specs.Network.{Rows}
 use Rattle.network.specs.Query.{rowAt}
-use Rattle.network.specs.Batch.{Report}
-use Rattle.network.specs.Settled.{Check, settled, found}
 use Rattle.network.specs.Lookup.{indexOf, lookupVerdict}
-use Rattle.network.specs.Change.{Change}
-use Rattle.inspect.specs.Code.{padded}
-use Rattle.items.specs.Code.{change}
-use Rattle.dimacs.specs.Call.{Size}
-
-abbrev pub replyWords : ℕ
-replyWords = 8
-
--- ---- a reply as number and words
+use Rattle.spelling.specs.Code.{replyWords, numberOf, wordsOf}
 
 pub record Spelled (L : Type 0) : Type 0 where
   pub number : ℕ
   pub reply : List ℕ
   pub memory : L
-
-unfoldable pub numberOf : {A : Type 0} → Reply A → ℕ
-numberOf (accepted a) = 0
-numberOf (refused k i) = k
-
-unfoldable pub wordsOf : {A : Type 0} → (A → List ℕ) → Reply A → List ℕ
-wordsOf f (accepted a) = f a
-wordsOf f (refused k i) = i ∷ []
-
-pub record Tells {A : Type 0} (f : A → List ℕ) (r : Reply A) (k : ℕ) (xs ys : List ℕ) : Type 0 where
-  pub number : k ≡ numberOf r
-  pub reply : ys ≡ over (wordsOf f r) xs
 
 unfoldable pub spelled : {A L : Type 0} → (A → List ℕ) → Outcome A L → L → List ℕ → Spelled L
 spelled f o old xs =
@@ -68,40 +30,5 @@ spelled f o old xs =
 abbrev pub alone : {A : Type 0} → Reply A → Outcome A (Unit {0})
 alone r = record { reply = r; memory = tt }
 
--- ---- what is answered, as words
-
-abbrev pub openWords : Unit {0} → List ℕ
-openWords t = []
-
-abbrev pub tallyWords : Tally → List ℕ
-tallyWords t = t .taken ∷ t .rounds ∷ t .stores ∷ []
-
-abbrev pub reportWords : Report → List ℕ
-reportWords r = r .count ∷ r .affected ∷ r .stores ∷ []
-
-unfoldable pub checkWords : Check → List ℕ
-checkWords settled = 1 ∷ []
-checkWords (found side r j) = 0 ∷ side ∷ r ∷ j ∷ []
-
-abbrev pub choiceWords : List ℕ → List ℕ
-choiceWords us = length us ∷ padded us
-
-abbrev pub sizeWords : Size → List ℕ
-sizeWords s = s .vertices ∷ s .count ∷ []
-
-abbrev pub oneWord : ℕ → List ℕ
-oneWord i = i ∷ []
-
 abbrev pub lookupStart : ℕ → List ℕ → Rows → ℕ → ℕ → ℕ → Reply ℕ
 lookupStart n ls xs side l p = replied (lookupVerdict n ls xs side l p) (rowAt (indexOf l ls) p * n)
-
--- ---- changes
-
-unfoldable pub wordsAt : ℕ → List (List ℕ) → List ℕ
-wordsAt j cs = map (λ (c : List ℕ). getD c j 0) cs
-
-abbrev pub changeOf : List ℕ → Change
-changeOf c = change (getD c 0 0) (getD c 1 0) (getD c 2 0) (getD c 3 0)
-
-abbrev pub changesOf : List (List ℕ) → List Change
-changesOf cs = map changeOf cs

@@ -1,9 +1,8 @@
 // The calls for C. Each calls the proved call and spells its reply: the refusal number is returned, 0 where the call is accepted, and
 // the reply list gets the words of the answer, or the place of a refusal. A reply list of fewer than 8 words is number 2.
-pub mod spell;
-pub mod unpack;
-
 use graph::Judged;
+use spelling::spell;
+use spelling::unpack;
 ghost use mathlib.Core.Path.{_≡_};
 ghost use Rattle.network.specs.Open.{openCall};
 ghost use Rattle.network.specs.Query.{queryCall};
@@ -14,7 +13,8 @@ ghost use Rattle.dimacs.specs.Call.{readCall, writeCall, sourcesCall};
 ghost use Rattle.graph.specs.Code.{columns};
 ghost use Rattle.calls.specs.Code.{rowLists, lists, network};
 ghost use Rattle.query.specs.Code.{asking, wordsOf};
-ghost use Rattle.plate_track.specs.Code.{spelled, alone, openWords, tallyWords, reportWords, checkWords, choiceWords, sizeWords, oneWord, lookupStart, changesOf};
+ghost use Rattle.spelling.specs.Code.{openWords, tallyWords, reportWords, checkWords, choiceWords, sizeWords, oneWord, changesOf};
+ghost use Rattle.plate_track.specs.Code.{spelled, alone, lookupStart};
 
 // Opening.
 #[no_mangle]

@@ -5,20 +5,11 @@
 --   true-or-false       == the two ways that a test can come out, to go by
 use mathlib.Core.Path.{_≡_, refl}
 use mathlib.Core.Bool.{Bool, true, false}
-use mathlib.Core.Logic.{_⊎_, inl, inr}
 use native.Mathlib.Omega.{arith}
 use borrow.Author.Tests.{ltb-true, ltb-false, lt-ltb, le-ltb, leb-true, leb-false, le-leb, lt-leb, eqb-true, eqb-false, eq-eqb, ne-eqb}
 
 pub ruleset tests = (ltb-true, ltb-false, lt-ltb, le-ltb, leb-true, leb-false, le-leb, lt-leb, eqb-true, eqb-false, eq-eqb, ne-eqb, arith)
 
-pub is-true : (t : Bool) → (t ≡ false → ⊥) → t ≡ true
-is-true true h = refl
-is-true false h = absurd (h refl)
-
 pub is-false : (t : Bool) → (t ≡ true → ⊥) → t ≡ false
 is-false true h = absurd (h refl)
 is-false false h = refl
-
-pub true-or-false : (t : Bool) → (t ≡ true) ⊎ (t ≡ false)
-true-or-false true = inl refl
-true-or-false false = inr refl

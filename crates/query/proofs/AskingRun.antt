@@ -11,7 +11,7 @@ use Rattle.property.specs.Property.{Property}
 use Rattle.frontier.specs.Waiting.{anyOf}
 use Rattle.graph.specs.declared.Judged.{Judged}
 use Rattle.graph.specs.declared.Judged.the-variants as judged
-use Rattle.graph.specs.Refusal.{Verdict, accept, refuse, refuseIf, accepted, refused, replied, choose, outcome, over}
+use Rattle.graph.specs.Refusal.{accept, refuseIf, accepted, over}
 use Rattle.graph.specs.Code.{told}
 use Rattle.graph.proofs.Verdicts.{accept-then, refuse-then, outcome-refused, outcome-accepted}
 use Rattle.run.specs.declared.Tally.{Tally}

@@ -1,5 +1,4 @@
 // A query: its refusals, its start words, its run.
-use frontier::Words;
 use graph::Judged;
 use graph::rules;
 use run::Tally;

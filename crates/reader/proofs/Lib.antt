@@ -1,7 +1,3 @@
-pub mod Answers
-pub mod Caps
-pub mod Fields
-pub mod Feeds
 pub mod Marks
 pub mod Steps
 pub mod Fronts

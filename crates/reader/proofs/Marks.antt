@@ -1,14 +1,17 @@
--- A line is told by its mark: the readers try one mark after the other, and no line has two. Assumes nothing.
+-- What a line says, by its mark and its fields. The readers try one mark after the other, and no line has two. Assumes nothing.
 use mathlib.Core.Path.{_≡_, refl, sym, _∙_}
 use mathlib.Core.Bool.{Bool, true, false}
-use mathlib.Core.List.{List, [], _∷_}
+use mathlib.Core.List.{List, [], _∷_, map}
 use mathlib.Core.Option.{Option, none, some, bind}
 use Prim.Native.Nat.{ℕ}
 use lib.Dec.{eqb}
 use borrow.Author.Tests.{eqb-true, ne-eqb}
 use Rattle.dimacs.specs.Read.{after}
 use Rattle.dimacs.specs.Network.{orElse}
-use Rattle.reader.proofs.Answers.{none-some}
+use Rattle.dimacs.proofs.Options.{none-some, some-same}
+use Rattle.scanner.specs.Capped.{cap, capFields}
+
+-- ---- marks
 
 -- a line does not begin with two marks whose first bytes differ
 after-apart : (c d : ℕ) (p q l r : List ℕ) → (c ≡ d → ⊥) → some r ≡ after (c ∷ p) l → after (d ∷ q) l ≡ none
@@ -38,3 +41,18 @@ module _ {A : Type 0} (f g : List ℕ → Option A) where
   pub neither-mark : (p q l : List ℕ) → none ≡ after p l → none ≡ after q l → none ≡ orElse (bind (after p l) f) (bind (after q l) g)
   unfolding bind orElse
   neither-mark p q l e h = rw (← e, ← h)
+
+-- ---- fields, their numbers capped
+
+module _ {A : Type 0} (f : List ℕ → Option A) where
+  pub fields-lost : (o : Option (List ℕ)) → none ≡ capFields o → none ≡ bind o f
+  unfolding capFields bind
+  fields-lost none h = refl
+  fields-lost (some vs) h = absurd (none-some h)
+
+  -- what is said by fields whose capped numbers are ws; g caps an item
+  pub fields-read : (g : Option A → Option A) (ws : List ℕ) (x : Option A) → ((vs : List ℕ) → map cap vs ≡ ws → x ≡ g (f vs))
+      → (o : Option (List ℕ)) → some ws ≡ capFields o → x ≡ g (bind o f)
+  unfolding capFields bind
+  fields-read g ws x k none h = absurd (none-some (sym h))
+  fields-read g ws x k (some vs) h = k vs (sym (some-same h))

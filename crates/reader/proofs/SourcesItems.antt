@@ -1,33 +1,26 @@
 -- What a line of a source file says, from its number and its mark. Assumes nothing.
-use mathlib.Core.Path.{_≡_, refl, sym}
+use mathlib.Core.Path.{_≡_, refl, sym, ap}
 use mathlib.Core.List.{List, [], _∷_, map}
 use mathlib.Core.Option.{Option, none, some, bind}
 use Prim.Native.Nat.{ℕ, zero, suc}
 use native.Mathlib.Omega.{arith}
-use lib.ListN.{drop}
+use lib.ListN.{length, drop}
 use Rattle.dimacs.specs.Read.{after, fields}
 use Rattle.dimacs.specs.Sources.{Item, header, source, headerMark, sourceMark, headerFrom, sourceFrom, itemIn}
-use Rattle.reader.specs.Capped.{cap, capVertex, capFields, capSource, capSources}
-use Rattle.reader.proofs.Answers.{none-some, some-same, other-lists}
-use Rattle.reader.proofs.Marks.{first-mark, second-mark, neither-mark}
+use Rattle.scanner.specs.Capped.{cap, capFields}
+use Rattle.reader.specs.Capped.{capVertex, capSource, capSources}
+use Rattle.reader.proofs.Marks.{first-mark, second-mark, neither-mark, fields-read}
 
 -- ---- p lines
 
 header-one : (vs : List ℕ) (k : ℕ) → map cap vs ≡ k ∷ [] → some (header k) ≡ capSources (headerFrom vs)
 unfolding headerFrom capSources capSource
-header-one [] k h = absurd (other-lists h (λ z. omega arith))
+header-one [] k h = absurd (omega (arith, ap length h))
 header-one (x ∷ []) k h = let p : cap x ≡ k = cc in rw p
-header-one (x ∷ y ∷ ys) k h = absurd (other-lists h (λ z. omega arith))
-
-pub header-lost : (o : Option (List ℕ)) → none ≡ capFields o → none ≡ capSources (bind o headerFrom)
-unfolding capFields bind capSources
-header-lost none h = refl
-header-lost (some vs) h = absurd (none-some h)
+header-one (x ∷ y ∷ ys) k h = absurd (omega (arith, ap length h))
 
 pub header-read : (o : Option (List ℕ)) (k : ℕ) → some (k ∷ []) ≡ capFields o → some (header k) ≡ capSources (bind o headerFrom)
-unfolding capFields bind
-header-read none k h = absurd (none-some (sym h))
-header-read (some vs) k h = header-one vs k (sym (some-same h))
+header-read o k h = fields-read headerFrom capSources (k ∷ []) (some (header k)) (λ vs. header-one vs k) o h
 
 -- ---- s lines
 
@@ -46,19 +39,12 @@ source-capped zero v p = sym (source-zero v (omega arith))
 source-capped (suc x) v p = sym (source-vertex v (capVertex x) (omega arith))
 
 source-one : (vs : List ℕ) (v : ℕ) → map cap vs ≡ v ∷ [] → sourceFrom (v ∷ []) ≡ capSources (sourceFrom vs)
-source-one [] v h = absurd (other-lists h (λ z. omega arith))
+source-one [] v h = absurd (omega (arith, ap length h))
 source-one (x ∷ []) v h = source-capped x v (cc)
-source-one (x ∷ y ∷ ys) v h = absurd (other-lists h (λ z. omega arith))
-
-pub source-lost : (o : Option (List ℕ)) → none ≡ capFields o → none ≡ capSources (bind o sourceFrom)
-unfolding capFields bind capSources
-source-lost none h = refl
-source-lost (some vs) h = absurd (none-some h)
+source-one (x ∷ y ∷ ys) v h = absurd (omega (arith, ap length h))
 
 pub source-read : (o : Option (List ℕ)) (v : ℕ) → some (v ∷ []) ≡ capFields o → sourceFrom (v ∷ []) ≡ capSources (bind o sourceFrom)
-unfolding capFields bind
-source-read none v h = absurd (none-some (sym h))
-source-read (some vs) v h = source-one vs v (sym (some-same h))
+source-read o v h = fields-read sourceFrom capSources (v ∷ []) (sourceFrom (v ∷ [])) (λ vs. source-one vs v) o h
 
 -- ---- marks
 

@@ -1,6 +1,5 @@
 -- The state of the reader of source files after a line, at the end, and the call as a whole. Assumes nothing.
-use mathlib.Core.Path.{_≡_, refl, sym, ap}
-use mathlib.Core.Bool.{Bool, true, false, _&&_}
+use mathlib.Core.Path.{_≡_, refl, ap}
 use mathlib.Core.List.{List, []}
 use mathlib.Core.Option.{Option, none, some, bind}
 use Prim.Native.Nat.{ℕ, _+_, _≤_, _<_}
@@ -8,16 +7,14 @@ use native.Mathlib.Numerals.{add-one}
 use native.Mathlib.Omega.{arith}
 use lib.ListN.{length, set, take}
 use lib.Seq.{length-take-le, take-suc-set}
-use lib.Dec.{ltb, leb, eqb}
-use borrow.Author.Tests.{lt-ltb, le-ltb, lt-leb, le-leb, ltb-true, ltb-false, leb-true, eq-eqb, ne-eqb}
+use borrow.Author.Tests.{lt-ltb, le-ltb, lt-leb, le-leb, eq-eqb, ne-eqb}
 use Rattle.graph.specs.Limits.{maxVertices}
 use Rattle.graph.specs.Refusal.{accept, refuse, _▷_, refuseIf, replied, choose, over}
 use Rattle.graph.specs.Table.{size}
-use Rattle.graph.proofs.Tests.{neither}
-use Rattle.graph.proofs.Verdicts.{if-accept}
 use Rattle.dimacs.specs.Read.{Read, good, bad, ended}
 use Rattle.dimacs.specs.Sources as src
 use Rattle.dimacs.specs.Call.{judged, sourcesRead, sourcesCall}
+use Rattle.dimacs.proofs.Caps.{header-capped, source-capped}
 use Rattle.reader.specs.declared.sources.State.{State}
 use Rattle.reader.specs.declared.sources.State.the-variants.{Start, Within}
 use Rattle.reader.specs.declared.sources.Step.{Step}
@@ -25,45 +22,17 @@ use Rattle.reader.specs.declared.sources.Step.the-variants as step
 use Rattle.reader.specs.declared.sources.Text.{Text}
 use Rattle.reader.specs.declared.sources.Text.the-variants as text
 use Rattle.reader.specs.declared.sources.SourcesReply.the-variants as reply
-use Rattle.reader.specs.Capped.{cap, capVertex, capSource, capSources}
+use Rattle.reader.specs.Capped.{capSource, capSources}
 use Rattle.reader.specs.SourcesCode.{Held, Keeps, Whole, stateOf, stepOf, readOf, reading, sourcesOutcome}
 
 -- ---- capped numbers: all limits lie below the cap
 
-header-capped : (n k : ℕ) → src.act n src.start (src.header (cap k)) ≡ src.act n src.start (src.header k)
-unfolding src.act
-header-capped n k = pick (leb (cap k) src.maxSources) (leb k src.maxSources) refl refl
-  where
-    same : cap k ≡ k → src.act n src.start (src.header (cap k)) ≡ src.act n src.start (src.header k)
-    same p = ap (λ (x : ℕ). src.act n src.start (src.header x)) p
-
-    pick : (t u : Bool) → leb (cap k) src.maxSources ≡ t → leb k src.maxSources ≡ u → src.act n src.start (src.header (cap k)) ≡ src.act n src.start (src.header k)
-    pick true u p q = same (omega (arith, leb-true (cap k) src.maxSources p))
-    pick false true p q = same (omega (arith, leb-true k src.maxSources q))
-    pick false false p q = rw (p, q)
-
-source-capped : (n k : ℕ) (ss : List ℕ) (v : ℕ) → n ≤ maxVertices → src.act n (src.within k ss) (src.source (capVertex v)) ≡ src.act n (src.within k ss) (src.source v)
-unfolding src.act
-source-capped n k ss v l = pick (ltb (capVertex v) n) (ltb v n) refl refl
-  where
-    same : capVertex v ≡ v → src.act n (src.within k ss) (src.source (capVertex v)) ≡ src.act n (src.within k ss) (src.source v)
-    same p = ap (λ (x : ℕ). src.act n (src.within k ss) (src.source x)) p
-
-    refused : (b : Bool) → (b && false) ≡ false
-    refused true = refl
-    refused false = refl
-
-    pick : (t u : Bool) → ltb (capVertex v) n ≡ t → ltb v n ≡ u → src.act n (src.within k ss) (src.source (capVertex v)) ≡ src.act n (src.within k ss) (src.source v)
-    pick true u p q = same (omega (arith, ltb-true (capVertex v) n p))
-    pick false true p q = same (omega (arith, ltb-true v n q))
-    pick false false p q = rw (p, q, refused (ltb (length ss) k))
-
 act-capped : (n : ℕ) (st : src.State) (x : src.Item) → n ≤ maxVertices → src.act n st (capSource x) ≡ src.act n st x
 unfolding capSource src.act
-act-capped n src.start (src.header k) l = header-capped n k
+act-capped n src.start (src.header k) l = header-capped 65536 (omega arith) n k
 act-capped n (src.within j ss) (src.header k) l = refl
 act-capped n src.start (src.source v) l = refl
-act-capped n (src.within k ss) (src.source v) l = source-capped n k ss v l
+act-capped n (src.within k ss) (src.source v) l = source-capped 65536 n (omega arith) k ss v
 
 pub said-capped : (n : ℕ) (st : src.State) (o : Option src.Item) → n ≤ maxVertices → bind (capSources o) (src.act n st) ≡ bind o (src.act n st)
 unfolding bind capSources
@@ -169,9 +138,6 @@ module _ {r : Text} (xs : List ℕ) where
   text-whole q h = rw q at h
 
 -- ---- the call
-
-pub size-small : (n : ℕ) → accept ≡ size n → n ≤ maxVertices
-size-small n e = ltb-false maxVertices n (neither (eqb n 0) (ltb maxVertices n) (if-accept _ 1 0 (sym e)) .1)
 
 module _ (n : ℕ) (bytes out : List ℕ) where
   pub call-size : {k i : ℕ} → refuse k i ≡ size n → sourcesOutcome (reply.Refused k i) out ≡ sourcesCall n bytes out

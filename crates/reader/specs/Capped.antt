@@ -1,48 +1,18 @@
--- What the program knows of a number: itself up to 65,535, and that it is greater beyond. All limits lie below. Assumes nothing.
+-- Items as the program knows them: each number itself up to 65,535, and greater beyond. All limits lie below. Assumes nothing.
 --
---   cap v         == v, or 65,536 where v is greater
 --   capVertex v   == the vertex, from 0, that a capped number names
---   capScan v s   == scan with its number capped
---   capNumber o   == what number gives, with its number capped
---   field s       == a single space and a number, and what follows
---   capFields o   == what fields gives, with its numbers capped
 --   capNetwork o  == an item of network text with its numbers capped
 --   capSources o  == an item of a source file with its numbers capped
---   starts c s    == the first byte of s is c
---   commented s   == a line of which s stands after its `c` is a comment
 --   capItem x     == the item with its numbers capped, of network text; capSource x of a source file
-use mathlib.Core.Bool.{Bool, true, false}
-use mathlib.Core.List.{List, [], _∷_, map}
-use mathlib.Core.Option.{Option, none, some, bind}
+use mathlib.Core.Option.{Option, none, some}
 use Prim.Native.Nat.{ℕ, min}
-use lib.Dec.{eqb}
 use Rattle.graph.specs.Edge.{edge}
-use Rattle.dimacs.specs.Decimal.{scan, number}
-use Rattle.dimacs.specs.Read.{after}
 use Rattle.dimacs.specs.Network as net
 use Rattle.dimacs.specs.Sources as src
-
-abbrev pub cap : ℕ → ℕ
-cap v = min v 65536
+use Rattle.scanner.specs.Capped.{cap}
 
 abbrev pub capVertex : ℕ → ℕ
 capVertex v = min v 65535
-
-unfoldable pub capScan : ℕ → List ℕ → ℕ × List ℕ
-capScan v s = (cap (scan v s .0), scan v s .1)
-
-unfoldable pub capNumber : Option (ℕ × List ℕ) → Option (ℕ × List ℕ)
-capNumber none = none
-capNumber (some q) = some (cap (q .0), q .1)
-
-unfoldable pub field : List ℕ → Option (ℕ × List ℕ)
-field s = bind (after (32 ∷ []) s) number
-
-unfoldable pub capFields : Option (List ℕ) → Option (List ℕ)
-capFields none = none
-capFields (some vs) = some (map cap vs)
-
--- ---- items
 
 unfoldable pub capItem : net.Item → net.Item
 capItem (net.problem n m) = net.problem (cap n) (cap m)
@@ -59,13 +29,3 @@ capSource (src.source v) = src.source (capVertex v)
 unfoldable pub capSources : Option src.Item → Option src.Item
 capSources none = none
 capSources (some x) = some (capSource x)
-
--- ---- first bytes
-
-unfoldable pub starts : ℕ → List ℕ → Bool
-starts c [] = false
-starts c (b ∷ s) = eqb b c
-
-unfoldable pub commented : List ℕ → Bool
-commented [] = true
-commented (b ∷ s) = eqb b 32

@@ -1,4 +1,3 @@
 pub mod Capped
-pub mod Code
 pub mod NetworkCode
 pub mod SourcesCode

@@ -1,11 +1,10 @@
 // Source files, read line by line into a scratch list; the lent list is written once the whole file is good.
-use super::lines;
-use super::lines::Feed;
-use super::numbers;
-use super::numbers::One;
 use graph::Judged;
 use graph::rules;
 use graph::words;
+use scanner::Feed;
+use scanner::numbers;
+use scanner::numbers::One;
 ghost use mathlib.Core.Path.{_≡_};
 ghost use mathlib.Core.List.{List, []};
 ghost use mathlib.Core.Option.{bind};
@@ -76,10 +75,10 @@ fn read_source(line: &[u8]) -> Said
 fn read_item(line: &[u8]) -> Said
     ensures { λ r. ⌜ itemSaid r ≡ capSources (itemIn (now (line .entry))) ⌝ }
 {
-    if lines::begins(line, b"p aux sp ss") {
+    if scanner::begins(line, b"p aux sp ss") {
         return read_header(line);
     }
-    if lines::begins(line, b"s") {
+    if scanner::begins(line, b"s") {
         return read_source(line);
     }
     Said::Nothing
@@ -138,7 +137,7 @@ fn take_line(n: u32, state: State, line: &[u8], list: &mut [u32]) -> Step
     ensures { λ r. ⌜ Keeps r (now (list .exit)) ⌝ }
 {
     if numbers::holds(line, 0, 99) {
-        if lines::is_comment(line) {
+        if scanner::is_comment(line) {
             return Step::Next(state);
         }
         return Step::Stop;
@@ -171,7 +170,7 @@ fn read_text(n: u32, text: &[u8], list: &mut [u32]) -> Text
     let mut at = 0;
     let mut k = 0;
     while at < text.len() {
-        let Feed::Ends(end) = lines::line_feed(text, at) else {
+        let Feed::Ends(end) = scanner::line_feed(text, at) else {
             return Text::Bad(k + 1);
         };
         let Step::Next(next) = take_line(n, state, &text[at..end], list) else {

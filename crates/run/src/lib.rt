@@ -8,7 +8,7 @@ ghost use Prim.Native.Nat.{_+_, _*_, _<_, _≤_};
 ghost use lib.ListN.{length, set, replicate};
 ghost use Rattle.property.specs.Property.{property};
 ghost use Rattle.frontier.specs.Waiting.{capacity};
-ghost use Rattle.graph.specs.Limits.{maxVertices, maxEdges, maxSchedule};
+ghost use Rattle.graph.specs.Limits.{maxVertices, maxEdges};
 ghost use Rattle.graph.specs.Edge.{Edge};
 ghost use Rattle.graph.specs.Own.{Fit, Own};
 ghost use Rattle.run.specs.Run as spec;

@@ -1,6 +1,6 @@
 // A field engineer's sheet: a small network through the calls. It is opened and asked, loses the edge 0→1 and gets it back, is
 // handed a batch with one bad change among ten, and is asked from a vertex that was never used before, also with a schedule.
-use batch::Applied;
+use apply::Applied;
 use open::Opened;
 use query::Answered;
 
@@ -111,7 +111,7 @@ fn change(
     backward: &mut [u32; 20],
 ) -> u32 {
     let landmarks = [0u32];
-    let applied = batch::batch_lists(
+    let applied = plain_batch::batch_lists(
         4,
         &landmarks,
         tails,
@@ -143,10 +143,8 @@ fn change(
     }
 }
 
-fn main() {
-    let mut tails = [0u32; 2048];
-    let mut heads = [0u32; 2048];
-    let mut weights = [0u32; 2048];
+// Deck A's records.
+fn fill(tails: &mut [u32; 2048], heads: &mut [u32; 2048], weights: &mut [u32; 2048]) {
     tails[2] = 1;
     tails[3] = 2;
     tails[4] = 3;
@@ -160,186 +158,176 @@ fn main() {
     weights[2] = 4;
     weights[3] = 4;
     weights[4] = 2;
-    let mut forward = [0u32; 20];
-    let mut backward = [0u32; 20];
+}
+
+// Opens it with landmark 0.
+fn start(
+    tails: &[u32; 2048],
+    heads: &[u32; 2048],
+    weights: &[u32; 2048],
+    forward: &mut [u32; 20],
+    backward: &mut [u32; 20],
+) {
     let landmarks = [0u32];
-    let none = [0u32; 0];
-    let opened = open::open(
-        4,
-        &landmarks,
-        &tails,
-        &heads,
-        &weights,
-        5,
-        &mut forward,
-        &mut backward,
-    );
+    let opened = open::open(4, &landmarks, tails, heads, weights, 5, forward, backward);
     match opened {
         Opened::Accepted => {
             io::write_all(1, b"opened\n");
         }
         Opened::Refused(number, place) => print_refusal(number, place),
     }
-    let mut count = 5;
-    ask(
-        1,
-        0,
-        &none,
-        &tails,
-        &heads,
-        &weights,
-        count,
-        &forward,
-        &backward,
-    );
-    ask(
-        2,
-        0,
-        &none,
-        &tails,
-        &heads,
-        &weights,
-        count,
-        &forward,
-        &backward,
-    );
-    ask(
-        3,
-        0,
-        &none,
-        &tails,
-        &heads,
-        &weights,
-        count,
-        &forward,
-        &backward,
-    );
-    ask(
-        4,
-        0,
-        &none,
-        &tails,
-        &heads,
-        &weights,
-        count,
-        &forward,
-        &backward,
-    );
-    ask(
-        5,
-        0,
-        &none,
-        &tails,
-        &heads,
-        &weights,
-        count,
-        &forward,
-        &backward,
-    );
+}
+
+// The five properties from vertex 0.
+fn ask_each(
+    tails: &[u32; 2048],
+    heads: &[u32; 2048],
+    weights: &[u32; 2048],
+    count: u32,
+    forward: &[u32; 20],
+    backward: &[u32; 20],
+) {
+    ask(1, 0, &[], tails, heads, weights, count, forward, backward);
+    ask(2, 0, &[], tails, heads, weights, count, forward, backward);
+    ask(3, 0, &[], tails, heads, weights, count, forward, backward);
+    ask(4, 0, &[], tails, heads, weights, count, forward, backward);
+    ask(5, 0, &[], tails, heads, weights, count, forward, backward);
+}
+
+// The edge 0→1 is taken.
+fn take(
+    tails: &mut [u32; 2048],
+    heads: &mut [u32; 2048],
+    weights: &mut [u32; 2048],
+    count: u32,
+    forward: &mut [u32; 20],
+    backward: &mut [u32; 20],
+) -> u32 {
     io::write_all(1, b"take 0 1: ");
-    count = change(
+    let now = change(
         &[2],
         &[0],
         &[1],
         &[0],
-        &mut tails,
-        &mut heads,
-        &mut weights,
+        tails,
+        heads,
+        weights,
         count,
-        &mut forward,
-        &mut backward,
+        forward,
+        backward,
     );
-    ask(
-        1,
-        0,
-        &none,
-        &tails,
-        &heads,
-        &weights,
-        count,
-        &forward,
-        &backward,
-    );
-    ask(
-        3,
-        0,
-        &none,
-        &tails,
-        &heads,
-        &weights,
-        count,
-        &forward,
-        &backward,
-    );
+    ask(1, 0, &[], tails, heads, weights, now, forward, backward);
+    ask(3, 0, &[], tails, heads, weights, now, forward, backward);
+    now
+}
+
+// It is put back.
+fn put_back(
+    tails: &mut [u32; 2048],
+    heads: &mut [u32; 2048],
+    weights: &mut [u32; 2048],
+    count: u32,
+    forward: &mut [u32; 20],
+    backward: &mut [u32; 20],
+) -> u32 {
     io::write_all(1, b"add 0 1 4: ");
-    count = change(
+    let now = change(
         &[1],
         &[0],
         &[1],
         &[4],
-        &mut tails,
-        &mut heads,
-        &mut weights,
+        tails,
+        heads,
+        weights,
         count,
-        &mut forward,
-        &mut backward,
+        forward,
+        backward,
     );
-    ask(
-        1,
-        0,
-        &none,
-        &tails,
-        &heads,
-        &weights,
-        count,
-        &forward,
-        &backward,
-    );
+    ask(1, 0, &[], tails, heads, weights, now, forward, backward);
+    now
+}
+
+// Ten changes, of which the seventh takes an edge that is not there.
+fn change_ten(
+    tails: &mut [u32; 2048],
+    heads: &mut [u32; 2048],
+    weights: &mut [u32; 2048],
+    count: u32,
+    forward: &mut [u32; 20],
+    backward: &mut [u32; 20],
+) -> u32 {
     io::write_all(1, b"ten changes: ");
-    count = change(
+    let now = change(
         &[1, 1, 1, 1, 1, 1, 2, 1, 2, 2],
         &[1, 1, 2, 2, 3, 3, 0, 0, 0, 3],
         &[0, 3, 0, 3, 0, 1, 2, 2, 3, 2],
         &[5, 6, 7, 8, 1, 2, 0, 3, 0, 0],
+        tails,
+        heads,
+        weights,
+        count,
+        forward,
+        backward,
+    );
+    ask(1, 0, &[], tails, heads, weights, now, forward, backward);
+    now
+}
+
+// Vertex 3 asks, without a schedule and with one.
+fn ask_from_three(
+    tails: &[u32; 2048],
+    heads: &[u32; 2048],
+    weights: &[u32; 2048],
+    count: u32,
+    forward: &[u32; 20],
+    backward: &[u32; 20],
+) {
+    ask(1, 3, &[], tails, heads, weights, count, forward, backward);
+    ask(
+        1,
+        3,
+        &[2, 3, 1, 3, 2],
+        tails,
+        heads,
+        weights,
+        count,
+        forward,
+        backward,
+    );
+}
+
+fn main() {
+    let mut tails = [0u32; 2048];
+    let mut heads = [0u32; 2048];
+    let mut weights = [0u32; 2048];
+    let mut forward = [0u32; 20];
+    let mut backward = [0u32; 20];
+    fill(&mut tails, &mut heads, &mut weights);
+    start(&tails, &heads, &weights, &mut forward, &mut backward);
+    ask_each(&tails, &heads, &weights, 5, &forward, &backward);
+    let four = take(
         &mut tails,
         &mut heads,
         &mut weights,
-        count,
+        5,
         &mut forward,
         &mut backward,
     );
-    ask(
-        1,
-        0,
-        &none,
-        &tails,
-        &heads,
-        &weights,
-        count,
-        &forward,
-        &backward,
+    let five = put_back(
+        &mut tails,
+        &mut heads,
+        &mut weights,
+        four,
+        &mut forward,
+        &mut backward,
     );
-    ask(
-        1,
-        3,
-        &none,
-        &tails,
-        &heads,
-        &weights,
-        count,
-        &forward,
-        &backward,
+    let count = change_ten(
+        &mut tails,
+        &mut heads,
+        &mut weights,
+        five,
+        &mut forward,
+        &mut backward,
     );
-    let jumbled = [2u32, 3, 1, 3, 2];
-    ask(
-        1,
-        3,
-        &jumbled,
-        &tails,
-        &heads,
-        &weights,
-        count,
-        &forward,
-        &backward,
-    );
+    ask_from_three(&tails, &heads, &weights, count, &forward, &backward);
 }

@@ -1,3 +1,1 @@
-pub mod Row
-pub mod Rows
-pub mod Sides
+pub mod Both

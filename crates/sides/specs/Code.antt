@@ -1,47 +1,40 @@
--- What the functions on the rows of one side of a batch hold and answer: es are the edges before the batch, fs those after it. Assumes
--- nothing.
+-- What the functions on the rows of both sides of a batch are told and answer. Assumes nothing.
 --
---   Compared n m ts hs ws gs fs  == m edges between n vertices, and bytes that say which of them are absent from fs
---   Indexed n m is hs ws es      == an index by which a run reads the edges es
---   RowDone n ls es fs vs r xs a == the run of row r left the words xs, and its answer is a
---   RowsDone n ls es fs xs ys a  == the runs of all rows of the list xs left the words ys, and their answer is a
+--   Fair n ls w                  == a network that numbers 1 to 4 let pass
+--   Sized k xs ys                == scratch lists of k words for the rows of each side
+--   Scratch k gs bs xs ys        == such lists, and a word for each edge of two tables
+--   SidesDone n ls w fs xs ys a  == the runs of all rows of both lists left the words xs and ys, and their answer is a
 use mathlib.Core.Path.{_≡_}
+use mathlib.Core.Bool.{_||_}
 use mathlib.Core.List.{List}
 use Prim.Native.Nat.{ℕ, _*_, _≤_}
 use lib.ListN.{length}
-use Rattle.property.specs.Property.{properties}
-use Rattle.frontier.specs.Waiting.{anyOf, countOf}
-use Rattle.graph.specs.Limits.{maxVertices, maxEdges, maxLandmarks}
-use Rattle.graph.specs.Edge.{Edge, edges}
-use Rattle.graph.specs.Code.{Room}
-use Rattle.graph.specs.Own.{Fit, Own}
-use Rattle.affected.specs.Code.{Absent, Ends}
-use Rattle.sides.specs.declared.Rowed.{Rowed}
-use Rattle.network.specs.Network.{flat, unsettled, storesOf}
-use Rattle.network.specs.Batch.{rowAffected, rowEnd, batchRows, affectedOf}
+use Rattle.graph.specs.Limits.{maxVertices, maxEdges}
+use Rattle.graph.specs.Edge.{Edge}
+use Rattle.rows.specs.declared.Rowed.{Rowed}
+use Rattle.network.specs.Network.{Network, rowCount, flat, unsettled}
+use Rattle.network.specs.Batch.{newForward, newBackward, report}
+use Rattle.calls.specs.Code.{Placed, Tabled}
 
-pub record Compared (n m : ℕ) (ts hs ws gs : List ℕ) (fs : List Edge) : Type 0 where
-  pub room : Room m ts hs ws
-  pub ends : Ends n m ts hs
-  pub bytes : m ≤ length gs
-  pub absent : Absent m (edges ts hs ws m) fs gs
+pub record Fair (n : ℕ) (ls : List ℕ) (w : Network) : Type 0 where
+  pub few : n ≤ maxVertices
+  pub landmarks : Placed n ls
+  pub table : Tabled n (w .count) (w .memory .table .tails) (w .memory .table .heads) (w .memory .table .weights)
+  pub forward : rowCount ls * n ≤ length (w .memory .rows .forward)
+  pub backward : rowCount ls * n ≤ length (w .memory .rows .backward)
 
-pub record Indexed (n m : ℕ) (is hs ws : List ℕ) (es : List Edge) : Type 0 where
-  pub fit : Fit n m is hs ws
-  pub own : Own n is hs ws es
+pub record Sized (k : ℕ) (xs ys : List ℕ) : Type 0 where
+  pub ahead : length xs ≡ k
+  pub back : length ys ≡ k
 
-pub record RowDone (n : ℕ) (ls : List ℕ) (es fs : List Edge) (vs : List ℕ) (r : ℕ) (xs : List ℕ) (a : Rowed) : Type 0 where
-  pub words : xs ≡ (rowEnd n ls es fs vs r) .words
-  pub unsettled : a .unsettled ≡ anyOf ((rowEnd n ls es fs vs r) .waiting)
-  pub affected : a .affected ≡ countOf (rowAffected n ls es fs vs r)
-  pub stores : a .stores ≡ (rowEnd n ls es fs vs r) .tally .stores
-  pub few : a .affected ≤ maxVertices
-  pub low : a .stores ≤ maxVertices * maxVertices * maxEdges
+pub record Scratch (k : ℕ) (gs bs xs ys : List ℕ) : Type 0 where
+  pub gone : maxEdges ≤ length gs
+  pub fresh : maxEdges ≤ length bs
+  pub rows : Sized k xs ys
 
-pub record RowsDone (n : ℕ) (ls : List ℕ) (es fs : List Edge) (xs ys : List ℕ) (a : Rowed) : Type 0 where
-  pub words : ys ≡ flat (batchRows n ls es fs xs)
-  pub unsettled : a .unsettled ≡ unsettled (batchRows n ls es fs xs)
-  pub affected : a .affected ≡ affectedOf n ls es fs xs
-  pub stores : a .stores ≡ storesOf (batchRows n ls es fs xs)
-  pub few : a .affected ≤ maxLandmarks * properties * maxVertices
-  pub low : a .stores ≤ maxLandmarks * properties * (maxVertices * maxVertices * maxEdges)
+pub record SidesDone (n : ℕ) (ls : List ℕ) (w : Network) (fs : List Edge) (xs ys : List ℕ) (a : Rowed) : Type 0 where
+  pub forward : xs ≡ flat (newForward n ls w fs)
+  pub backward : ys ≡ flat (newBackward n ls w fs)
+  pub unsettled : a .unsettled ≡ (unsettled (newForward n ls w fs) || unsettled (newBackward n ls w fs))
+  pub affected : a .affected ≡ report n ls w fs .affected
+  pub stores : a .stores ≡ report n ls w fs .stores

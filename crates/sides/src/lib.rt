@@ -1,247 +1,337 @@
-// The rows of one side of a batch: each is prepared for the new edges and settled. The lists of 1 are the table before the batch, those
-// of 2 the one after it, which a run reads by `firsts`, `ends` and `lengths`.
-use graph::index;
+// The rows of both sides of a batch: the two tables are compared and indexed once, then each side's rows are run, all in scratch lists.
+// Lists 2 are the new table.
+use rows::Rowed;
 ghost use mathlib.Core.Path.{_≡_};
-ghost use mathlib.Core.List.{map};
-ghost use Prim.Native.Nat.{_*_, _<_, _≤_};
+ghost use Prim.Native.Nat.{_*_};
 ghost use lib.ListN.{length};
-ghost use Rattle.graph.specs.Edge.{reverse, edges};
+ghost use Rattle.graph.specs.Edge.{edges};
 ghost use Rattle.network.specs.Network.{rowCount};
-ghost use Rattle.calls.specs.Code.{Placed, Tabled};
-ghost use Rattle.sides.specs.Code.{Compared, Indexed, RowDone, RowsDone};
+ghost use Rattle.calls.specs.Code.{network, Tabled};
+ghost use Rattle.rows.specs.Code.{Compared, Indexed};
+ghost use Rattle.sides.specs.Code.{Fair, Sized, Scratch, SidesDone};
 
-// What runs of rows come to: whether some vertex still waits, how many vertices are affected, how many stores there were.
-pub struct Rowed {
-    pub unsettled: bool,
-    pub affected: u64,
-    pub stores: u64,
-}
-
-// Row `r`, whose words before the batch are `words`, is prepared and settled in `out`.
-fn batch_row(
-    r: usize,
+// All rows of both lists, by the new table, of lists 2: the new rows go to `ahead` and `back`. Each table comes with its index and the
+// reversed table; the index of the edges into a vertex is that of the other side.
+fn batch_sides(
     n: usize,
     landmarks: &[u32],
-    count1: usize,
-    tails1: &[u32],
-    heads1: &[u32],
-    weights1: &[u32],
-    gone: &[u8],
-    count2: usize,
+    tails: &[u32],
+    heads: &[u32],
+    weights: &[u32],
+    count: usize,
+    forward: &[u32],
+    backward: &[u32],
+    size1: usize,
+    gone: &[u32],
+    firsts1: &[u32],
+    rfirsts1: &[u32],
+    rheads1: &[u32],
+    rweights1: &[u32],
     tails2: &[u32],
     heads2: &[u32],
     weights2: &[u32],
-    fresh: &[u8],
-    firsts: &[u32],
-    ends: &[u32],
-    lengths: &[u32],
-    words: &[u32],
-    out: &mut [u32],
-) -> Rowed
-    requires { ⌜ (r < rowCount (now landmarks)) × Placed n (now landmarks) × (length (now words) ≡ n) × (length (now out) ≡ n) ⌝ }
-    requires { ⌜ Compared n count1 (now tails1) (now heads1) (now weights1) (now gone) (edges (now tails2) (now heads2) (now weights2) count2) ⌝ }
-    requires { ⌜ Compared n count2 (now tails2) (now heads2) (now weights2) (now fresh) (edges (now tails1) (now heads1) (now weights1) count1) ⌝ }
-    requires { ⌜ Indexed n count2 (now firsts) (now ends) (now lengths) (edges (now tails2) (now heads2) (now weights2) count2) ⌝ }
-    ensures { λ a. ⌜ RowDone n (now (landmarks .entry)) (edges (now (tails1 .entry)) (now (heads1 .entry)) (now (weights1 .entry)) count1) (edges (now (tails2 .entry)) (now (heads2 .entry)) (now (weights2 .entry)) count2) (now (words .entry)) r (now (out .exit)) a ⌝ }
-{
-    let p = (r % 5) as u32 + 1;
-    let i = r / 5;
-    let mut waiting = frontier::empty();
-    let affected = affected::prepare(
-        p,
-        n,
-        landmarks[i],
-        count1,
-        tails1,
-        heads1,
-        weights1,
-        gone,
-        count2,
-        tails2,
-        heads2,
-        weights2,
-        fresh,
-        words,
-        out,
-        &mut waiting,
-    );
-    let t = run::run_unscheduled(p, n, count2, firsts, ends, lengths, out, &mut waiting);
-    Rowed {
-        unsettled: frontier::any(&waiting),
-        affected,
-        stores: t.stores,
-    }
-}
-
-// Every row of the list `rows`, one after the other in `out`.
-fn batch_rows(
-    n: usize,
-    landmarks: &[u32],
-    count1: usize,
-    tails1: &[u32],
-    heads1: &[u32],
-    weights1: &[u32],
-    gone: &[u8],
     count2: usize,
-    tails2: &[u32],
-    heads2: &[u32],
-    weights2: &[u32],
-    fresh: &[u8],
-    firsts: &[u32],
-    ends: &[u32],
-    lengths: &[u32],
-    rows: &[u32],
-    out: &mut [u32],
+    size2: usize,
+    fresh: &[u32],
+    firsts2: &[u32],
+    rfirsts2: &[u32],
+    rheads2: &[u32],
+    rweights2: &[u32],
+    ahead: &mut [u32],
+    back: &mut [u32],
 ) -> Rowed
-    requires { ⌜ Placed n (now landmarks) × (rowCount (now landmarks) * n ≤ length (now rows)) × (length (now out) ≡ rowCount (now landmarks) * n) ⌝ }
-    requires { ⌜ Compared n count1 (now tails1) (now heads1) (now weights1) (now gone) (edges (now tails2) (now heads2) (now weights2) count2) ⌝ }
-    requires { ⌜ Compared n count2 (now tails2) (now heads2) (now weights2) (now fresh) (edges (now tails1) (now heads1) (now weights1) count1) ⌝ }
-    requires { ⌜ Indexed n count2 (now firsts) (now ends) (now lengths) (edges (now tails2) (now heads2) (now weights2) count2) ⌝ }
-    ensures { λ a. ⌜ RowsDone n (now (landmarks .entry)) (edges (now (tails1 .entry)) (now (heads1 .entry)) (now (weights1 .entry)) count1) (edges (now (tails2 .entry)) (now (heads2 .entry)) (now (weights2 .entry)) count2) (now (rows .entry)) (now (out .exit)) a ⌝ }
-{
-    let size = landmarks.len() * 5;
-    let mut unsettled = false;
-    let mut affected = 0;
-    let mut stores = 0;
-    let mut r = 0;
-    while r < size {
-        let start = r * n;
-        let end = start + n;
-        let row = batch_row(
-            r,
-            n,
-            landmarks,
-            count1,
-            tails1,
-            heads1,
-            weights1,
-            gone,
-            count2,
-            tails2,
-            heads2,
-            weights2,
-            fresh,
-            firsts,
-            ends,
-            lengths,
-            &rows[start..end],
-            &mut out[start..end],
-        );
-        unsettled = unsettled | row.unsettled;
-        affected += row.affected;
-        stores += row.stores;
-        r += 1;
-    }
-    Rowed {
-        unsettled,
-        affected,
-        stores,
-    }
-}
-
-// The forward rows, by the index of the new table.
-pub fn batch_forward(
-    n: usize,
-    landmarks: &[u32],
-    count1: usize,
-    tails1: &[u32],
-    heads1: &[u32],
-    weights1: &[u32],
-    gone: &[u8],
-    count2: usize,
-    tails2: &[u32],
-    heads2: &[u32],
-    weights2: &[u32],
-    fresh: &[u8],
-    rows: &[u32],
-    out: &mut [u32],
-) -> Rowed
-    requires { ⌜ Placed n (now landmarks) × (rowCount (now landmarks) * n ≤ length (now rows)) × (length (now out) ≡ rowCount (now landmarks) * n) ⌝ }
+    requires { ⌜ Fair n (now landmarks) (network (now tails) (now heads) (now weights) (now forward) (now backward) count) ⌝ }
     requires { ⌜ Tabled n count2 (now tails2) (now heads2) (now weights2) ⌝ }
-    requires { ⌜ Compared n count1 (now tails1) (now heads1) (now weights1) (now gone) (edges (now tails2) (now heads2) (now weights2) count2) ⌝ }
-    requires { ⌜ Compared n count2 (now tails2) (now heads2) (now weights2) (now fresh) (edges (now tails1) (now heads1) (now weights1) count1) ⌝ }
-    ensures { λ a. ⌜ RowsDone n (now (landmarks .entry)) (edges (now (tails1 .entry)) (now (heads1 .entry)) (now (weights1 .entry)) count1) (edges (now (tails2 .entry)) (now (heads2 .entry)) (now (weights2 .entry)) count2) (now (rows .entry)) (now (out .exit)) a ⌝ }
+    requires { ⌜ Compared n count (now tails) (now heads) (now weights) (now gone) size1 (edges (now tails2) (now heads2) (now weights2) count2) ⌝ }
+    requires { ⌜ Compared n count2 (now tails2) (now heads2) (now weights2) (now fresh) size2 (edges (now tails) (now heads) (now weights) count) ⌝ }
+    requires { ⌜ Sized (rowCount (now landmarks) * n) (now ahead) (now back) ⌝ }
+    requires { ⌜ Indexed n count (now firsts1) (now heads) (now weights) (edges (now tails) (now heads) (now weights) count) ⌝ }
+    requires { ⌜ Indexed n count (now rfirsts1) (now rheads1) (now rweights1) (edges (now heads) (now tails) (now weights) count) ⌝ }
+    requires { ⌜ Indexed n count2 (now firsts2) (now heads2) (now weights2) (edges (now tails2) (now heads2) (now weights2) count2) ⌝ }
+    requires { ⌜ Indexed n count2 (now rfirsts2) (now rheads2) (now rweights2) (edges (now heads2) (now tails2) (now weights2) count2) ⌝ }
+    ensures { λ r. ⌜ SidesDone n (now (landmarks .entry)) (network (now (tails .entry)) (now (heads .entry)) (now (weights .entry)) (now (forward .entry)) (now (backward .entry)) count) (edges (now (tails2 .entry)) (now (heads2 .entry)) (now (weights2 .entry)) count2) (now (ahead .exit)) (now (back .exit)) r ⌝ }
 {
-    let mut firsts = [0u32; graph::INDEX_WORDS];
-    index::index(n, count2, tails2, &mut firsts);
-    batch_rows(
+    let f = rows::batch_rows(
         n,
         landmarks,
-        count1,
-        tails1,
-        heads1,
-        weights1,
+        count,
+        tails,
+        heads,
+        weights,
+        size1,
         gone,
+        firsts1,
+        heads,
+        weights,
         count2,
         tails2,
         heads2,
         weights2,
+        size2,
         fresh,
-        &firsts,
+        firsts2,
         heads2,
         weights2,
-        rows,
-        out,
+        rfirsts2,
+        rheads2,
+        forward,
+        ahead,
+    );
+    let b = rows::batch_rows(
+        n,
+        landmarks,
+        count,
+        heads,
+        tails,
+        weights,
+        size1,
+        gone,
+        rfirsts1,
+        rheads1,
+        rweights1,
+        count2,
+        heads2,
+        tails2,
+        weights2,
+        size2,
+        fresh,
+        rfirsts2,
+        rheads2,
+        rweights2,
+        firsts2,
+        heads2,
+        backward,
+        back,
+    );
+    Rowed {
+        unsettled: f.unsettled | b.unsettled,
+        affected: f.affected + b.affected,
+        stores: f.stores + b.stores,
+    }
+}
+
+// The same where the new table has no index yet.
+fn batch_indexed(
+    n: usize,
+    landmarks: &[u32],
+    tails: &[u32],
+    heads: &[u32],
+    weights: &[u32],
+    count: usize,
+    forward: &[u32],
+    backward: &[u32],
+    size1: usize,
+    gone: &[u32],
+    firsts1: &[u32],
+    rfirsts1: &[u32],
+    rheads1: &[u32],
+    rweights1: &[u32],
+    tails2: &[u32],
+    heads2: &[u32],
+    weights2: &[u32],
+    count2: usize,
+    size2: usize,
+    fresh: &[u32],
+    ahead: &mut [u32],
+    back: &mut [u32],
+) -> Rowed
+    requires { ⌜ Fair n (now landmarks) (network (now tails) (now heads) (now weights) (now forward) (now backward) count) ⌝ }
+    requires { ⌜ Tabled n count2 (now tails2) (now heads2) (now weights2) ⌝ }
+    requires { ⌜ Compared n count (now tails) (now heads) (now weights) (now gone) size1 (edges (now tails2) (now heads2) (now weights2) count2) ⌝ }
+    requires { ⌜ Compared n count2 (now tails2) (now heads2) (now weights2) (now fresh) size2 (edges (now tails) (now heads) (now weights) count) ⌝ }
+    requires { ⌜ Sized (rowCount (now landmarks) * n) (now ahead) (now back) ⌝ }
+    requires { ⌜ Indexed n count (now firsts1) (now heads) (now weights) (edges (now tails) (now heads) (now weights) count) ⌝ }
+    requires { ⌜ Indexed n count (now rfirsts1) (now rheads1) (now rweights1) (edges (now heads) (now tails) (now weights) count) ⌝ }
+    ensures { λ r. ⌜ SidesDone n (now (landmarks .entry)) (network (now (tails .entry)) (now (heads .entry)) (now (weights .entry)) (now (forward .entry)) (now (backward .entry)) count) (edges (now (tails2 .entry)) (now (heads2 .entry)) (now (weights2 .entry)) count2) (now (ahead .exit)) (now (back .exit)) r ⌝ }
+{
+    let mut free = [0u32; graph::INDEX_WORDS];
+    let mut firsts2 = [0u32; graph::INDEX_WORDS];
+    let mut rfirsts2 = [0u32; graph::INDEX_WORDS];
+    let mut rtails2 = [0u32; graph::MAX_EDGES];
+    let mut rheads2 = [0u32; graph::MAX_EDGES];
+    let mut rweights2 = [0u32; graph::MAX_EDGES];
+    rows::index_table(
+        n,
+        count2,
+        tails2,
+        heads2,
+        weights2,
+        &mut firsts2,
+        &mut free,
+        &mut rfirsts2,
+        &mut rtails2,
+        &mut rheads2,
+        &mut rweights2,
+    );
+    batch_sides(
+        n,
+        landmarks,
+        tails,
+        heads,
+        weights,
+        count,
+        forward,
+        backward,
+        size1,
+        gone,
+        firsts1,
+        rfirsts1,
+        rheads1,
+        rweights1,
+        tails2,
+        heads2,
+        weights2,
+        count2,
+        size2,
+        fresh,
+        &firsts2,
+        &rfirsts2,
+        &rheads2,
+        &rweights2,
+        ahead,
+        back,
     )
 }
 
-// The backward rows, where every edge is reversed: tails and heads change places, and a run reads the reversed table by its index.
-pub fn batch_backward(
+// The same where neither table has an index yet.
+fn batch_tables(
     n: usize,
     landmarks: &[u32],
-    count1: usize,
-    tails1: &[u32],
-    heads1: &[u32],
-    weights1: &[u32],
-    gone: &[u8],
-    count2: usize,
+    tails: &[u32],
+    heads: &[u32],
+    weights: &[u32],
+    count: usize,
+    forward: &[u32],
+    backward: &[u32],
+    size1: usize,
+    gone: &[u32],
     tails2: &[u32],
     heads2: &[u32],
     weights2: &[u32],
-    fresh: &[u8],
-    rows: &[u32],
-    out: &mut [u32],
+    count2: usize,
+    size2: usize,
+    fresh: &[u32],
+    ahead: &mut [u32],
+    back: &mut [u32],
 ) -> Rowed
-    requires { ⌜ Placed n (now landmarks) × (rowCount (now landmarks) * n ≤ length (now rows)) × (length (now out) ≡ rowCount (now landmarks) * n) ⌝ }
+    requires { ⌜ Fair n (now landmarks) (network (now tails) (now heads) (now weights) (now forward) (now backward) count) ⌝ }
     requires { ⌜ Tabled n count2 (now tails2) (now heads2) (now weights2) ⌝ }
-    requires { ⌜ Compared n count1 (now tails1) (now heads1) (now weights1) (now gone) (edges (now tails2) (now heads2) (now weights2) count2) ⌝ }
-    requires { ⌜ Compared n count2 (now tails2) (now heads2) (now weights2) (now fresh) (edges (now tails1) (now heads1) (now weights1) count1) ⌝ }
-    ensures { λ a. ⌜ RowsDone n (now (landmarks .entry)) (map reverse (edges (now (tails1 .entry)) (now (heads1 .entry)) (now (weights1 .entry)) count1)) (map reverse (edges (now (tails2 .entry)) (now (heads2 .entry)) (now (weights2 .entry)) count2)) (now (rows .entry)) (now (out .exit)) a ⌝ }
+    requires { ⌜ Compared n count (now tails) (now heads) (now weights) (now gone) size1 (edges (now tails2) (now heads2) (now weights2) count2) ⌝ }
+    requires { ⌜ Compared n count2 (now tails2) (now heads2) (now weights2) (now fresh) size2 (edges (now tails) (now heads) (now weights) count) ⌝ }
+    requires { ⌜ Sized (rowCount (now landmarks) * n) (now ahead) (now back) ⌝ }
+    ensures { λ r. ⌜ SidesDone n (now (landmarks .entry)) (network (now (tails .entry)) (now (heads .entry)) (now (weights .entry)) (now (forward .entry)) (now (backward .entry)) count) (edges (now (tails2 .entry)) (now (heads2 .entry)) (now (weights2 .entry)) count2) (now (ahead .exit)) (now (back .exit)) r ⌝ }
 {
     let mut free = [0u32; graph::INDEX_WORDS];
-    let mut firsts = [0u32; graph::INDEX_WORDS];
-    let mut rtails = [0u32; graph::MAX_EDGES];
-    let mut rheads = [0u32; graph::MAX_EDGES];
-    let mut rweights = [0u32; graph::MAX_EDGES];
-    index::reverse_table(
+    let mut firsts1 = [0u32; graph::INDEX_WORDS];
+    let mut rfirsts1 = [0u32; graph::INDEX_WORDS];
+    let mut rtails1 = [0u32; graph::MAX_EDGES];
+    let mut rheads1 = [0u32; graph::MAX_EDGES];
+    let mut rweights1 = [0u32; graph::MAX_EDGES];
+    rows::index_table(
         n,
-        count2,
-        tails2,
-        heads2,
-        weights2,
+        count,
+        tails,
+        heads,
+        weights,
+        &mut firsts1,
         &mut free,
-        &mut firsts,
-        &mut rtails,
-        &mut rheads,
-        &mut rweights,
+        &mut rfirsts1,
+        &mut rtails1,
+        &mut rheads1,
+        &mut rweights1,
     );
-    batch_rows(
+    batch_indexed(
         n,
         landmarks,
-        count1,
-        heads1,
-        tails1,
-        weights1,
+        tails,
+        heads,
+        weights,
+        count,
+        forward,
+        backward,
+        size1,
         gone,
-        count2,
-        heads2,
+        &firsts1,
+        &rfirsts1,
+        &rheads1,
+        &rweights1,
         tails2,
+        heads2,
         weights2,
+        count2,
+        size2,
         fresh,
-        &firsts,
-        &rheads,
-        &rweights,
-        rows,
-        out,
+        ahead,
+        back,
+    )
+}
+
+// The same with scratch lists: the tables are compared first, once for all rows.
+pub fn batch_runs(
+    n: u32,
+    landmarks: &[u32],
+    tails: &[u32],
+    heads: &[u32],
+    weights: &[u32],
+    count: usize,
+    forward: &[u32],
+    backward: &[u32],
+    tails2: &[u32],
+    heads2: &[u32],
+    weights2: &[u32],
+    count2: usize,
+    gone: &mut [u32],
+    fresh: &mut [u32],
+    ahead: &mut [u32],
+    back: &mut [u32],
+) -> Rowed
+    requires { ⌜ Fair n (now landmarks) (network (now tails) (now heads) (now weights) (now forward) (now backward) count) ⌝ }
+    requires { ⌜ Tabled n count2 (now tails2) (now heads2) (now weights2) ⌝ }
+    requires { ⌜ Scratch (rowCount (now landmarks) * n) (now gone) (now fresh) (now ahead) (now back) ⌝ }
+    ensures { λ r. ⌜ SidesDone n (now (landmarks .entry)) (network (now (tails .entry)) (now (heads .entry)) (now (weights .entry)) (now (forward .entry)) (now (backward .entry)) count) (edges (now (tails2 .entry)) (now (heads2 .entry)) (now (weights2 .entry)) count2) (now (ahead .exit)) (now (back .exit)) r ⌝ }
+{
+    let size1 = compare::missing(
+        n,
+        count,
+        tails,
+        heads,
+        weights,
+        count2,
+        tails2,
+        heads2,
+        weights2,
+        gone,
+    );
+    let size2 = compare::missing(
+        n,
+        count2,
+        tails2,
+        heads2,
+        weights2,
+        count,
+        tails,
+        heads,
+        weights,
+        fresh,
+    );
+    batch_tables(
+        n as usize,
+        landmarks,
+        tails,
+        heads,
+        weights,
+        count,
+        forward,
+        backward,
+        size1,
+        gone,
+        tails2,
+        heads2,
+        weights2,
+        count2,
+        size2,
+        fresh,
+        ahead,
+        back,
     )
 }

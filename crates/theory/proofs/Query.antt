@@ -15,15 +15,14 @@ use lib.Dec.{eqb}
 use borrow.Author.Tests.{eq-eqb, ne-eqb}
 use Rattle.property.specs.Property.{Property}
 use Rattle.property.specs.Laws.{Laws, Joins}
-use Rattle.frontier.specs.Waiting.{anyOf}
 use Rattle.graph.specs.Edge.{Edge}
 use Rattle.graph.specs.Route.{Route, here, step, Best}
 use Rattle.graph.proofs.Lists.{length-table, table-at, at-set}
 use Rattle.graph.proofs.Order.{Within}
-use Rattle.run.specs.Run.{State, word, relaxable, pass, settle}
+use Rattle.run.specs.Run.{State, word, relaxable}
 use Rattle.run.specs.Start.{Landmark, bound, asked}
-use Rattle.theory.proofs.Settle.{Sound, Inv, pass-good, settle-good}
-use Rattle.theory.proofs.Value.{value-fits, value-after, none-quiet, settled-best, best-settled}
+use Rattle.theory.proofs.Settle.{Sound, Inv}
+use Rattle.theory.proofs.Value.{value-fits, value-after, none-quiet, best-settled}
 
 -- ---- the bound: of all landmarks the best
 
@@ -153,11 +152,4 @@ module _ {P : Property} (L : Laws P) (J : Joins P) (es : List Edge) (s n : ℕ) 
       pending = λ e m c. ⊎-elim (λ q. inl (q .1)) (λ q. absurd (true≢false (sym c ∙ asked-quiet e m (q .0))))
           (at-set (replicate n false) s true (e .tail) false (rw length-replicate source));
     }
-
     -- ---- its end
-
-    -- Demand 3 for a query: whatever the schedule, and however many rounds, once nothing waits each word is the best value.
-    pub query-best : (vs : List ℕ) (k : ℕ) → anyOf ((settle P es n k (pass P es vs ready)) .waiting) ≡ false
-        → (t : ℕ) → Best P es s t (word P ((settle P es n k (pass P es vs ready)) .words) t)
-    query-best vs k q t = settled-best L es s n inside (settle P es n k (pass P es vs ready))
-        (settle-good L es s n inside k (pass P es vs ready) (pass-good L es s n inside vs ready asked-good)) q t

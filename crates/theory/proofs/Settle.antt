@@ -119,9 +119,6 @@ module _ (P : Property) (es : List Edge) where
   handle-sized n = handle-keeps P es (Sized n) (λ st i h. h)
       (λ st e c h. length-set (st .words) (e .head) (P .along (word P (st .words) (e .tail)) (e .weight)) ∙ h)
 
-  pub pass-sized : (n : ℕ) (vs : List ℕ) (st : State) → Sized n st → Sized n (pass P es vs st)
-  pass-sized n vs st h = pass-keeps P es (Sized n) (handle-sized n) (λ a k. k) vs st h
-
   pub settle-sized : (n k : ℕ) (st : State) → Sized n st → Sized n (settle P es n k st)
   settle-sized n k st h = settle-keeps P es (Sized n) (handle-sized n) (λ a k. k) n k st h
 
@@ -219,9 +216,6 @@ module _ {P : Property} (L : Laws P) where
         pick st o c g t (yes h) = L .transitive _ _ _ (store-betters (st .words) o h c t) (g t)
         pick st o c g t (no d) = rw (set-out (st .words) (o .head) (along (word P (st .words) (o .tail)) (o .weight)) (omega arith)) (g t)
 
-    pub pass-rises : (vs : List ℕ) (st : State) → Risen P (st .words) (pass P es vs st)
-    pass-rises vs st = pass-keeps P es (Risen P (st .words)) (handle-rises (st .words)) (λ a k. k) vs st (λ t. L .irreflexive _)
-
     pub settle-rises : (n k : ℕ) (st : State) → Risen P (st .words) (settle P es n k st)
     settle-rises n k st = settle-keeps P es (Risen P (st .words)) (handle-rises (st .words)) (λ a k. k) n k st (λ t. L .irreflexive _)
 
@@ -283,12 +277,6 @@ module _ {P : Property} (L : Laws P) where
             → (getD (set (st .waiting) i false) (x .tail) false ≡ true) ⊎ List·Memᴰ x (leaving i es)
         cleared x k w (yes p) = inr (in-leaving i k p)
         cleared x k w (no d) = inl (getD-set-other (st .waiting) i (x .tail) false false d ∙ w)
-
-    pub visit-good : (st : State) (i : ℕ) → Inv P es s n st → Inv P es s n (visit P es st i)
-    visit-good st i g = visit-keeps P es (Inv P es s n) handle-good st i g
-
-    pub take-good : (st : State) (i : ℕ) → Inv P es s n st → Inv P es s n (take P es st i)
-    take-good st i g = take-keeps P es (Inv P es s n) handle-good (λ a k. k) st i g
 
     pub pass-good : (vs : List ℕ) (st : State) → Inv P es s n st → Inv P es s n (pass P es vs st)
     pass-good vs st g = pass-keeps P es (Inv P es s n) handle-good (λ a k. k) vs st g

@@ -8,8 +8,8 @@ use mathlib.Core.Path.{_≡_, refl, sym, ap, _∙_}
 use mathlib.Core.Logic.{_⊎_, inl, inr, ⊎-elim}
 use mathlib.Core.Bool.{false, true, true≢false}
 use mathlib.Core.List.{List, List·Memᴰ}
-use Prim.Native.Nat.{ℕ, zero, suc, _≤_, _<_}
-use lib.ListN.{getD, set, length, replicate, length-set, length-replicate}
+use Prim.Native.Nat.{ℕ, _≤_, _<_}
+use lib.ListN.{set, length, replicate, length-set, length-replicate}
 use lib.Seq.{getD-set-other}
 use Rattle.property.specs.Property.{M, Property}
 use Rattle.property.specs.Laws.{Laws}

@@ -1,5 +1,5 @@
 -- The reply of a writing and the buffer after it, in the order of the refusals. Assumes nothing.
-use mathlib.Core.Path.{_≡_, refl, sym, ap, _∙_}
+use mathlib.Core.Path.{_≡_, sym, ap, _∙_}
 use mathlib.Core.List.{List}
 use Prim.Native.Nat.{ℕ, _≤_, _<_}
 use native.Mathlib.Nat.{zero-add}
@@ -7,12 +7,12 @@ use lib.ListN.{length}
 use lib.Dec.{ltb}
 use borrow.Author.Tests.{lt-ltb, le-ltb}
 use Rattle.graph.specs.declared.Judged.{Judged}
-use Rattle.graph.specs.declared.Judged.the-variants.{Fine, Refused}
+use Rattle.graph.specs.declared.Judged.the-variants.{Refused}
 use Rattle.graph.specs.Refusal.{Verdict, accept, refuse, _▷_, refuseIf, replied, choose, over}
 use Rattle.graph.specs.Limits.{maxEdges}
 use Rattle.graph.specs.Table.{Columns, edgesOf, size, shortTable, table}
 use Rattle.graph.specs.Code.{told, Room, columns}
-use Rattle.graph.proofs.Verdicts.{then-accept}
+use Rattle.graph.proofs.Verdicts.{then-accept, then-assoc}
 use Rattle.graph.proofs.Judging.{lengths-accept, table-accept}
 use Rattle.graph.proofs.Records.{room-less}
 use Rattle.dimacs.specs.Network.{written}
@@ -37,19 +37,15 @@ write-accept n ts hs ws m e =
     let t = table-accept n (columns ts hs ws) m (s .1) in
     record { count = t .0; room = room-less (t .0) (lengths-accept ts hs ws (s .0)) }
 
-then-last : (a b c d : Verdict) → (a ▷ b ▷ c ▷ d) ≡ ((a ▷ b ▷ c) ▷ d)
-unfolding _▷_
-then-last accept accept c d = refl
-then-last accept (refuse k i) c d = refl
-then-last (refuse k i) b c d = refl
-
 module _ (n : ℕ) (cs : Columns) (m : ℕ) (out : List ℕ) where
   abbrev text : List ℕ
   text = written n (edgesOf cs m)
 
   -- the whole chain, by its value
   chain : (v : Verdict) → judgedWrite n cs m ≡ v → (size n ▷ shortTable cs ▷ table n cs m ▷ refuseIf (ltb (length out) (length text)) 2 0) ≡ (v ▷ refuseIf (ltb (length out) (length text)) 2 0)
-  chain v e = then-last (size n) (shortTable cs) (table n cs m) _ ∙ rw e
+  chain v e =
+      let last = refuseIf (ltb (length out) (length text)) 2 0 in
+      sym (then-assoc (size n) (shortTable cs ▷ table n cs m) last ∙ ap (λ (w : Verdict). size n ▷ w) (then-assoc (shortTable cs) (table n cs m) last)) ∙ rw e
 
   pub write-refused : (j : Judged) (k i : ℕ) → told j ≡ judgedWrite n cs m → j ≡ Refused k i → writeOutcome (reply.Refused k i) out ≡ writeCall n cs m out
   unfolding writeCall told _▷_ replied choose writing

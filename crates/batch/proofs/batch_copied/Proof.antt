@@ -6,7 +6,7 @@ use lib.ListN.{length}
 use lib.Seq.{length-take-le}
 use Rattle.network.specs.Batch.{batchCall}
 use Rattle.calls.specs.Code.{network}
-use Rattle.batch.proofs.Calling.{call-faulty, faults-long}
+use Rattle.plain_batch.proofs.Calling.{call-faulty, faults-long}
 use Rattle.batch.proofs.Copying.{laid-parts}
 use Rattle.batch.proofs.batch_copied.Statement.{statement}
 use Rattle.batch.proofs.batch_copied.Tie as tie

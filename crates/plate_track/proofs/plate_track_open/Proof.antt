@@ -1,6 +1,6 @@
 -- `plate_track::plate_track_open` meets its contract. Assumes nothing.
 use borrow.Author.Needs.{needs}
-use Rattle.plate_track.specs.Code.{openWords}
+use Rattle.spelling.specs.Code.{openWords}
 use Rattle.plate_track.proofs.Spelling.{spelled-short, spelled-told}
 use Rattle.plate_track.proofs.plate_track_open.Statement.{statement}
 use Rattle.plate_track.proofs.plate_track_open.Tie as tie

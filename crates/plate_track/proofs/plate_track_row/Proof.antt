@@ -5,8 +5,10 @@ use mathlib.Core.Path.{ap, _∙_}
 use Prim.Native.Nat.{ℕ, _*_}
 use Rattle.network.specs.Query.{rowAt}
 use Rattle.inspect.proofs.LookupLaws.{Shown, lookup-accept}
-use Rattle.plate_track.specs.Code.{oneWord, alone}
-use Rattle.plate_track.proofs.Spelling.{set-one, refused-tells, accepted-tells, spelled-short, spelled-told}
+use Rattle.spelling.specs.Code.{oneWord}
+use Rattle.spelling.proofs.Telling.{set-one, refused-tells, accepted-tells}
+use Rattle.plate_track.specs.Code.{alone}
+use Rattle.plate_track.proofs.Spelling.{spelled-short, spelled-told}
 use Rattle.plate_track.proofs.Rows.{start-refused, start-shown}
 use Rattle.plate_track.proofs.plate_track_row.Statement.{statement}
 use Rattle.plate_track.proofs.plate_track_row.Tie as tie

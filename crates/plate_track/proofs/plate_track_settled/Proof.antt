@@ -2,7 +2,7 @@
 use borrow.Author.Needs.{needs}
 use mathlib.Core.Path.{ap}
 use Rattle.plate_track.specs.Code.{alone}
-use Rattle.plate_track.specs.Code.{checkWords}
+use Rattle.spelling.specs.Code.{checkWords}
 use Rattle.plate_track.proofs.Spelling.{spelled-short, spelled-told}
 use Rattle.plate_track.proofs.plate_track_settled.Statement.{statement}
 use Rattle.plate_track.proofs.plate_track_settled.Tie as tie

@@ -1,6 +1,6 @@
 -- `plate_track::plate_track_write` meets its contract. Assumes nothing.
 use borrow.Author.Needs.{needs}
-use Rattle.plate_track.specs.Code.{oneWord}
+use Rattle.spelling.specs.Code.{oneWord}
 use Rattle.plate_track.proofs.Spelling.{spelled-short, spelled-told}
 use Rattle.plate_track.proofs.plate_track_write.Statement.{statement}
 use Rattle.plate_track.proofs.plate_track_write.Tie as tie

@@ -6,7 +6,6 @@ use Prim.Native.Nat.{ℕ, _≤_}
 use Rattle.graph.specs.Limits.{maxVertices}
 use Rattle.graph.proofs.Judging.{size-accept}
 use Rattle.reader.specs.declared.network.ReadReply.the-variants as graphs
-use Rattle.reader.specs.declared.sources.SourcesReply.the-variants as lists
 use Rattle.dimacs.specs.Network.{readNetwork}
 use Rattle.dimacs.specs.Sources.{readSources}
 use Rattle.dimacs.specs.Call.{edgesRead, sourcesRead}

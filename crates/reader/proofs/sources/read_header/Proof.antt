@@ -1,8 +1,11 @@
 -- `reader::sources::read_header` meets its contract. Assumes nothing.
 use mathlib.Core.Path.{sym, ap, _∙_}
 use borrow.Author.Needs.{needs}
-use Rattle.reader.specs.Code.{oneOf}
-use Rattle.reader.proofs.SourcesItems.{header-lost, header-read}
+use Rattle.dimacs.specs.Sources.{headerFrom}
+use Rattle.reader.specs.Capped.{capSources}
+use Rattle.scanner.specs.Code.{oneOf}
+use Rattle.reader.proofs.Marks.{fields-lost}
+use Rattle.reader.proofs.SourcesItems.{header-read}
 use Rattle.reader.proofs.sources.read_header.Statement.{statement}
 use Rattle.reader.proofs.sources.read_header.Tie as tie
 
@@ -16,7 +19,8 @@ enum-told : tie.Need-enum-told
 enum-told c = search needs
 
 returns : tie.Need-returns
-returns c = header-lost _ (ap oneOf (sym (c .enum-told .given .1)) ∙ c .before .before .read-one .ensures)
+unfolding capSources
+returns c = ap capSources (fields-lost headerFrom _ (ap oneOf (sym (c .enum-told .given .1)) ∙ c .before .before .read-one .ensures))
 
 returns-2 : tie.Need-returns-2
 returns-2 c =

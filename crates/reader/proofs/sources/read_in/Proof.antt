@@ -8,9 +8,10 @@ use lib.Seq.{length-take-le}
 use Rattle.graph.specs.Refusal.{accept}
 use Rattle.graph.specs.Table.{size}
 use Rattle.graph.specs.Code.{told}
+use Rattle.graph.proofs.Judging.{size-accept}
 use Rattle.dimacs.specs.Sources.{maxSources}
 use Rattle.reader.proofs.Fronts.{paste-front}
-use Rattle.reader.proofs.SourcesSteps.{text-bad, text-good, text-whole, size-small, call-size, call-short, call-bad, call-good}
+use Rattle.reader.proofs.SourcesSteps.{text-bad, text-good, text-whole, call-size, call-short, call-bad, call-good}
 use Rattle.reader.proofs.sources.read_in.Statement.{statement}
 use Rattle.reader.proofs.sources.read_in.Tie as tie
 
@@ -53,7 +54,7 @@ returns-2 c =
 read-text-requires : tie.Need-read-text-requires
 read-text-requires c κs =
     let e = c .before .before in
-    (size-small _ (fine e), start (e .before .before) .pre)
+    (size-accept _ (sym (fine e)) .1, start (e .before .before) .pre)
 
 enum-known-line : tie.Need-enum-known-line
 enum-known-line c = search needs
@@ -72,7 +73,7 @@ cast-t21 : tie.Need-cast-t21
 cast-t21 c = omega (arith, count (c .before .before .before .before .before .before))
 
 same-length : tie.Need-same-length
-same-length c = search needs
+same-length c = c .before .before .before .before .before .read-text .kept .1 .1 .0
 
 returns-3 : tie.Need-returns-3
 returns-3 c =
@@ -82,10 +83,10 @@ returns-3 c =
     call-bad _ _ _ (fine (e .before)) (e .if1 .left) (text-bad _ (l .line .given .1) (t .read-text .ensures .0))
 
 same-length-2 : tie.Need-same-length-2
-same-length-2 c = search needs
+same-length-2 c = c .before .before .copy .kept .1 .1 .0
 
 same-length-3 : tie.Need-same-length-3
-same-length-3 c = search needs
+same-length-3 c = c .before .before .before .before .before .before .before .before .before .before .read-text .kept .1 .1 .0
 
 returns-4 : tie.Need-returns-4
 returns-4 c =

@@ -3,7 +3,7 @@ use mathlib.Core.Path.{sym, ap, _∙_}
 use borrow.Author.Needs.{needs}
 use Rattle.dimacs.specs.Sources.{headerMark, sourceMark}
 use Rattle.reader.specs.Capped.{capSources}
-use Rattle.reader.specs.Code.{begun}
+use Rattle.scanner.specs.Code.{begun}
 use Rattle.reader.proofs.SourcesItems.{item-header, item-source, item-nothing}
 use Rattle.reader.proofs.sources.read_item.Statement.{statement}
 use Rattle.reader.proofs.sources.read_item.Tie as tie

@@ -8,8 +8,9 @@ use borrow.Author.Needs.{needs}
 use Rattle.dimacs.specs.Read.{fields}
 use Rattle.dimacs.specs.Sources.{sourceFrom}
 use Rattle.reader.specs.Capped.{capSources}
-use Rattle.reader.specs.Code.{oneOf}
-use Rattle.reader.proofs.SourcesItems.{source-lost, source-read, source-zero, source-vertex}
+use Rattle.scanner.specs.Code.{oneOf}
+use Rattle.reader.proofs.Marks.{fields-lost}
+use Rattle.reader.proofs.SourcesItems.{source-read, source-zero, source-vertex}
 use Rattle.reader.proofs.sources.read_source.Statement.{statement}
 use Rattle.reader.proofs.sources.read_source.Tie as tie
 
@@ -27,7 +28,8 @@ enum-told : tie.Need-enum-told
 enum-told c = search needs
 
 returns : tie.Need-returns
-returns c = source-lost _ (ap oneOf (sym (c .enum-told .given .1)) ∙ c .before .before .read-one .ensures)
+unfolding capSources
+returns c = ap capSources (fields-lost sourceFrom _ (ap oneOf (sym (c .enum-told .given .1)) ∙ c .before .before .read-one .ensures))
 
 returns-2 : tie.Need-returns-2
 returns-2 c = source-zero _ (c .if1 .taken) ∙ number (c .before .before)

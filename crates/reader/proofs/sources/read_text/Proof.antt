@@ -7,10 +7,10 @@ use lib.ListN.{length, drop}
 use Rattle.dimacs.specs.Lines.{split}
 use Rattle.dimacs.specs.Read.{read}
 use Rattle.dimacs.specs.Sources as src
-use Rattle.reader.specs.declared.lines.Feed.the-variants.{Ends}
-use Rattle.reader.specs.Code.{splitBy, inText}
+use Rattle.scanner.specs.declared.Feed.the-variants.{Ends}
+use Rattle.scanner.specs.Code.{splitBy, inText}
 use Rattle.reader.specs.SourcesCode.{Held, stateOf, readOf}
-use Rattle.reader.proofs.Steps.{left, left-open, left-stop, left-next, left-end}
+use Rattle.dimacs.proofs.Reading.{left, left-open, left-stop, left-next, left-end}
 use Rattle.reader.proofs.SourcesSteps.{step-stops, step-goes, step-held}
 use Rattle.reader.proofs.sources.read_text.Statement.{statement}
 use Rattle.reader.proofs.sources.read_text.Tie as tie
@@ -61,7 +61,7 @@ add-t12 : tie.Need-add-t12 Inv-loop μ-loop
 add-t12 c = omega arith
 
 same-length : tie.Need-same-length Inv-loop μ-loop
-same-length c = search needs
+same-length c = c .before .before .before .before .loop .inv .4
 
 returns : tie.Need-returns Inv-loop μ-loop
 unfolding readOf
@@ -98,7 +98,7 @@ add-t19 c =
     omega (arith, l .loop .inv .3, l .loop .inv .2, start l .good)
 
 same-length-2 : tie.Need-same-length-2 Inv-loop μ-loop
-same-length-2 c = search needs
+same-length-2 c = let t = c .before .before .before .before in t .take-line .kept .1 .1 .1 .0 ∙ turn (t .before .before .before .before) .loop .inv .4
 
 returns-2 : tie.Need-returns-2 Inv-loop μ-loop
 unfolding readOf
@@ -143,7 +143,7 @@ end-text-requires : tie.Need-end-text-requires Inv-loop μ-loop
 end-text-requires c κs = let l = c .before in omega (arith, l .loop .inv .3, l .loop .inv .2, start l .good)
 
 same-length-3 : tie.Need-same-length-3 Inv-loop μ-loop
-same-length-3 c = search needs
+same-length-3 c = c .before .before .loop .inv .4
 
 returns-3 : tie.Need-returns-3 Inv-loop μ-loop
 returns-3 c =

@@ -53,7 +53,7 @@ take-item-requires : tie.Need-take-item-requires
 take-item-requires c κs = search needs
 
 same-length : tie.Need-same-length
-same-length c = search needs
+same-length c = c .before .before .take-item .kept .1 .1 .1 .0
 
 returns-3 : tie.Need-returns-3
 returns-3 c =

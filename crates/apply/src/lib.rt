@@ -1,0 +1,157 @@
+// A batch with the new table at hand, in lists 2: all rows are run in scratch lists, and where every row settles all that is lent is
+// written. Nothing lent is written before nothing can refuse any more.
+use graph::words;
+ghost use mathlib.Core.Path.{_≡_};
+ghost use mathlib.Core.List.{_++_};
+ghost use Prim.Native.Nat.{_-_, _*_, _≤_};
+ghost use lib.ListN.{length, take, replicate};
+ghost use Rattle.graph.specs.Limits.{maxEdges};
+ghost use Rattle.graph.specs.Refusal.{over};
+ghost use Rattle.graph.specs.Edge.{edges};
+ghost use Rattle.graph.specs.Code.{Room, columns};
+ghost use Rattle.network.specs.Network.{rowCount};
+ghost use Rattle.network.specs.Batch.{rewritten};
+ghost use Rattle.calls.specs.Code.{network, Tabled};
+ghost use Rattle.sides.specs.Code.{Fair, Scratch};
+ghost use Rattle.apply.specs.Code.{applyCall, batchOutcome};
+
+// The new count, and affected vertices and stores over all rows.
+pub struct Report {
+    pub count: u32,
+    pub affected: u64,
+    pub stores: u64,
+}
+
+// The reply to a batch.
+pub enum Applied {
+    Done(Report),
+    Refused(u32, usize),
+}
+
+// The first `count` words of `new` over those of `list`, then zeros up to 2,048.
+fn write_words(count: usize, new: &[u32], list: &mut [u32])
+    requires { ⌜ (count ≤ maxEdges) × (count ≤ length (now new)) × (maxEdges ≤ length (now list)) ⌝ }
+    ensures { λ _. ⌜ now (list .exit) ≡ over (take count (now (new .entry)) ++ replicate (maxEdges - count) 0) (now (list .entry)) ⌝ }
+{
+    words::copy(count, new, list, 0);
+    let end = graph::MAX_EDGES;
+    words::fill(&mut list[count..end], 0);
+}
+
+// The new table, of lists 2, over the old one: its records, then zeros up to 2,048.
+fn write_table(
+    count2: usize,
+    tails2: &[u32],
+    heads2: &[u32],
+    weights2: &[u32],
+    tails1: &mut [u32],
+    heads1: &mut [u32],
+    weights1: &mut [u32],
+)
+    requires { ⌜ (count2 ≤ maxEdges) × Room count2 (now tails2) (now heads2) (now weights2) × Room maxEdges (now tails1) (now heads1) (now weights1) ⌝ }
+    ensures { λ _. ⌜ columns (now (tails1 .exit)) (now (heads1 .exit)) (now (weights1 .exit)) ≡ rewritten (edges (now (tails2 .entry)) (now (heads2 .entry)) (now (weights2 .entry)) count2) (columns (now (tails1 .entry)) (now (heads1 .entry)) (now (weights1 .entry))) ⌝ }
+{
+    write_words(count2, tails2, tails1);
+    write_words(count2, heads2, heads1);
+    write_words(count2, weights2, weights1);
+}
+
+// A batch with the new table at hand, in scratch lists: number 13, or all that is lent is written.
+fn apply_in(
+    n: u32,
+    landmarks: &[u32],
+    tails: &mut [u32],
+    heads: &mut [u32],
+    weights: &mut [u32],
+    count: usize,
+    forward: &mut [u32],
+    backward: &mut [u32],
+    tails2: &[u32],
+    heads2: &[u32],
+    weights2: &[u32],
+    count2: usize,
+    gone: &mut [u32],
+    fresh: &mut [u32],
+    ahead: &mut [u32],
+    back: &mut [u32],
+) -> Applied
+    requires { ⌜ Fair n (now landmarks) (network (now tails) (now heads) (now weights) (now forward) (now backward) count) ⌝ }
+    requires { ⌜ Tabled n count2 (now tails2) (now heads2) (now weights2) ⌝ }
+    requires { ⌜ Scratch (rowCount (now landmarks) * n) (now gone) (now fresh) (now ahead) (now back) ⌝ }
+    ensures { λ r. ⌜ batchOutcome r (now (tails .exit)) (now (heads .exit)) (now (weights .exit)) (now (forward .exit)) (now (backward .exit)) ≡ applyCall n (now (landmarks .entry)) (network (now (tails .entry)) (now (heads .entry)) (now (weights .entry)) (now (forward .entry)) (now (backward .entry)) count) (edges (now (tails2 .entry)) (now (heads2 .entry)) (now (weights2 .entry)) count2) ⌝ }
+{
+    let rows = sides::batch_runs(
+        n,
+        landmarks,
+        tails,
+        heads,
+        weights,
+        count,
+        forward,
+        backward,
+        tails2,
+        heads2,
+        weights2,
+        count2,
+        gone,
+        fresh,
+        ahead,
+        back,
+    );
+    if rows.unsettled {
+        return Applied::Refused(13, 0);
+    }
+    write_table(count2, tails2, heads2, weights2, tails, heads, weights);
+    let k = ahead.len();
+    words::copy(k, ahead, forward, 0);
+    words::copy(k, back, backward, 0);
+    Applied::Done(Report {
+        count: count2 as u32,
+        affected: rows.affected,
+        stores: rows.stores,
+    })
+}
+
+// A batch with the new table at hand.
+pub fn apply(
+    n: u32,
+    landmarks: &[u32],
+    tails: &mut [u32],
+    heads: &mut [u32],
+    weights: &mut [u32],
+    count: usize,
+    forward: &mut [u32],
+    backward: &mut [u32],
+    tails2: &[u32],
+    heads2: &[u32],
+    weights2: &[u32],
+    count2: usize,
+) -> Applied
+    requires { ⌜ Fair n (now landmarks) (network (now tails) (now heads) (now weights) (now forward) (now backward) count) ⌝ }
+    requires { ⌜ Tabled n count2 (now tails2) (now heads2) (now weights2) ⌝ }
+    ensures { λ r. ⌜ batchOutcome r (now (tails .exit)) (now (heads .exit)) (now (weights .exit)) (now (forward .exit)) (now (backward .exit)) ≡ applyCall n (now (landmarks .entry)) (network (now (tails .entry)) (now (heads .entry)) (now (weights .entry)) (now (forward .entry)) (now (backward .entry)) count) (edges (now (tails2 .entry)) (now (heads2 .entry)) (now (weights2 .entry)) count2) ⌝ }
+{
+    let k = landmarks.len() * 5 * (n as usize);
+    let mut gone = [0u32; graph::MAX_EDGES];
+    let mut fresh = [0u32; graph::MAX_EDGES];
+    let mut ahead = [0u32; graph::ROW_WORDS];
+    let mut back = [0u32; graph::ROW_WORDS];
+    apply_in(
+        n,
+        landmarks,
+        tails,
+        heads,
+        weights,
+        count,
+        forward,
+        backward,
+        tails2,
+        heads2,
+        weights2,
+        count2,
+        &mut gone,
+        &mut fresh,
+        &mut ahead[..k],
+        &mut back[..k],
+    )
+}

@@ -1,0 +1,17 @@
+-- Tests put together by `&&` and `||`, beyond those of the crate graph. Assumes nothing.
+use mathlib.Core.Path.{_≡_, refl}
+use mathlib.Core.Bool.{Bool, true, false, _&&_, _||_}
+
+pub and-off : (a b : Bool) → b ≡ false → (a && b) ≡ false
+and-off true b h = h
+and-off false b h = refl
+
+pub and-swap : (a b c : Bool) → (a && (b && c)) ≡ (b && (a && c))
+and-swap true true c = refl
+and-swap true false c = refl
+and-swap false true c = refl
+and-swap false false c = refl
+
+pub or-nothing : (a : Bool) → (a || false) ≡ a
+or-nothing true = refl
+or-nothing false = refl

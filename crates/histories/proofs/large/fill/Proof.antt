@@ -1,0 +1,37 @@
+-- `histories::large::fill` is safe and ends: the measure is what is left of its turns. Assumes nothing.
+use Prim.Native.Nat.{_-_}
+use borrow.Author.Needs.{needs}
+use Rattle.histories.proofs.large.fill.Statement.{statement}
+use Rattle.histories.proofs.large.fill.Tie as tie
+
+abbrev Inv-loop : tie.InvT-loop
+Inv-loop tails₀ heads₀ weights₀ i₀ tails heads weights i = Unit {0}
+
+abbrev μ-loop : tie.MeasureT-loop
+μ-loop tails₀ heads₀ weights₀ i₀ tails heads weights i = 2048 - i
+
+loop-holds : tie.Need-loop-holds Inv-loop μ-loop
+loop-holds c = search needs
+
+cast-put : tie.Need-cast-put Inv-loop μ-loop
+cast-put c = search needs
+
+put-requires : tie.Need-put-requires Inv-loop μ-loop
+put-requires c κs = search needs
+
+add-i : tie.Need-add-i Inv-loop μ-loop
+add-i c = search needs
+
+loop-less : tie.Need-loop-less Inv-loop μ-loop
+loop-less c = search needs
+
+loop-again : tie.Need-loop-again Inv-loop μ-loop
+loop-again c = search needs
+
+returns : tie.Need-returns Inv-loop μ-loop
+returns c = search needs
+
+pub fill-spec : {M : Type 1} → statement M
+fill-spec =
+    tie.close
+    (tie.spec Inv-loop μ-loop loop-holds cast-put put-requires add-i loop-less loop-again returns)

@@ -1,0 +1,50 @@
+-- `model::draws::fill_schedule` is safe and ends: the measure is what is left of its turns. Assumes nothing.
+use Prim.Native.Nat.{_-_}
+use borrow.Author.Needs.{needs}
+use Rattle.model.proofs.draws.fill_schedule.Statement.{statement}
+use Rattle.model.proofs.draws.fill_schedule.Tie as tie
+
+abbrev Inv-loop : tie.InvT-loop
+Inv-loop key n schedule₀ i₀ schedule i = Unit {0}
+
+abbrev μ-loop : tie.MeasureT-loop
+μ-loop key n schedule₀ i₀ schedule i = 12 - i
+
+loop-holds : tie.Need-loop-holds Inv-loop μ-loop
+loop-holds c = search needs
+
+cast-put : tie.Need-cast-put Inv-loop μ-loop
+cast-put c = search needs
+
+draw-requires : tie.Need-draw-requires Inv-loop μ-loop
+draw-requires c κs = search needs
+
+put-requires : tie.Need-put-requires Inv-loop μ-loop
+put-requires c κs = search needs
+
+add-i : tie.Need-add-i Inv-loop μ-loop
+add-i c = search needs
+
+loop-less : tie.Need-loop-less Inv-loop μ-loop
+loop-less c = search needs
+
+loop-again : tie.Need-loop-again Inv-loop μ-loop
+loop-again c = search needs
+
+returns : tie.Need-returns Inv-loop μ-loop
+returns c = search needs
+
+pub fill-schedule-spec : {M : Type 1} → statement M
+fill-schedule-spec =
+    tie.close
+    (tie.spec
+    Inv-loop
+    μ-loop
+    loop-holds
+    cast-put
+    draw-requires
+    put-requires
+    add-i
+    loop-less
+    loop-again
+    returns)

@@ -1,0 +1,24 @@
+-- `plain_batch::count_changes` meets its contract. Assumes nothing.
+use borrow.Author.Needs.{needs}
+use mathlib.Core.Path.{_∙_}
+use Rattle.plain_batch.proofs.Calling.{changes-length}
+use Rattle.plain_batch.proofs.count_changes.Statement.{statement}
+use Rattle.plain_batch.proofs.count_changes.Tie as tie
+
+lesser-requires : tie.Need-lesser-requires
+lesser-requires c κs = search needs
+
+lesser-requires-2 : tie.Need-lesser-requires-2
+lesser-requires-2 c κs = search needs
+
+lesser-requires-3 : tie.Need-lesser-requires-3
+lesser-requires-3 c κs = search needs
+
+returns : tie.Need-returns
+returns c =
+    let a = c .before .before .before .before .before .before .before .args in
+    c .lesser3 .ensures ∙ (rw (c .before .before .lesser .ensures, c .before .lesser2 .ensures) (changes-length (a .kinds .now) (a .froms .now) (a .tos .now) (a .values .now)))
+
+pub count-changes-spec : {M : Type 1} → statement M
+count-changes-spec =
+    tie.close (tie.spec lesser-requires lesser-requires-2 lesser-requires-3 returns)

@@ -1,0 +1,175 @@
+// A batch on plain numbers, its changes side by side in four lists: numbers 1 to 4, its changes on a scratch table, then every row of the
+// network.
+use apply::Applied;
+use graph::Judged;
+use graph::rules;
+use graph::words;
+use items::Edited;
+ghost use mathlib.Core.Path.{_≡_};
+ghost use Prim.Native.Nat.{min};
+ghost use lib.ListN.{length};
+ghost use Rattle.graph.specs.Limits.{maxEdges};
+ghost use Rattle.graph.specs.Refusal.{accept};
+ghost use Rattle.graph.specs.Code.{told, Room};
+ghost use Rattle.network.specs.Batch.{batchCall, batchFaults};
+ghost use Rattle.calls.specs.Code.{network};
+ghost use Rattle.items.specs.Code.{changes};
+ghost use Rattle.apply.specs.Code.{batchOutcome};
+
+// The lesser of two numbers.
+pub fn lesser(a: usize, b: usize) -> usize
+    ensures { λ r. ⌜ r ≡ min a b ⌝ }
+{
+    if a < b { a } else { b }
+}
+
+// How many changes four lists hold side by side: as many as the shortest has words.
+fn count_changes(kinds: &[u32], froms: &[u32], tos: &[u32], values: &[u32]) -> usize
+    ensures { λ r. ⌜ r ≡ length (changes (now (kinds .entry)) (now (froms .entry)) (now (tos .entry)) (now (values .entry))) ⌝ }
+{
+    lesser(
+        lesser(kinds.len(), froms.len()),
+        lesser(tos.len(), values.len()),
+    )
+}
+
+// Numbers 1 to 4 of a batch of `size` changes.
+fn judge_batch(
+    n: u32,
+    landmarks: &[u32],
+    tails: &[u32],
+    heads: &[u32],
+    weights: &[u32],
+    count: u32,
+    forward: &[u32],
+    backward: &[u32],
+    size: usize,
+) -> Judged
+    ensures { λ r. ⌜ told r ≡ batchFaults n (now (landmarks .entry)) (network (now (tails .entry)) (now (heads .entry)) (now (weights .entry)) (now (forward .entry)) (now (backward .entry)) count) size ⌝ }
+{
+    let vertices = rules::judge_size(n);
+    let Judged::Fine = vertices else {
+        return vertices;
+    };
+    if size > graph::MAX_BATCH {
+        return Judged::Refused(1, 0);
+    }
+    let lists = calls::judge_lists(n, landmarks, tails, heads, weights, forward, backward);
+    let Judged::Fine = lists else {
+        return lists;
+    };
+    calls::judge_network(n, landmarks, tails, heads, weights, count)
+}
+
+// A batch that numbers 1 to 4 let pass: its changes are tried on a scratch table, of lists 2.
+fn batch_in(
+    n: u32,
+    landmarks: &[u32],
+    tails: &mut [u32],
+    heads: &mut [u32],
+    weights: &mut [u32],
+    count: usize,
+    forward: &mut [u32],
+    backward: &mut [u32],
+    kinds: &[u32],
+    froms: &[u32],
+    tos: &[u32],
+    values: &[u32],
+    size: usize,
+    tails2: &mut [u32],
+    heads2: &mut [u32],
+    weights2: &mut [u32],
+) -> Applied
+    requires { ⌜ size ≡ length (changes (now kinds) (now froms) (now tos) (now values)) ⌝ }
+    requires { ⌜ batchFaults n (now landmarks) (network (now tails) (now heads) (now weights) (now forward) (now backward) count) size ≡ accept ⌝ }
+    requires { ⌜ Room maxEdges (now tails2) (now heads2) (now weights2) ⌝ }
+    ensures { λ r. ⌜ batchOutcome r (now (tails .exit)) (now (heads .exit)) (now (weights .exit)) (now (forward .exit)) (now (backward .exit)) ≡ batchCall n (now (landmarks .entry)) (network (now (tails .entry)) (now (heads .entry)) (now (weights .entry)) (now (forward .entry)) (now (backward .entry)) count) (changes (now (kinds .entry)) (now (froms .entry)) (now (tos .entry)) (now (values .entry))) ⌝ }
+{
+    words::copy(count, tails, tails2, 0);
+    words::copy(count, heads, heads2, 0);
+    words::copy(count, weights, weights2, 0);
+    let edited = items::apply_items(
+        n,
+        size,
+        kinds,
+        froms,
+        tos,
+        values,
+        tails2,
+        heads2,
+        weights2,
+        count,
+    );
+    match edited {
+        Edited::Refused(number, place) => Applied::Refused(number, place),
+        Edited::Count(count2) => apply::apply(
+            n,
+            landmarks,
+            tails,
+            heads,
+            weights,
+            count,
+            forward,
+            backward,
+            tails2,
+            heads2,
+            weights2,
+            count2,
+        ),
+    }
+}
+
+// A batch whose changes are four lists side by side, for callers that can lend no slice of records.
+pub fn batch_lists(
+    n: u32,
+    landmarks: &[u32],
+    tails: &mut [u32],
+    heads: &mut [u32],
+    weights: &mut [u32],
+    count: u32,
+    forward: &mut [u32],
+    backward: &mut [u32],
+    kinds: &[u32],
+    froms: &[u32],
+    tos: &[u32],
+    values: &[u32],
+) -> Applied
+    ensures { λ r. ⌜ batchOutcome r (now (tails .exit)) (now (heads .exit)) (now (weights .exit)) (now (forward .exit)) (now (backward .exit)) ≡ batchCall n (now (landmarks .entry)) (network (now (tails .entry)) (now (heads .entry)) (now (weights .entry)) (now (forward .entry)) (now (backward .entry)) count) (changes (now (kinds .entry)) (now (froms .entry)) (now (tos .entry)) (now (values .entry))) ⌝ }
+{
+    let size = count_changes(kinds, froms, tos, values);
+    let judged = judge_batch(
+        n,
+        landmarks,
+        tails,
+        heads,
+        weights,
+        count,
+        forward,
+        backward,
+        size,
+    );
+    if let Judged::Refused(number, place) = judged {
+        return Applied::Refused(number, place);
+    }
+    let mut tails2 = [0u32; graph::MAX_EDGES];
+    let mut heads2 = [0u32; graph::MAX_EDGES];
+    let mut weights2 = [0u32; graph::MAX_EDGES];
+    batch_in(
+        n,
+        landmarks,
+        tails,
+        heads,
+        weights,
+        count as usize,
+        forward,
+        backward,
+        kinds,
+        froms,
+        tos,
+        values,
+        size,
+        &mut tails2,
+        &mut heads2,
+        &mut weights2,
+    )
+}

@@ -1,0 +1,64 @@
+-- Marks of n vertices in words of 64 bits: read, set, cleared, counted. Assumes nothing.
+use mathlib.Core.Path.{_≡_, refl, sym, ap, _∙_}
+use mathlib.Core.Logic.{_⊎_, inl, inr}
+use mathlib.Core.Bool.{Bool, true, false, cond}
+use mathlib.Core.List.{List, [], _∷_}
+use Prim.Native.Nat.{ℕ, zero, suc, _≤_, _<_}
+use native.Mathlib.Decide.{ℕ-discrete, decLt}
+use native.Mathlib.Omega.{arith}
+use lib.ListN.{length, getD, set, take, List·getD-eq-default}
+use lib.Seq.{getD-set-same, getD-set-other, length-take-le}
+use Rattle.frontier.specs.Waiting.{waitingOf, countOf}
+use Rattle.frontier.proofs.Laws.{count-none}
+use Rattle.run.specs.Code.{bits, Marks}
+use Rattle.run.proofs.States.{bits-at, marks-set}
+
+-- ---- one bit
+
+-- bit h of l is set where b holds
+module _ (l : List Bool) (h : ℕ) (b : Bool) where
+  pub raise-keeps : h < length l → (t : ℕ) → getD l t false ≡ true → getD (cond b (set l h true) l) t false ≡ true
+  raise-keeps k t q = pick b (ℕ-discrete t h)
+    where
+      pick : (a : Bool) → Dec (t ≡ h) → getD (cond a (set l h true) l) t false ≡ true
+      pick true (yes p) = rw p (getD-set-same l h true false k)
+      pick true (no d) = getD-set-other l h t true false d ∙ q
+      pick false d = q
+
+  pub raise-only : (t : ℕ) → getD (cond b (set l h true) l) t false ≡ true → (getD l t false ≡ true) ⊎ ((b ≡ true) × (t ≡ h))
+  raise-only t = pick b refl (ℕ-discrete t h)
+    where
+      pick : (a : Bool) → b ≡ a → Dec (t ≡ h) → getD (cond a (set l h true) l) t false ≡ true → (getD l t false ≡ true) ⊎ ((b ≡ true) × (t ≡ h))
+      pick true e (yes p) q = inr (e, p)
+      pick true e (no d) q = inl (sym (getD-set-other l h t true false d) ∙ q)
+      pick false e d q = inl q
+
+-- ---- marks
+
+-- past the last that is set there is nothing to count
+count-take : (n : ℕ) (l : List Bool) → ((k : ℕ) → n ≤ k → getD l k false ≡ false) → countOf (take n l) ≡ countOf l
+unfolding countOf
+count-take zero l f = sym (count-none l (λ k. f k (omega arith)))
+count-take (suc n) [] f = refl
+count-take (suc n) (true ∷ l) f = ap suc (count-take n l (λ k h. f (suc k) (omega arith)))
+count-take (suc n) (false ∷ l) f = count-take n l (λ k h. f (suc k) (omega arith))
+
+pub bits-count : (n : ℕ) (bs : List ℕ) → Marks n bs → countOf (waitingOf bs) ≡ countOf (bits n bs)
+bits-count n bs m = sym (count-take n (waitingOf bs) (m .idle))
+
+pub bits-length : (n : ℕ) (bs : List ℕ) → Marks n bs → length (bits n bs) ≡ n
+bits-length n bs m = length-take-le n (waitingOf bs) (omega (arith, m .few, m .bits))
+
+-- a bit of n vertices is one of all
+pub bits-all : (n : ℕ) (bs : List ℕ) → Marks n bs → (t : ℕ) → getD (bits n bs) t false ≡ getD (waitingOf bs) t false
+bits-all n bs m t = pick (decLt t n)
+  where
+    pick : Dec (t < n) → getD (bits n bs) t false ≡ getD (waitingOf bs) t false
+    pick (yes h) = bits-at n bs t h
+    pick (no d) = List·getD-eq-default (bits n bs) false (omega (arith, bits-length n bs m)) ∙ sym (m .idle t (omega arith))
+
+-- a vertex is marked where a test holds
+pub marks-if : (n : ℕ) (bs cs : List ℕ) (v : ℕ) (b : Bool) → v < n → waitingOf cs ≡ cond b (set (waitingOf bs) v true) (waitingOf bs)
+    → Marks n bs → Marks n cs
+marks-if n bs cs v true h e m = marks-set n v bs cs true h e m
+marks-if n bs cs v false h e m = record { few = m .few; bits = ap length e ∙ m .bits; idle = λ k l. ap (λ (x : List Bool). getD x k false) e ∙ m .idle k l }

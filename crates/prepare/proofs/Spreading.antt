@@ -1,0 +1,349 @@
+-- Marks that go on from vertex to vertex: what one edge does, what the listed edges and the edges of one vertex do, and that the marks
+-- are those of the affected vertices once nothing is to do. Assumes nothing.
+use mathlib.Core.Path.{_≡_, refl, sym, ap, _∙_}
+use mathlib.Core.Logic.{_⊎_, inl, inr, ⊎-elim}
+use mathlib.Core.Bool.{Bool, true, false, not, _||_, cond, true≢false, false≢true}
+use mathlib.Core.List.{List, [], _∷_, List·Memᴰ, List·Memᴰ·head, List·Memᴰ·tail, List·Memᴰ·cases-cons, List·Memᴰ·not-nil}
+use Prim.Native.Nat.{ℕ, zero, suc, _+_, _-_, _*_, _≤_, _<_}
+use native.Mathlib.Decide.{ℕ-discrete}
+use native.Mathlib.Omega.{arith}
+use lib.ListN.{length, getD, set, replicate}
+use lib.Seq.{getD-set-same, getD-set-other}
+use borrow.Author.Tests.{not-true}
+use Rattle.property.specs.Property.{Property}
+use Rattle.frontier.specs.Waiting.{waitingOf, capacity, countOf}
+use Rattle.frontier.proofs.Counts.{count-le}
+use Rattle.frontier.proofs.Laws.{count-insert, count-remove}
+use Rattle.graph.specs.Limits.{maxVertices}
+use Rattle.graph.specs.Edge.{Edge, edge, edges}
+use Rattle.graph.specs.Code.{Room, edgeAt}
+use Rattle.graph.specs.Own.{part, own, Own}
+use Rattle.graph.proofs.Tests.{both, and-true}
+use Rattle.graph.proofs.Lists.{replicate-at, getD-mem, getD-within}
+use Rattle.graph.proofs.Edges.{leaving-in, in-leaving}
+use Rattle.graph.proofs.Records.{edges-length, edges-at}
+use Rattle.run.specs.Run.{word}
+use Rattle.run.specs.Code.{bits, Marks}
+use Rattle.run.proofs.States.{marks-set, marks-clear}
+use Rattle.affected.specs.Affected.{removed, Named, holds, held, marked, affected}
+use Rattle.compare.specs.Code.{Missing, Ends}
+use Rattle.prepare.specs.Code.{Before, Going, Grown, strikes, Struck, Along, Covered, Spreads}
+use Rattle.prepare.proofs.Bits.{raise-keeps, raise-only, bits-all, bits-length, marks-if}
+use Rattle.affected.proofs.Closure.{touches-named}
+use Rattle.affected.proofs.Sweeps.{closed-exact}
+
+-- ---- an edge by what the code reads
+
+pub same-held : (P : Property) (n s t h w : ℕ) (ws : List ℕ) → t < n → h < n → length ws ≡ n
+    → holds P s (getD ws t 0) w h (getD ws h 0) ≡ held P s ws (edge t h w)
+same-held P n s t h w ws tail head size =
+    let p : getD ws t 0 ≡ word P ws t = getD-within ws t 0 (P .none) (omega arith) in
+    let q : getD ws h 0 ≡ word P ws h = getD-within ws h 0 (P .none) (omega arith) in
+    rw (p, q)
+
+-- ---- growth
+
+pub grown-none : (ms ds : List Bool) → Grown ms ds ms ds
+grown-none ms ds = record { keeps = λ t q. q; due = λ t q. q; new = λ t q. inl q; count = refl; more = omega arith }
+
+pub grown-then : {ms ds ms′ ds′ ms″ ds″ : List Bool} → Grown ms ds ms′ ds′ → Grown ms′ ds′ ms″ ds″ → Grown ms ds ms″ ds″
+grown-then p q = record {
+  keeps = λ t h. q .keeps t (p .keeps t h);
+  due = λ t h. q .due t (p .due t h);
+  new = λ t h. ⊎-elim (λ k. ⊎-elim inl (λ j. inr (q .due t j)) (p .new t k)) inr (q .new t h);
+  count = (let x = p .count in let y = q .count in omega arith);
+  more = (let x = p .more in let y = q .more in omega arith);
+}
+
+-- ---- one edge
+
+-- the edge e, whose head is h, is gone along
+module _ (P : Property) (n s : ℕ) (vs : List ℕ) (e : Edge) (head : e .head < n) (bs ds bs′ ds′ : List ℕ) (at : Going n bs ds)
+    (p : waitingOf bs′ ≡ cond (strikes P s vs (waitingOf bs) e) (set (waitingOf bs) (e .head) true) (waitingOf bs))
+    (q : waitingOf ds′ ≡ cond (strikes P s vs (waitingOf bs) e) (set (waitingOf ds) (e .head) true) (waitingOf ds)) where
+  abbrev hit : Bool
+  hit = strikes P s vs (waitingOf bs) e
+
+  head-bit : e .head < length (waitingOf bs)
+  head-bit = omega (arith, at .marks .bits, at .marks .few)
+
+  head-due : e .head < length (waitingOf ds)
+  head-due = omega (arith, at .todo .bits, at .todo .few)
+
+  struck-keeps : (t : ℕ) → marked (waitingOf bs) t ≡ true → marked (waitingOf bs′) t ≡ true
+  struck-keeps t k = rw p (raise-keeps (waitingOf bs) (e .head) hit head-bit t k)
+
+  struck-due : (t : ℕ) → marked (waitingOf ds) t ≡ true → marked (waitingOf ds′) t ≡ true
+  struck-due t k = rw q (raise-keeps (waitingOf ds) (e .head) hit head-due t k)
+
+  hit-bit : hit ≡ true → marked (waitingOf bs′) (e .head) ≡ true
+  hit-bit h = rw (p, h) (getD-set-same (waitingOf bs) (e .head) true false head-bit)
+
+  hit-due : hit ≡ true → marked (waitingOf ds′) (e .head) ≡ true
+  hit-due h = rw (q, h) (getD-set-same (waitingOf ds) (e .head) true false head-due)
+
+  pub strike-going : Going n bs′ ds′
+  strike-going = record {
+    marks = marks-if n bs bs′ (e .head) hit head p (at .marks);
+    todo = marks-if n ds ds′ (e .head) hit head q (at .todo);
+    among = λ t k. ⊎-elim (λ j. struck-keeps t (at .among t j)) (λ j. rw (j .1) (hit-bit (j .0))) (raise-only (waitingOf ds) (e .head) hit t (rw q at k));
+  }
+
+  counted : (b : Bool) → hit ≡ b → Grown (waitingOf bs) (waitingOf ds) (waitingOf bs′) (waitingOf ds′)
+  counted false h =
+      let x : waitingOf bs′ ≡ waitingOf bs = p ∙ rw h in
+      let y : waitingOf ds′ ≡ waitingOf ds = q ∙ rw h in
+      rw (x, y) (grown-none (waitingOf bs) (waitingOf ds))
+  counted true h =
+      let x : waitingOf bs′ ≡ set (waitingOf bs) (e .head) true = p ∙ rw h in
+      let y : waitingOf ds′ ≡ set (waitingOf ds) (e .head) true = q ∙ rw h in
+      let off : marked (waitingOf bs) (e .head) ≡ false = not-true _ (both (not (marked (waitingOf bs) (e .head))) _ h .0) in
+      let c = ap countOf x ∙ count-insert (waitingOf bs) (e .head) head-bit off in
+      let d = ap countOf y ∙ count-insert (waitingOf ds) (e .head) head-due (idle (marked (waitingOf ds) (e .head)) refl off) in record {
+        keeps = struck-keeps;
+        due = struck-due;
+        new = λ t k. ⊎-elim inl (λ j. inr (rw (j .1) (hit-due h))) (raise-only (waitingOf bs) (e .head) hit t (rw p at k));
+        count = omega arith;
+        more = omega arith;
+      }
+    where
+      idle : (a : Bool) → marked (waitingOf ds) (e .head) ≡ a → marked (waitingOf bs) (e .head) ≡ false → marked (waitingOf ds) (e .head) ≡ false
+      idle true k off = absurd (true≢false (sym (at .among (e .head) k) ∙ off))
+      idle false k off = k
+
+  pub strike-grown : Grown (waitingOf bs) (waitingOf ds) (waitingOf bs′) (waitingOf ds′)
+  strike-grown = counted hit refl
+
+  -- a removed edge, or one from a marked vertex, marks an affected vertex
+  pub strike-named : (es fs : List Edge) → List·Memᴰ e es → (removed fs e || marked (waitingOf bs) (e .tail)) ≡ true → Named P es fs s vs (waitingOf bs)
+      → Named P es fs s vs (waitingOf bs′)
+  strike-named es fs m r g t k =
+      ⊎-elim (g t)
+      (λ j. rw (j .1) (touches-named P es fs s vs (waitingOf bs) e g m (and-true (both (not (marked (waitingOf bs) (e .head))) (held P s vs e) (j .0) .1) r)))
+      (raise-only (waitingOf bs) (e .head) hit t (rw p at k))
+
+  -- a held edge leaves its head marked
+  pub strike-done : held P s vs e ≡ true → marked (waitingOf bs′) (e .head) ≡ true
+  strike-done h = pick (marked (waitingOf bs) (e .head)) refl
+    where
+      pick : (b : Bool) → marked (waitingOf bs) (e .head) ≡ b → marked (waitingOf bs′) (e .head) ≡ true
+      pick true k = struck-keeps (e .head) k
+      pick false k = hit-bit (and-true (ap not k) h)
+
+-- ---- the listed edges
+
+-- the edge that stands at index k is one of the edges
+pub edge-mem : (ts hs ws : List ℕ) (m : ℕ) → Room m ts hs ws → (k : ℕ) → k < m → List·Memᴰ (edgeAt ts hs ws k) (edges ts hs ws m)
+edge-mem ts hs ws m r k h = rw (edges-at ts hs ws m r k h) at (getD-mem (edges ts hs ws m) k (edge 0 0 0) (omega (arith, edges-length ts hs ws m r)))
+
+mem-at : (es : List Edge) (e : Edge) → List·Memᴰ e es → (k : ℕ) × (k < length es) × (getD es k (edge 0 0 0) ≡ e)
+mem-at [] e m = absurd (List·Memᴰ·not-nil m)
+mem-at (x ∷ es) e m =
+    ⊎-elim (λ (p : e ≡ x). (0, omega arith, sym p)) (λ n. let z = mem-at es e n in (suc (z .0), (let l = z .1 in omega arith), z .2)) (List·Memᴰ·cases-cons m)
+
+-- each edge stands at some index
+pub edge-index : (ts hs ws : List ℕ) (m : ℕ) → Room m ts hs ws → (e : Edge) → List·Memᴰ e (edges ts hs ws m) → (k : ℕ) × (k < m) × (edgeAt ts hs ws k ≡ e)
+edge-index ts hs ws m r e i =
+    let z = mem-at (edges ts hs ws m) e i in
+    let l : z .0 < m = (let x = z .1 in omega (arith, edges-length ts hs ws m r)) in
+    (z .0, l, sym (edges-at ts hs ws m r (z .0) l) ∙ z .2)
+
+pub edge-head : (n : ℕ) (ts hs ws : List ℕ) (m : ℕ) → Room m ts hs ws → Ends n m ts hs → (e : Edge) → List·Memᴰ e (edges ts hs ws m) → e .head < n
+edge-head n ts hs ws m r k e i =
+    let z = edge-index ts hs ws m r e i in
+    let x : edgeAt ts hs ws (z .0) ≡ e = z .2 in
+    rw (← x) (k .into (z .0) (z .1))
+
+module _ {P : Property} {n s m : ℕ} {ts hs ws gs vs bs ds : List ℕ} where
+  pub struck-start : Going n bs ds → Struck P n s m ts hs ws gs 0 vs bs ds bs ds
+  struck-start h = record { going = h; grown = grown-none (waitingOf bs) (waitingOf ds); named = λ fs k l q d. d; struck = λ j l. absurd (omega arith) }
+
+  pub struck-as : {cs es : List ℕ} {i g : ℕ} → Struck P n s m ts hs ws gs i vs bs ds cs es → i ≡ g → Struck P n s m ts hs ws gs g vs bs ds cs es
+  struck-as at e = rw e at at
+
+  module _ {g : ℕ} (fit : Before n m ts hs ws gs g vs) {cs es : List ℕ} {i : ℕ} (at : Struck P n s m ts hs ws gs i vs bs ds cs es) (inside : i < g) where
+    abbrev x : Edge
+    x = edgeAt ts hs ws (getD gs i 0)
+
+    pub struck-turn : (cs′ es′ : List ℕ) → waitingOf cs′ ≡ cond (strikes P s vs (waitingOf cs) x) (set (waitingOf cs) (x .head) true) (waitingOf cs)
+        → waitingOf es′ ≡ cond (strikes P s vs (waitingOf cs) x) (set (waitingOf es) (x .head) true) (waitingOf es)
+        → Struck P n s m ts hs ws gs (i + 1) vs bs ds cs′ es′
+    struck-turn cs′ es′ p q =
+        let k = fit .below i inside in
+        let h : x .head < n = fit .ends .into (getD gs i 0) k in
+        let y = strike-grown P n s vs x h cs es cs′ es′ (at .going) p q in record {
+          going = strike-going P n s vs x h cs es cs′ es′ (at .going) p q;
+          grown = grown-then (at .grown) y;
+          named = λ fs o l d f.
+              strike-named P n s vs x h cs es cs′ es′ (at .going) p q (edges ts hs ws m) fs (edge-mem ts hs ws m (fit .room) (getD gs i 0) k)
+              (rw (d .lacks i (omega arith))) (at .named fs o (omega arith) d f);
+          struck = λ j l u. pick j u (ℕ-discrete j i) (λ z. at .struck j (omega arith) u);
+        }
+      where
+        pick : (j : ℕ) → held P s vs (edgeAt ts hs ws (getD gs j 0)) ≡ true → Dec (j ≡ i)
+            → ((j ≡ i → ⊥) → marked (waitingOf cs) (getD hs (getD gs j 0) 0) ≡ true) → marked (waitingOf cs′) (getD hs (getD gs j 0) 0) ≡ true
+        pick j u (yes e) f =
+            let h : x .head < n = fit .ends .into (getD gs i 0) (fit .below i inside) in
+            rw e (strike-done P n s vs x h cs es cs′ es′ (at .going) p q (rw e at u))
+        pick j u (no d) f =
+            let h : x .head < n = fit .ends .into (getD gs i 0) (fit .below i inside) in
+            strike-grown P n s vs x h cs es cs′ es′ (at .going) p q .keeps _ (f d)
+
+-- ---- the edges of one vertex
+
+module _ {P : Property} {n s : ℕ} {hs ws : List ℕ} {u j : ℕ} {vs bs ds : List ℕ} where
+  pub along-start : Going n bs ds → Along P n s hs ws u j j vs bs ds bs ds
+  along-start h = record { going = h; grown = grown-none (waitingOf bs) (waitingOf ds); named = λ es fs i d. d; along = λ i a b. absurd (omega arith) }
+
+  pub along-as : {cs es : List ℕ} {k i : ℕ} → Along P n s hs ws u j k vs bs ds cs es → k ≡ i → Along P n s hs ws u j i vs bs ds cs es
+  along-as at e = rw e at at
+
+  module _ {cs es : List ℕ} {k : ℕ} (at : Along P n s hs ws u j k vs bs ds cs es) (on : marked (waitingOf bs) u ≡ true) (low : j ≤ k) (head : getD hs k 0 < n) where
+    abbrev y : Edge
+    y = edge u (getD hs k 0) (getD ws k 0)
+
+    pub along-turn : (cs′ es′ : List ℕ) → waitingOf cs′ ≡ cond (strikes P s vs (waitingOf cs) y) (set (waitingOf cs) (y .head) true) (waitingOf cs)
+        → waitingOf es′ ≡ cond (strikes P s vs (waitingOf cs) y) (set (waitingOf es) (y .head) true) (waitingOf es)
+        → Along P n s hs ws u j (k + 1) vs bs ds cs′ es′
+    along-turn cs′ es′ p q =
+        let z = strike-grown P n s vs y head cs es cs′ es′ (at .going) p q in record {
+          going = strike-going P n s vs y head cs es cs′ es′ (at .going) p q;
+          grown = grown-then (at .grown) z;
+          named = λ xs fs i d.
+              strike-named P n s vs y head cs es cs′ es′ (at .going) p q xs fs (i k low (omega arith)) (or-on (removed fs y) (at .grown .keeps u on))
+              (at .named xs fs (λ o a b. i o a (omega arith)) d);
+          along = λ i a b c. pick i c (ℕ-discrete i k) (λ e. at .along i a (omega arith) c);
+        }
+      where
+        or-on : (a : Bool) {b : Bool} → b ≡ true → (a || b) ≡ true
+        or-on true h = refl
+        or-on false h = h
+
+        pick : (i : ℕ) → held P s vs (edge u (getD hs i 0) (getD ws i 0)) ≡ true → Dec (i ≡ k)
+            → ((i ≡ k → ⊥) → marked (waitingOf cs) (getD hs i 0) ≡ true) → marked (waitingOf cs′) (getD hs i 0) ≡ true
+        pick i c (yes e) f = rw e (strike-done P n s vs y head cs es cs′ es′ (at .going) p q (rw e at c))
+        pick i c (no d) f = strike-grown P n s vs y head cs es cs′ es′ (at .going) p q .keeps _ (f d)
+
+-- ---- an index has the edges of a vertex
+
+part-mem : (hs ws : List ℕ) (u j c k : ℕ) → j ≤ k → k < j + c → List·Memᴰ (edge u (getD hs k 0) (getD ws k 0)) (part hs ws u j c)
+unfolding part
+part-mem hs ws u j zero k a b = absurd (omega arith)
+part-mem hs ws u j (suc c) k a b = pick (ℕ-discrete k j) (λ d. part-mem hs ws u (suc j) c k (omega arith) (omega arith))
+  where
+    pick : Dec (k ≡ j) → ((k ≡ j → ⊥) → List·Memᴰ (edge u (getD hs k 0) (getD ws k 0)) (part hs ws u (suc j) c))
+        → List·Memᴰ (edge u (getD hs k 0) (getD ws k 0)) (edge u (getD hs j 0) (getD ws j 0) ∷ part hs ws u (suc j) c)
+    pick (yes e) f = List·Memᴰ·head (ap (λ (i : ℕ). edge u (getD hs i 0) (getD ws i 0)) e)
+    pick (no d) f = List·Memᴰ·tail (f d)
+
+mem-part : (hs ws : List ℕ) (u j c : ℕ) (e : Edge) → List·Memᴰ e (part hs ws u j c)
+    → (k : ℕ) × (j ≤ k) × (k < j + c) × (edge u (getD hs k 0) (getD ws k 0) ≡ e)
+unfolding part
+mem-part hs ws u j zero e m = absurd (List·Memᴰ·not-nil m)
+mem-part hs ws u j (suc c) e m =
+    ⊎-elim (λ p. (j, omega arith, omega arith, sym p))
+    (λ i. let z = mem-part hs ws u (suc j) c e i in let a = z .1 in let b = z .2 in (z .0, omega arith, omega arith, z .3)) (List·Memᴰ·cases-cons m)
+
+module _ (n : ℕ) (is hs ws : List ℕ) (es : List Edge) (o : Own n is hs ws es) where
+  pub own-reads : (u k : ℕ) → u < n → getD is u 0 ≤ k → k < getD is (u + 1) 0 → List·Memᴰ (edge u (getD hs k 0) (getD ws k 0)) es
+  own-reads u k h a b =
+      let z : List·Memᴰ (edge u (getD hs k 0) (getD ws k 0)) (own is hs ws u) = part-mem hs ws u (getD is u 0) (getD is (u + 1) 0 - getD is u 0) k a (omega arith) in
+      leaving-in u es _ (rw (o u h) at z) .0
+
+  pub own-whole : (u : ℕ) (e : Edge) → u < n → e .tail ≡ u → List·Memᴰ e es
+      → (k : ℕ) × (getD is u 0 ≤ k) × (k < getD is (u + 1) 0) × (edge u (getD hs k 0) (getD ws k 0) ≡ e)
+  own-whole u e h q m =
+      let i : List·Memᴰ e (own is hs ws u) = rw (o u h) (in-leaving u m q) in
+      let z = mem-part hs ws u (getD is u 0) (getD is (u + 1) 0 - getD is u 0) e i in
+      let a = z .1 in
+      let b = z .2 in
+      (z .0, a, omega arith, z .3)
+
+-- ---- all that is to do
+
+pub spreads-none : {P : Property} {n s : ℕ} {es : List Edge} {vs bs ds : List ℕ} → Spreads P n s es vs bs ds bs ds
+spreads-none = record { keeps = λ t q. q; named = λ fs d. d; covered = λ c. c }
+
+module _ {n : ℕ} {bs ds : List ℕ} (u : ℕ) (at : Going n bs ds) where
+  -- u is to do no more
+  pub taken-going : (es : List ℕ) → u < n → waitingOf es ≡ set (waitingOf ds) u false → Going n bs es
+  taken-going es h e = record { marks = at .marks; todo = marks-set n u ds es false h e (at .todo); among = λ t k. at .among t (pick t (ℕ-discrete t u) (rw e at k)) }
+    where
+      pick : (t : ℕ) → Dec (t ≡ u) → getD (set (waitingOf ds) u false) t false ≡ true → marked (waitingOf ds) t ≡ true
+      pick t (yes p) k =
+          absurd (false≢true (sym (getD-set-same (waitingOf ds) u false false (omega (arith, at .todo .bits, at .todo .few))) ∙ ap (λ (i : ℕ). getD (set (waitingOf ds) u false) i false) (sym p) ∙ k))
+      pick t (no d) k = sym (getD-set-other (waitingOf ds) u t false false d) ∙ k
+
+  -- The edges of u are gone along: those of any other vertex that is not to do were covered before, and no mark is taken away; a
+  -- vertex that was marked on the way is to do.
+  pub spreads-turn : {P : Property} {s : ℕ} {hs ws vs : List ℕ} (is es : List ℕ) → waitingOf es ≡ set (waitingOf ds) u false → (bs′ ds′ : List ℕ) → u < n
+      → Along P n s hs ws u (getD is u 0) (getD is (u + 1) 0) vs bs es bs′ ds′ → (xs : List Edge) → Own n is hs ws xs → Spreads P n s xs vs bs ds bs′ ds′
+  spreads-turn {P} {s} {hs} {ws} {vs} is es e bs′ ds′ h al xs o = record {
+    keeps = al .grown .keeps;
+    named = λ fs d. al .named xs fs (λ i a b. own-reads n is hs ws xs o u i h a b) d;
+    covered = λ c x m k q. ⊎-elim (λ r. old c x m k r (ℕ-discrete (x .tail) u)) inr (al .grown .new (x .tail) q);
+  }
+    where
+      old : Covered P xs s vs (waitingOf bs) (waitingOf ds) → (x : Edge) → List·Memᴰ x xs → held P s vs x ≡ true → marked (waitingOf bs) (x .tail) ≡ true
+          → Dec (x .tail ≡ u) → (marked (waitingOf bs′) (x .head) ≡ true) ⊎ (marked (waitingOf ds′) (x .tail) ≡ true)
+      old c x m k r (yes p) =
+          let z = own-whole n is hs ws xs o u x h p m in
+          let f : edge u (getD hs (z .0) 0) (getD ws (z .0) 0) ≡ x = z .3 in
+          inl (ap (λ (i : Edge). marked (waitingOf bs′) (i .head)) (sym f) ∙ al .along (z .0) (z .1) (z .2) (ap (λ (i : Edge). held P s vs i) f ∙ k))
+      old c x m k r (no d) =
+          ⊎-elim (λ q. inl (al .grown .keeps (x .head) q))
+          (λ q. inr (al .grown .due (x .tail) (rw e (getD-set-other (waitingOf ds) u (x .tail) false false d ∙ q)))) (c x m k r)
+
+  -- what is left to do grows less: a vertex is taken, and each that is marked on the way has one mark less to come
+  pub spread-falls : marked (waitingOf ds) u ≡ true → (es bs′ ds′ : List ℕ) → waitingOf es ≡ set (waitingOf ds) u false → Marks n bs′ → Grown (waitingOf bs) (waitingOf es) (waitingOf bs′) (waitingOf ds′)
+      → 2 * (capacity - countOf (waitingOf bs′)) + countOf (waitingOf ds′) < 2 * (capacity - countOf (waitingOf bs)) + countOf (waitingOf ds)
+  spread-falls on es bs′ ds′ e k g =
+      let a = count-remove (waitingOf ds) u on in
+      let b : countOf (waitingOf es) ≡ countOf (set (waitingOf ds) u false) = ap countOf e in
+      let c = count-le (waitingOf bs′) in
+      omega (arith, g .count, g .more, k .bits)
+
+pub spreads-then : {P : Property} {n s : ℕ} {es : List Edge} {vs bs ds bs′ ds′ bs″ ds″ : List ℕ} → Spreads P n s es vs bs ds bs′ ds′
+    → Spreads P n s es vs bs′ ds′ bs″ ds″ → Spreads P n s es vs bs ds bs″ ds″
+spreads-then p q = record { keeps = λ t k. q .keeps t (p .keeps t k); named = λ fs d. q .named fs (p .named fs d); covered = λ c. q .covered (p .covered c) }
+
+-- ---- the affected vertices
+
+-- From no marks the removed edges mark heads, and marks go on until nothing is to do. Every mark is of an affected vertex. A removed
+-- held edge is listed, so its head is marked; a held edge from a marked vertex has its head marked, since that vertex is not to do. So
+-- the marks are closed, and are exactly the affected vertices.
+module _ (P : Property) (n s m : ℕ) (ts hs ws gs : List ℕ) (g : ℕ) (vs : List ℕ) (fit : Before n m ts hs ws gs g vs)
+    (bs ds bs′ ds′ bs″ ds″ : List ℕ) (p : waitingOf bs ≡ replicate capacity false) (q : waitingOf ds ≡ replicate capacity false)
+    (k : Struck P n s m ts hs ws gs g vs bs ds bs′ ds′) (sp : Spreads P n s (edges ts hs ws m) vs bs′ ds′ bs″ ds″)
+    (go : Going n bs″ ds″) (idle : (t : ℕ) → getD (waitingOf ds″) t false ≡ false) where
+  unmarked : (t : ℕ) → marked (waitingOf bs) t ≡ false
+  unmarked t = ap (λ (l : List Bool). getD l t false) p ∙ replicate-at capacity t false
+
+  covered : Covered P (edges ts hs ws m) s vs (waitingOf bs″) (waitingOf ds″)
+  covered = sp .covered (λ e i h r. ⊎-elim (λ a. absurd (false≢true (sym (unmarked (e .tail)) ∙ a))) inr (k .grown .new (e .tail) r))
+
+  pub marks-found : (fs : List Edge) → Missing m ts hs ws fs gs g → bits n bs″ ≡ affected P (edges ts hs ws m) fs s vs n
+  marks-found fs d =
+      closed-exact P (edges ts hs ws m) fs s vs n (edge-head n ts hs ws m (fit .room) (fit .ends)) (bits n bs″) (bits-length n bs″ (go .marks))
+      (λ t h. sp .named fs (k .named fs g (omega arith) d (λ i h. absurd (false≢true (sym (unmarked i) ∙ h)))) t (sym (bits-all n bs″ (go .marks) t) ∙ h))
+      (λ e i h. bits-all n bs″ (go .marks) (e .head) ∙ shut e i (both (held P s vs e) _ h .0) (removed fs e) refl (both (held P s vs e) _ h .1))
+    where
+      shut : (e : Edge) → List·Memᴰ e (edges ts hs ws m) → held P s vs e ≡ true → (b : Bool) → removed fs e ≡ b → (b || marked (bits n bs″) (e .tail)) ≡ true
+          → marked (waitingOf bs″) (e .head) ≡ true
+      shut e i h false r c =
+          ⊎-elim (λ a. a) (λ a. absurd (false≢true (sym (idle (e .tail)) ∙ a))) (covered e i h (sym (bits-all n bs″ (go .marks) (e .tail)) ∙ c))
+      shut e i h true r c =
+          let z = edge-index ts hs ws m (fit .room) e i in
+          let x : edgeAt ts hs ws (z .0) ≡ e = z .2 in
+          let y = d .all (z .0) (z .1) (ap (removed fs) x ∙ r) in
+          let o : edgeAt ts hs ws (getD gs (y .0) 0) ≡ e = ap (λ (j : ℕ). edgeAt ts hs ws j) (y .2) ∙ x in
+          ap (λ (j : Edge). marked (waitingOf bs″) (j .head)) (sym o)
+          ∙ sp .keeps _ (k .struck (y .0) (y .1) (ap (λ (j : Edge). held P s vs j) o ∙ h))
+
+-- nothing is marked and nothing to do
+pub going-clear : (n : ℕ) (bs ds : List ℕ) → n ≤ maxVertices → waitingOf bs ≡ replicate capacity false → waitingOf ds ≡ replicate capacity false → Going n bs ds
+going-clear n bs ds h p q = record {
+  marks = marks-clear n bs h p;
+  todo = marks-clear n ds h q;
+  among = λ t k. absurd (false≢true (sym (ap (λ (l : List Bool). getD l t false) q ∙ replicate-at capacity t false) ∙ k));
+}

@@ -1,0 +1,245 @@
+-- Where a row's rounds start: words of marked vertices that are cleared one after the other, and bits that are set. Assumes nothing.
+--
+--   Given .. out i     == the first i words of out are those with which the rounds start, the others as they were
+--   opens es ms t e    == e, an edge of the new list, has vertex t wait
+use mathlib.Core.Path.{_≡_, refl, sym, ap, _∙_}
+use mathlib.Core.Logic.{_⊎_, inl, inr, ⊎-elim}
+use mathlib.Core.Bool.{Bool, true, false, _&&_, _||_, cond, false≢true}
+use mathlib.Core.List.{List, map, List·Memᴰ}
+use Prim.Native.Nat.{ℕ, _+_, _≤_, _<_}
+use native.Mathlib.Decide.{ℕ-discrete, decLt}
+use native.Mathlib.Omega.{arith}
+use lib.ListN.{length, getD, set, replicate, length-set}
+use lib.Seq.{paste, length-paste, getD-set-same, getD-set-other, ext-getD}
+use lib.Dec.{eqb}
+use borrow.Author.Tests.{eqb-true, eq-eqb}
+use Rattle.property.specs.Property.{Property}
+use Rattle.frontier.specs.Waiting.{waitingOf, capacity}
+use Rattle.frontier.proofs.Laws.{First}
+use Rattle.graph.specs.Edge.{Edge, edge, edges, exists, range}
+use Rattle.graph.specs.Code.{Room, edgeAt}
+use Rattle.graph.proofs.Edges.{exists-true, true-exists}
+use Rattle.graph.proofs.Tests.{both, and-true, or-right, same-test}
+use Rattle.graph.proofs.Lists.{length-table, table-at, getD-within, replicate-at, paste-at}
+use Rattle.run.specs.Run.{noTally, word}
+use Rattle.run.specs.Code.{bits, Marks}
+use Rattle.run.proofs.States.{bits-at}
+use Rattle.affected.specs.Affected.{added, marked, affected}
+use Rattle.affected.specs.Prepared.{cleared, reopened, prepared}
+use Rattle.compare.specs.Code.{Missing}
+use Rattle.prepare.specs.Code.{Inward, Raised}
+use Rattle.prepare.proofs.Bits.{bits-all, bits-length}
+use Rattle.prepare.proofs.Spreading.{edge-mem, edge-index}
+
+-- ---- words
+
+-- what a vertex is given
+abbrev given : Property → ℕ → List ℕ → List ℕ → ℕ → ℕ
+given P n ms ws t = cond (marked (bits n ms) t) (P .none) (word P ws t)
+
+pub record Given (P : Property) (n : ℕ) (ms ws out : List ℕ) (i : ℕ) : Type 0 where
+  pub within : i ≤ n
+  pub size : length out ≡ n
+  pub below : (k : ℕ) → k < i → getD out k 0 ≡ given P n ms ws k
+  pub above : (k : ℕ) → i ≤ k → getD out k 0 ≡ getD ws k 0
+
+module _ (P : Property) (n : ℕ) (ms ws : List ℕ) (l : length ws ≡ n) where
+  pub give-start : Given P n ms ws ws 0
+  give-start = record { within = omega arith; size = l; below = λ k h. absurd (omega arith); above = λ k h. refl }
+
+  -- a vertex that is not marked keeps its word
+  spared : (k : ℕ) → k < n → getD (waitingOf ms) k false ≡ false → getD ws k 0 ≡ given P n ms ws k
+  spared k h q =
+      let x : getD ws k 0 ≡ word P ws k = getD-within ws k 0 (P .none) (omega arith) in
+      x ∙ ap (λ b. cond b (P .none) (word P ws k)) (sym (bits-at n ms k h ∙ q))
+
+  module _ {out : List ℕ} {i : ℕ} (at : Given P n ms ws out i) where
+    pub give-turn : {v : ℕ} {r : ℕ} → v < n → First (waitingOf ms) i v → r ≡ P .none → Given P n ms ws (set out v r) (v + 1)
+    give-turn {v} {r} h f e = record {
+      within = omega arith;
+      size = length-set out v r ∙ at .size;
+      below = λ k j. pick k (ℕ-discrete k v) (λ d. under k (decLt k i) (λ o. at .below k o) (λ o. at .above k (omega arith) ∙ spared k (omega arith) (f .before k (omega arith) (omega arith))));
+      above = λ k j. let o : k ≡ v → ⊥ = (λ q. omega arith) in getD-set-other out v k r 0 o ∙ at .above k (let a = f .from in omega arith);
+    }
+      where
+        under : (k : ℕ) → Dec (k < i) → (k < i → getD out k 0 ≡ given P n ms ws k) → ((k < i → ⊥) → getD out k 0 ≡ given P n ms ws k) → getD out k 0 ≡ given P n ms ws k
+        under k (yes o) a b = a o
+        under k (no o) a b = b o
+
+        pick : (k : ℕ) → Dec (k ≡ v) → ((k ≡ v → ⊥) → getD out k 0 ≡ given P n ms ws k) → getD (set out v r) k 0 ≡ given P n ms ws k
+        pick k (yes q) g =
+            rw q (getD-set-same out v r 0 (omega (arith, at .size)) ∙ (e ∙ ap (λ b. cond b (P .none) (word P ws v)) (sym (bits-at n ms v h ∙ f .waits))))
+        pick k (no d) g = getD-set-other out v k r 0 d ∙ g d
+
+    -- no vertex from i on is marked
+    pub give-done : ((k : ℕ) → i ≤ k → k < n → getD (waitingOf ms) k false ≡ false) → out ≡ cleared P (bits n ms) ws n
+    unfolding cleared
+    give-done f =
+        ext-getD 0 out (map (given P n ms ws) (range 0 n)) (at .size ∙ sym (length-table (given P n ms ws) 0 n))
+        (λ k o. let h : k < n = omega (arith, at .size) in each k h (decLt k i) ∙ sym (table-at (given P n ms ws) n k 0 h))
+      where
+        each : (k : ℕ) → k < n → Dec (k < i) → getD out k 0 ≡ given P n ms ws k
+        each k h (yes o) = at .below k o
+        each k h (no d) = at .above k (omega arith) ∙ spared k h (f k (omega arith) h)
+
+-- a whole list over another of its length
+pub copy-whole : (n : ℕ) (d s : List ℕ) → length d ≡ n → length s ≡ n → paste d 0 s n ≡ s
+copy-whole n d s p q =
+    let l = length-paste d 0 s n (omega arith) (omega arith) in
+    ext-getD 0 (paste d 0 s n) s (omega arith) (λ u h. paste-at d s (paste d 0 s n) n refl (omega arith) u (omega arith))
+
+-- ---- bits that are set
+
+pub raised-none : (bs : List Bool) (Q : ℕ → Type 0) → ((t : ℕ) → Q t → ⊥) → Raised bs bs Q
+raised-none bs Q f = record { kept = λ t h. h; only = λ t h. inl h; all = λ t q. absurd (f t q) }
+
+-- one bit more
+pub raised-turn : (bs cs ds : List Bool) (Q R : ℕ → Type 0) (u : ℕ) → Raised bs cs Q → u < length cs → ds ≡ set cs u true
+    → ((t : ℕ) → Q t → R t) → R u → ((t : ℕ) → R t → Q t ⊎ (t ≡ u)) → Raised bs ds R
+raised-turn bs cs ds Q R u a l e f g h = record {
+  kept = λ t q. rw e (put t (ℕ-discrete t u) (λ d. a .kept t q));
+  only = λ t q. back t (ℕ-discrete t u) (rw e at q);
+  all = λ t q. rw e (put t (ℕ-discrete t u) (λ d. ⊎-elim (a .all t) (λ p. absurd (d p)) (h t q)));
+}
+  where
+    put : (t : ℕ) → Dec (t ≡ u) → ((t ≡ u → ⊥) → getD cs t false ≡ true) → getD (set cs u true) t false ≡ true
+    put t (yes p) k = rw p (getD-set-same cs u true false l)
+    put t (no d) k = getD-set-other cs u t true false d ∙ k d
+
+    back : (t : ℕ) → Dec (t ≡ u) → getD (set cs u true) t false ≡ true → (getD bs t false ≡ true) ⊎ R t
+    back t (yes p) k = inr (rw p g)
+    back t (no d) k = ⊎-elim inl (λ q. inr (f t q)) (a .only t (sym (getD-set-other cs u t true false d) ∙ k))
+
+-- one bit more, that which stands at index k of a list
+pub raised-part : (bs cs ds : List Bool) (xs : List ℕ) (j k : ℕ) → Raised bs cs (λ t. (i : ℕ) × (j ≤ i) × (i < k) × (getD xs i 0 ≡ t)) → getD xs k 0 < length cs
+    → ds ≡ set cs (getD xs k 0) true → j ≤ k → Raised bs ds (λ t. (i : ℕ) × (j ≤ i) × (i < k + 1) × (getD xs i 0 ≡ t))
+raised-part bs cs ds xs j k a l e h =
+    raised-turn bs cs ds (λ t. (i : ℕ) × (j ≤ i) × (i < k) × (getD xs i 0 ≡ t)) (λ t. (i : ℕ) × (j ≤ i) × (i < k + 1) × (getD xs i 0 ≡ t)) (getD xs k 0) a l e
+    (λ t q. (q .0, q .1, (let z = q .2 in omega arith), q .3)) (k, h, omega arith, refl) (λ t q. pick t q (ℕ-discrete (q .0) k))
+  where
+    pick : (t : ℕ) (q : (i : ℕ) × (j ≤ i) × (i < k + 1) × (getD xs i 0 ≡ t)) → Dec (q .0 ≡ k) → ((i : ℕ) × (j ≤ i) × (i < k) × (getD xs i 0 ≡ t)) ⊎ (t ≡ getD xs k 0)
+    pick t q (yes p) = inr (sym (q .3) ∙ ap (λ (i : ℕ). getD xs i 0) p)
+    pick t q (no d) = inl (q .0, q .1, (let z = q .2 in omega arith), q .3)
+
+-- one bit more, that of which index k of a list tells
+pub raised-listed : (bs cs ds : List Bool) (xs gs : List ℕ) (k : ℕ) → Raised bs cs (λ t. (i : ℕ) × (i < k) × (getD xs (getD gs i 0) 0 ≡ t))
+    → getD xs (getD gs k 0) 0 < length cs → ds ≡ set cs (getD xs (getD gs k 0) 0) true → Raised bs ds (λ t. (i : ℕ) × (i < k + 1) × (getD xs (getD gs i 0) 0 ≡ t))
+raised-listed bs cs ds xs gs k a l e =
+    raised-turn bs cs ds (λ t. (i : ℕ) × (i < k) × (getD xs (getD gs i 0) 0 ≡ t)) (λ t. (i : ℕ) × (i < k + 1) × (getD xs (getD gs i 0) 0 ≡ t)) (getD xs (getD gs k 0) 0) a l e
+    (λ t q. (q .0, (let z = q .1 in omega arith), q .2)) (k, omega arith, refl) (λ t q. pick t q (ℕ-discrete (q .0) k))
+  where
+    pick : (t : ℕ) (q : (i : ℕ) × (i < k + 1) × (getD xs (getD gs i 0) 0 ≡ t)) → Dec (q .0 ≡ k) → ((i : ℕ) × (i < k) × (getD xs (getD gs i 0) 0 ≡ t)) ⊎ (t ≡ getD xs (getD gs k 0) 0)
+    pick t q (yes p) = inr (sym (q .2) ∙ ap (λ (i : ℕ). getD xs (getD gs i 0) 0) p)
+    pick t q (no d) = inl (q .0, (let z = q .1 in omega arith), q .2)
+
+pub raised-all : (bs cs : List Bool) (xs gs : List ℕ) (k l : ℕ) → k ≡ l → Raised bs cs (λ t. (i : ℕ) × (i < k) × (getD xs (getD gs i 0) 0 ≡ t))
+    → Raised bs cs (λ t. (i : ℕ) × (i < l) × (getD xs (getD gs i 0) 0 ≡ t))
+raised-all bs cs xs gs k l e a = rw e at a
+
+-- all of a part of a list
+pub raised-whole : (bs cs : List Bool) (xs : List ℕ) (j k l : ℕ) → k ≡ l → Raised bs cs (λ t. (i : ℕ) × (j ≤ i) × (i < k) × (getD xs i 0 ≡ t))
+    → Raised bs cs (λ t. (i : ℕ) × (j ≤ i) × (i < l) × (getD xs i 0 ≡ t))
+raised-whole bs cs xs j k l e a = rw e at a
+
+-- more bits
+pub raised-then : (bs cs ds : List Bool) (Q R S : ℕ → Type 0) → Raised bs cs Q → Raised cs ds R → ((t : ℕ) → Q t → S t) → ((t : ℕ) → R t → S t)
+    → ((t : ℕ) → S t → Q t ⊎ R t) → Raised bs ds S
+raised-then bs cs ds Q R S a b f g h = record {
+  kept = λ t q. b .kept t (a .kept t q);
+  only = λ t q. ⊎-elim (λ p. ⊎-elim inl (λ o. inr (f t o)) (a .only t p)) (λ o. inr (g t o)) (b .only t q);
+  all = λ t q. ⊎-elim (λ o. b .kept t (a .all t o)) (b .all t) (h t q);
+}
+
+-- the tails of the edges into the marked vertices below i, by an index
+abbrev pub Behind : List ℕ → List ℕ → List ℕ → ℕ → ℕ → Type 0
+Behind ms is xs i t = (v : ℕ) × (v < i) × (getD (waitingOf ms) v false ≡ true) × ((k : ℕ) × (getD is v 0 ≤ k) × (k < getD is (v + 1) 0) × (getD xs k 0 ≡ t))
+
+module _ (bs cs : List Bool) (ms is xs : List ℕ) (i : ℕ) (a : Raised bs cs (Behind ms is xs i)) where
+  -- v is the next that is marked
+  pub raised-behind : (v : ℕ) (ds : List Bool) → First (waitingOf ms) i v → Raised cs ds (λ t. (k : ℕ) × (getD is v 0 ≤ k) × (k < getD is (v + 1) 0) × (getD xs k 0 ≡ t))
+      → Raised bs ds (Behind ms is xs (v + 1))
+  raised-behind v ds f b =
+      raised-then bs cs ds (Behind ms is xs i) (λ t. (k : ℕ) × (getD is v 0 ≤ k) × (k < getD is (v + 1) 0) × (getD xs k 0 ≡ t)) (Behind ms is xs (v + 1)) a b
+      (λ t q. (q .0, (let z = q .1 in let y = f .from in omega arith), q .2, q .3)) (λ t q. (v, omega arith, f .waits, q)) (λ t q. pick t q (ℕ-discrete (q .0) v) (decLt (q .0) i))
+    where
+      pick : (t : ℕ) (q : Behind ms is xs (v + 1) t) → Dec (q .0 ≡ v) → Dec (q .0 < i) → Behind ms is xs i t ⊎ ((k : ℕ) × (getD is v 0 ≤ k) × (k < getD is (v + 1) 0) × (getD xs k 0 ≡ t))
+      pick t (u, l, on, q) (yes e) d = inr (rw e at q)
+      pick t (u, l, on, q) (no e) (yes h) = inl (u, h, on, q)
+      pick t (u, l, on, q) (no e) (no h) = absurd (false≢true (sym (f .before u (omega arith) (omega arith)) ∙ on))
+
+  -- none from i on is marked
+  pub raised-over : ((v : ℕ) → i ≤ v → getD (waitingOf ms) v false ≡ false)
+      → Raised bs cs (λ t. (v : ℕ) × (getD (waitingOf ms) v false ≡ true) × ((k : ℕ) × (getD is v 0 ≤ k) × (k < getD is (v + 1) 0) × (getD xs k 0 ≡ t)))
+  raised-over f = record {
+    kept = a .kept;
+    only = λ t h. ⊎-elim inl (λ q. inr (q .0, q .2, q .3)) (a .only t h);
+    all = λ t q. a .all t (q .0, low (q .0) (q .1) (decLt (q .0) i), q .1, q .2);
+  }
+    where
+      low : (v : ℕ) → getD (waitingOf ms) v false ≡ true → Dec (v < i) → v < i
+      low v on (yes h) = h
+      low v on (no d) = absurd (false≢true (sym (f v (omega arith)) ∙ on))
+
+-- ---- who waits
+
+abbrev pub opens : List Edge → List Bool → ℕ → Edge → Bool
+opens es ms t e = eqb (e .tail) t && (marked ms (e .head) || added es e)
+
+-- The added edges' tails are set first, then those of the edges into marked vertices. A bit that is set is of such an edge of the new
+-- list; and each such edge is listed, or stands in the index at its head.
+module _ (n m : ℕ) (ts gs : List ℕ) (g : ℕ) (is xs ms : List ℕ) (marks : Marks n ms) (bs cs ds : List ℕ) (p : waitingOf bs ≡ replicate capacity false)
+    (a : Raised (waitingOf bs) (waitingOf cs) (λ t. (i : ℕ) × (i < g) × (getD ts (getD gs i 0) 0 ≡ t)))
+    (b : Raised (waitingOf cs) (waitingOf ds)
+    (λ t. (v : ℕ) × (getD (waitingOf ms) v false ≡ true) × ((k : ℕ) × (getD is v 0 ≤ k) × (k < getD is (v + 1) 0) × (getD xs k 0 ≡ t))))
+    (fine : Marks n ds) (marked-within : (v : ℕ) → getD (waitingOf ms) v false ≡ true → v < n) where
+  module _ (hs ws : List ℕ) (es : List Edge) (r : Room m ts hs ws) (q : Missing m ts hs ws es gs g) (o : Inward n is xs (edges ts hs ws m)) where
+    abbrev fs : List Edge
+    fs = edges ts hs ws m
+
+    witness : (t : ℕ) (e : Edge) → List·Memᴰ e fs → e .tail ≡ t → (marked (bits n ms) (e .head) || added es e) ≡ true → exists (opens es (bits n ms) t) fs ≡ true
+    witness t e i j k = true-exists (opens es (bits n ms) t) i (and-true (eq-eqb (e .tail) t j) k)
+
+    sound : (t : ℕ) → getD (waitingOf ds) t false ≡ true → exists (opens es (bits n ms) t) fs ≡ true
+    sound t h = ⊎-elim (λ y. ⊎-elim (λ z. absurd (false≢true (sym (replicate-at capacity t false) ∙ (ap (λ (l : List Bool). getD l t false) (sym p) ∙ z)))) listed (a .only t y)) into (b .only t h)
+      where
+        listed : ((i : ℕ) × (i < g) × (getD ts (getD gs i 0) 0 ≡ t)) → exists (opens es (bits n ms) t) fs ≡ true
+        listed z =
+            let k = q .below (z .0) (z .1) in
+            witness t (edgeAt ts hs ws (getD gs (z .0) 0)) (edge-mem ts hs ws m r _ k) (z .2) (or-right (marked (bits n ms) _) (q .lacks (z .0) (z .1)))
+
+        into : ((v : ℕ) × (getD (waitingOf ms) v false ≡ true) × ((k : ℕ) × (getD is v 0 ≤ k) × (k < getD is (v + 1) 0) × (getD xs k 0 ≡ t))) → exists (opens es (bits n ms) t) fs ≡ true
+        into (v, on, (k, lo, hi, e)) =
+            let z = o .reads v k (marked-within v on) lo hi in
+            witness t (edge (getD xs k 0) v (z .0)) (z .1) e (ap (λ c. c || added es (edge (getD xs k 0) v (z .0))) (bits-all n ms marks v ∙ on))
+
+    whole : (t : ℕ) → exists (opens es (bits n ms) t) fs ≡ true → getD (waitingOf ds) t false ≡ true
+    whole t h =
+        let z = exists-true (opens es (bits n ms) t) fs h in
+        let y = both (eqb ((z .0) .tail) t) _ (z .2) in
+        pick (z .0) (z .1) (eqb-true _ _ (y .0)) (marked (bits n ms) ((z .0) .head)) refl (y .1)
+      where
+        pick : (e : Edge) → List·Memᴰ e fs → e .tail ≡ t → (c : Bool) → marked (bits n ms) (e .head) ≡ c → (c || added es e) ≡ true → getD (waitingOf ds) t false ≡ true
+        pick e i j true on k =
+            let z = o .whole e i in
+            b .all t (e .head, sym (bits-all n ms marks (e .head)) ∙ on, (z .0, z .1, z .2, z .3 ∙ j))
+        pick e i j false on k =
+            let z = edge-index ts hs ws m r e i in
+            let x : edgeAt ts hs ws (z .0) ≡ e = z .2 in
+            let y = q .all (z .0) (z .1) (ap (added es) x ∙ k) in
+            b .kept t (a .all t (y .0, y .1, ap (λ (l : ℕ). getD ts l 0) (y .2) ∙ (ap (λ (l : Edge). l .tail) x ∙ j)))
+
+    pub reopen-done : bits n ds ≡ reopened es fs (bits n ms) n
+    unfolding reopened
+    reopen-done =
+        let f : ℕ → Bool = λ t. exists (opens es (bits n ms) t) fs in
+        ext-getD false (bits n ds) (map f (range 0 n)) (bits-length n ds fine ∙ sym (length-table f 0 n))
+        (λ t h. let l : t < n = omega (arith, bits-length n ds fine) in
+        bits-all n ds fine t ∙ same-test (getD (waitingOf ds) t false) (f t) (sound t, whole t) ∙ sym (table-at f n t false l))
+
+-- ---- the whole start
+
+pub prepared-made : (P : Property) (es fs : List Edge) (s n : ℕ) (vs : List ℕ) {out : List ℕ} {ms bs : List Bool} → ms ≡ affected P es fs s vs n
+    → out ≡ cleared P ms vs n → bs ≡ reopened es fs ms n → record { words = out; waiting = bs; tally = noTally } ≡ prepared P es fs s vs n
+unfolding prepared
+prepared-made P es fs s n vs e p q =
+    λ i. record { words = (p ∙ ap (λ x. cleared P x vs n) e) i; waiting = (q ∙ ap (λ x. reopened es fs x n) e) i; tally = noTally }

@@ -1,0 +1,99 @@
+-- `prepare::clear_marked` meets its contract. The loop's invariant is `Given`. Assumes nothing.
+use mathlib.Core.Path.{sym, _∙_}
+use Prim.Native.Nat.{_-_, _<_}
+use native.Mathlib.Omega.{arith}
+use Rattle.property.specs.Property.{property}
+use Rattle.frontier.specs.Waiting.{waitingOf}
+use Rattle.frontier.proofs.Laws.{First, next-first, next-none}
+use Rattle.run.proofs.States.{marks-within}
+use Rattle.prepare.proofs.Starts.{Given, give-start, give-turn, give-done}
+use borrow.Author.Needs.{needs}
+use Rattle.prepare.proofs.clear_marked.Statement.{statement}
+use Rattle.prepare.proofs.clear_marked.Tie as tie
+
+abbrev Inv-loop : tie.InvT-loop
+Inv-loop p n marks out₀ i₀ out i = Given (property p) n marks out₀ out i
+
+abbrev μ-loop : tie.MeasureT-loop
+μ-loop p n marks out₀ i₀ out i = n - i
+
+-- what was found
+found : (c : tie.After-next Inv-loop μ-loop) → First (waitingOf (c .before .before .before .before .before .before .args .marks .now)) (c .before .before .before .before .loop .i) (c .next .given .0 .0)
+found c = next-first _ _ _ (sym (c .before .before .next-from .ensures .0) ∙ c .next .given .1)
+
+-- it is one of the vertices
+found-within : (c : tie.After-next Inv-loop μ-loop) → c .next .given .0 .0 < c .before .before .before .before .before .before .args .n
+found-within c = let s = c .before .before .before .before .before .before in marks-within _ (s .args .marks .now) _ (s .pre .0) (found c .waits)
+
+loop-holds : tie.Need-loop-holds Inv-loop μ-loop
+loop-holds c = give-start _ _ _ _ (c .before .pre .1)
+
+next-from-requires : tie.Need-next-from-requires Inv-loop μ-loop
+next-from-requires c κs = search needs
+
+enum-known-next : tie.Need-enum-known-next Inv-loop μ-loop
+enum-known-next c = search needs
+
+enum-told : tie.Need-enum-told Inv-loop μ-loop
+enum-told c = search needs
+
+same-length : tie.Need-same-length Inv-loop μ-loop
+same-length c = search needs
+
+returns : tie.Need-returns Inv-loop μ-loop
+returns c =
+    let f = c .before .before in
+    let l = f .before .before in
+    let s = l .before .before in
+    give-done _ _ _ _ (s .pre .1) (l .loop .inv) (λ k h j. next-none _ _ (sym (f .next-from .ensures .0) ∙ c .enum-told .given .1) k h)
+
+none-requires : tie.Need-none-requires Inv-loop μ-loop
+none-requires c κs = search needs
+
+mul-out : tie.Need-mul-out Inv-loop μ-loop
+mul-out c = let z = found-within (c .before .before) in search needs
+
+slice-write-out : tie.Need-slice-write-out Inv-loop μ-loop
+slice-write-out c = let z = found-within (c .before .before) in search needs
+
+add-i : tie.Need-add-i Inv-loop μ-loop
+add-i c = omega (arith, found-within (c .before .before))
+
+loop-less : tie.Need-loop-less Inv-loop μ-loop
+loop-less c = omega (arith, found (c .before .before) .from)
+
+loop-again : tie.Need-loop-again Inv-loop μ-loop
+loop-again c =
+    let k = c .before .before in
+    let l = k .before .before .before .before in
+    let s = l .before .before in
+    give-turn _ _ _ _ (s .pre .1) (l .loop .inv) (found-within k) (found k) (c .none .ensures)
+
+same-length-2 : tie.Need-same-length-2 Inv-loop μ-loop
+same-length-2 c = search needs
+
+returns-2 : tie.Need-returns-2 Inv-loop μ-loop
+returns-2 c =
+    let l = c .before in
+    give-done _ _ _ _ (l .before .before .pre .1) (l .loop .inv) (λ k h j. absurd (omega (arith, c .loop-test .left)))
+
+pub clear-marked-spec : {M : Type 1} → statement M
+clear-marked-spec =
+    tie.close
+    (tie.spec
+    Inv-loop
+    μ-loop
+    loop-holds
+    next-from-requires
+    enum-known-next
+    enum-told
+    same-length
+    returns
+    none-requires
+    mul-out
+    slice-write-out
+    add-i
+    loop-less
+    loop-again
+    same-length-2
+    returns-2)

@@ -1,0 +1,32 @@
+-- `prepare::cleared` meets its contract. Assumes nothing.
+use mathlib.Core.Path.{ap, _∙_}
+use Prim.Native.Nat.{ℕ}
+use mathlib.Core.List.{List}
+use Rattle.property.specs.Property.{property}
+use Rattle.run.specs.Code.{bits}
+use Rattle.affected.specs.Prepared as start
+use Rattle.prepare.proofs.Starts.{copy-whole}
+use borrow.Author.Needs.{needs}
+use Rattle.prepare.proofs.cleared.Statement.{statement}
+use Rattle.prepare.proofs.cleared.Tie as tie
+
+copy-requires : tie.Need-copy-requires
+copy-requires c κs = search needs
+
+clear-marked-requires : tie.Need-clear-marked-requires
+clear-marked-requires c κs = search needs
+
+same-length : tie.Need-same-length
+same-length c = search needs
+
+returns : tie.Need-returns
+returns c =
+    let m = c .before .before in
+    let y = m .before .before .before .before in
+    let s = y .before .before .before .before in
+    let a = s .args in
+    m .clear-marked .ensures
+    ∙ ap (λ (l : List ℕ). start.cleared (property (a .p)) (bits (a .n) (a .marks .now)) l (a .n)) (y .copy .ensures ∙ copy-whole (a .n) (a .out .now) (a .words .now) (s .pre .2) (s .pre .1))
+
+pub cleared-spec : {M : Type 1} → statement M
+cleared-spec = tie.close (tie.spec copy-requires clear-marked-requires same-length returns)

@@ -1,0 +1,50 @@
+-- One row of a batch as its functions leave it. Assumes nothing.
+use mathlib.Core.Path.{_≡_, sym, ap, _∙_}
+use mathlib.Core.List.{List}
+use Prim.Native.Nat.{ℕ, _+_, _-_, _/_, _%_, _≤_}
+use native.Mathlib.Numerals.{add-one}
+use native.Mathlib.Omega.{arith}
+use lib.ListN.{getD}
+use Rattle.property.specs.Property.{property}
+use Rattle.frontier.specs.Waiting.{waitingOf, anyOf, countOf}
+use Rattle.frontier.proofs.Counts.{count-le}
+use Rattle.graph.specs.Limits.{maxVertices}
+use Rattle.graph.specs.Edge.{Edge}
+use Rattle.run.specs.declared.Tally.{Tally}
+use Rattle.run.specs.Run.{State, settle, noTally}
+use Rattle.run.specs.Code.{bits, noCounts, state, Ran}
+use Rattle.run.proofs.States.{bits-any}
+use Rattle.affected.specs.Affected.{affected}
+use Rattle.affected.specs.Prepared.{prepared}
+use Rattle.affected.proofs.Sweeps.{affected-length}
+use Rattle.rows.specs.declared.Rowed.{Rowed}
+use Rattle.network.specs.Batch.{rowAffected, rowEnd}
+use Rattle.rows.specs.Code.{RowDone}
+
+-- row r is prepared, and then settled
+module _ (n r : ℕ) (ls : List ℕ) (es fs : List Edge) (vs ws bs ws′ bs′ : List ℕ) (t : Tally)
+    (start : _≡_ {A = State} (record { words = ws; waiting = bits n bs; tally = noTally }) (prepared (property (r % 5 + 1)) es fs (getD ls (r / 5) 0) vs n))
+    (run : state n ws′ bs′ t ≡ settle (property (r % 5 + 1)) fs n n (state n ws bs noCounts)) where
+  row-run : state n ws′ bs′ t ≡ rowEnd n ls es fs vs r
+  row-run = run ∙ rw (start, add-one)
+
+  pub row-done : (a : Rowed) → n ≤ maxVertices → Ran n ws′ bs′ noCounts t 0 n 134217728
+      → a .unsettled ≡ anyOf (waitingOf bs′) → a .affected ≡ countOf (affected (property (r % 5 + 1)) es fs (getD ls (r / 5) 0) vs n) → a .stores ≡ t .stores
+      → RowDone n ls es fs vs r ws′ a
+  row-done a few ran u c s = record {
+    words = ap (λ st. st .words) row-run;
+    unsettled = u ∙ (sym (bits-any n bs′ (ran .sized .waiting)) ∙ ap (λ st. anyOf (st .waiting)) row-run);
+    affected = c ∙ counted;
+    stores = s ∙ ap (λ st. st .tally .stores) row-run;
+    few = low;
+    low = (let z : t .stores ≤ 0 + 134217728 = ran .stores in omega arith);
+  }
+    where
+      counted : countOf (affected (property (r % 5 + 1)) es fs (getD ls (r / 5) 0) vs n) ≡ countOf (rowAffected n ls es fs vs r)
+      counted = rw add-one
+
+      low : a .affected ≤ maxVertices
+      low =
+          let x = count-le (affected (property (r % 5 + 1)) es fs (getD ls (r / 5) 0) vs n) in
+          let y = affected-length (property (r % 5 + 1)) es fs (getD ls (r / 5) 0) vs n in
+          omega arith

@@ -1,0 +1,89 @@
+-- `rows::batch_row` meets its contract. Assumes nothing.
+use borrow.Author.Needs.{needs}
+use mathlib.Core.Path.{refl, _∙_}
+use Rattle.rows.proofs.Row.{row-done}
+use Rattle.rows.proofs.batch_row.Statement.{statement}
+use Rattle.rows.proofs.batch_row.Tie as tie
+
+abbrev start : tie.After-empty → tie.Start
+start e = e .before .before .before .before .before .before .before .before .before .before .before .before .before .before .before .before .before .before .before .before
+
+cast-p : tie.Need-cast-p
+cast-p c = search needs
+
+add-p : tie.Need-add-p
+add-p c = search needs
+
+empty-requires : tie.Need-empty-requires
+empty-requires c κs = search needs
+
+mul-prepare : tie.Need-mul-prepare
+mul-prepare c = search needs
+
+shared-slice-read-prepare : tie.Need-shared-slice-read-prepare
+shared-slice-read-prepare c = search needs
+
+prepare-requires : tie.Need-prepare-requires
+prepare-requires c κs =
+    let s = start (c .before .before .before) in
+    let o = s .pre .1 .0 in
+    let w = s .pre .1 .1 .0 in
+    let i = s .pre .1 .1 .1 .0 in
+    let t = s .pre .1 .1 .1 .1 .1 in (
+      record { room = o .room; ends = o .ends; listed = o .missing .listed; below = o .missing .below; words = s .pre .0 .2 },
+      (
+        (i .fit, i .own),
+        (
+          (
+            record {
+              few = w .ends .few;
+              tails = w .room .tails;
+              from = w .ends .from;
+              listed = w .missing .listed;
+              below = w .missing .below;
+              index = t .index;
+            },
+            t .inward,
+          ),
+          ((w .room, s .pre .0 .3), (o .missing, w .missing)),
+        ),
+      ),
+    )
+
+run-unscheduled-requires : tie.Need-run-unscheduled-requires
+run-unscheduled-requires c κs =
+    let p = c .before .before .before .before in
+    let s = start (p .before .before .before .before) in
+    let m = p .prepare .ensures .1 .1 in (
+      s .pre .1 .1 .1 .1 .0 .fit,
+      record { words = p .prepare .kept .1 .1 .1 .1 .1 .1 .1 .1 .1 .1 .1 .1 .1 .1 .1 .1 .1 .1 .1 .1 .1 .0 ∙ s .pre .0 .3; waiting = record { few = s .pre .1 .1 .1 .1 .0 .fit .few; bits = m .bits; idle = m .idle } },
+    )
+
+any-requires : tie.Need-any-requires
+any-requires c κs = search needs
+
+same-length : tie.Need-same-length
+same-length c = search needs
+
+returns : tie.Need-returns
+returns c =
+    let q = c .before .before .before .before in
+    let p = q .before .before .before .before .before in
+    let s = start (p .before .before .before .before) in
+    row-done (s .args .n) (s .args .r) (s .args .landmarks .now) _ _ _ _ _ _ _ (q .run-unscheduled .result) (p .prepare .ensures .0) (q .run-unscheduled .ensures .0 _ (s .pre .1 .1 .1 .1 .0 .own))
+    _ (s .pre .1 .1 .1 .1 .0 .fit .few) (q .run-unscheduled .ensures .1) (c .any .ensures) (p .prepare .ensures .1 .0) refl
+
+pub batch-row-spec : {M : Type 1} → statement M
+batch-row-spec =
+    tie.close
+    (tie.spec
+    cast-p
+    add-p
+    empty-requires
+    mul-prepare
+    shared-slice-read-prepare
+    prepare-requires
+    run-unscheduled-requires
+    any-requires
+    same-length
+    returns)

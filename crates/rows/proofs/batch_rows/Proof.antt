@@ -1,0 +1,144 @@
+-- `rows::batch_rows` meets its contract. Assumes nothing.
+use borrow.Author.Needs.{needs}
+use native.Mathlib.Omega.{arith}
+use mathlib.Core.Path.{refl, sym, _∙_}
+use Prim.Native.Nat.{_+_, _-_, _*_, _≤_}
+use lib.ListN.{length}
+use Rattle.graph.specs.Edge.{edges}
+use Rattle.network.specs.Network.{rowCount}
+use Rattle.calls.proofs.Flat.{row-end, row-size}
+use Rattle.rows.proofs.Rows.{Rowing, rows-start, rows-turn, rows-done}
+use Rattle.rows.proofs.batch_rows.Statement.{statement}
+use Rattle.rows.proofs.batch_rows.Tie as tie
+
+abbrev Inv-loop : tie.InvT-loop
+Inv-loop n landmarks count1 tails1 heads1 weights1 size1 gone firsts1 ends1 lengths1 count2 tails2 heads2 weights2 size2 fresh firsts2 ends2 lengths2 firsts3 ends3 rows out₀ size unsettled₀ affected₀ stores₀ r₀ out unsettled affected stores r =
+    Rowing n landmarks (edges tails1 heads1 weights1 count1) (edges tails2 heads2 weights2 count2) rows out unsettled affected stores r size
+
+abbrev μ-loop : tie.MeasureT-loop
+μ-loop n landmarks count1 tails1 heads1 weights1 size1 gone firsts1 ends1 lengths1 count2 tails2 heads2 weights2 size2 fresh firsts2 ends2 lengths2 firsts3 ends3 rows out₀ size unsettled₀ affected₀ stores₀ r₀ out unsettled affected stores r =
+    size - r
+
+abbrev start : tie.At-loop Inv-loop μ-loop → tie.Start Inv-loop μ-loop
+start l = l .before .before .before .before .before .before .before .before .before .before .before .before .before .before .before .before .before .before .before .before
+
+-- the row at hand lies within both lists
+lies : (c : tie.In-loop Inv-loop μ-loop) → let g = start (c .before) .args in let r = c .before .loop .r in
+    (r * g .n + g .n ≤ rowCount (g .landmarks .now) * g .n) × (r * g .n + g .n ≤ length (g .rows .now)) × (r * g .n + g .n ≤ length (c .before .loop .out))
+lies c =
+    let s = start (c .before) in
+    let e = row-end (s .args .n) (c .before .loop .r) (rowCount (s .args .landmarks .now)) (c .loop-test .taken) in
+    let a = s .pre .0 .1 in
+    let b = s .pre .0 .2 in
+    let d = c .before .loop .inv .size in
+    (e, omega arith, omega arith)
+
+mul-size : tie.Need-mul-size Inv-loop μ-loop
+mul-size c = search needs
+
+loop-holds : tie.Need-loop-holds Inv-loop μ-loop
+loop-holds c =
+    let s = c .before .before .before .before .before .before .before .before .before .before .before .before .before .before .before .before .before .before .before in
+    rows-start _ _ _ _ _ _ _ (s .pre .0 .2)
+
+mul-start : tie.Need-mul-start Inv-loop μ-loop
+mul-start c = let z = lies c in let g = start (c .before) .good in omega arith
+
+add-end : tie.Need-add-end Inv-loop μ-loop
+add-end c = let z = lies c in let g = start (c .before) .good in omega arith
+
+mul-batch-row : tie.Need-mul-batch-row Inv-loop μ-loop
+mul-batch-row c = let z = lies c in let g = start (c .before) .good in omega arith
+
+sub-batch-row : tie.Need-sub-batch-row Inv-loop μ-loop
+sub-batch-row c = omega arith
+
+part-batch-row-start : tie.Need-part-batch-row-start Inv-loop μ-loop
+part-batch-row-start c = omega arith
+
+part-batch-row-end : tie.Need-part-batch-row-end Inv-loop μ-loop
+part-batch-row-end c = lies c .1
+
+mul-batch-row-2 : tie.Need-mul-batch-row-2 Inv-loop μ-loop
+mul-batch-row-2 c = let z = lies (c .before) in let g = start (c .before .before) .good in omega arith
+
+sub-batch-row-2 : tie.Need-sub-batch-row-2 Inv-loop μ-loop
+sub-batch-row-2 c = omega arith
+
+part-batch-row-start-2 : tie.Need-part-batch-row-start-2 Inv-loop μ-loop
+part-batch-row-start-2 c = omega arith
+
+part-batch-row-end-2 : tie.Need-part-batch-row-end-2 Inv-loop μ-loop
+part-batch-row-end-2 c = lies (c .before) .2
+
+batch-row-requires : tie.Need-batch-row-requires Inv-loop μ-loop
+batch-row-requires c κs =
+    let i = c .before .before in
+    let l = i .before in
+    let s = start l in
+    let z = lies i in
+    ((i .loop-test .taken, s .pre .0 .0, row-size (s .args .n) (l .loop .r * s .args .n) (s .args .rows .now) (z .1), row-size (s .args .n) (l .loop .r * s .args .n) (l .loop .out) (z .2)), s .pre .1)
+
+add-affected : tie.Need-add-affected Inv-loop μ-loop
+add-affected c =
+    let b = c .before .before .before .before in
+    let l = b .before .before .before .before in
+    omega (arith, l .loop .inv .few, l .loop .inv .within, start l .pre .0 .0 .few, b .batch-row .ensures .few)
+
+add-stores : tie.Need-add-stores Inv-loop μ-loop
+add-stores c =
+    let b = c .before .before .before .before .before in
+    let l = b .before .before .before .before in
+    omega (arith, l .loop .inv .low, l .loop .inv .within, start l .pre .0 .0 .few, b .batch-row .ensures .low)
+
+add-r : tie.Need-add-r Inv-loop μ-loop
+add-r c =
+    let l = c .before .before .before .before .before .before .before .before .before in
+    omega (arith, l .loop .inv .within, start l .pre .0 .0 .few)
+
+loop-less : tie.Need-loop-less Inv-loop μ-loop
+loop-less c = let i = c .before .before .before .before .before .before .before .before in omega (arith, i .loop-test .taken)
+
+loop-again : tie.Need-loop-again Inv-loop μ-loop
+loop-again c =
+    let b = c .before .before .before .before .before in
+    let i = b .before .before .before in
+    let l = i .before in
+    let call = b .batch-row in
+    rows-turn _ _ _ _ _ _ _ _ _ _ _ (l .loop .inv) (i .loop-test .taken) _ (call .result) (call .kept .1 .1 .1 .1 .1 .1 .1 .1 .1 .1 .1 .1 .1 .1 .1 .1 .1 .1 .1 .1 .1 .1 .1 .1 .0) (call .ensures)
+
+same-length : tie.Need-same-length Inv-loop μ-loop
+same-length c = let l = c .before in l .loop .inv .size ∙ sym (start l .pre .0 .2)
+
+returns : tie.Need-returns Inv-loop μ-loop
+returns c =
+    let l = c .before in
+    let s = start l in
+    rows-done _ _ _ _ _ _ _ _ _ _ _ (s .pre .0 .0 .few) (l .loop .inv) (c .loop-test .left) refl refl refl
+
+pub batch-rows-spec : {M : Type 1} → statement M
+batch-rows-spec =
+    tie.close
+    (tie.spec
+    Inv-loop
+    μ-loop
+    mul-size
+    loop-holds
+    mul-start
+    add-end
+    mul-batch-row
+    sub-batch-row
+    part-batch-row-start
+    part-batch-row-end
+    mul-batch-row-2
+    sub-batch-row-2
+    part-batch-row-start-2
+    part-batch-row-end-2
+    batch-row-requires
+    add-affected
+    add-stores
+    add-r
+    loop-less
+    loop-again
+    same-length
+    returns)

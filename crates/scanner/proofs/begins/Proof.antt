@@ -1,0 +1,70 @@
+-- `scanner::begins` meets its contract: what is left of the mark, from here on in the line, comes to the same. Assumes nothing.
+use borrow.Author.Needs.{needs}
+use native.Mathlib.Omega.{arith}
+use mathlib.Core.Path.{_≡_, refl, sym, _∙_}
+use Prim.Native.Nat.{_-_, _≤_}
+use borrow.Author.Tests.{not-true, not-false}
+use lib.ListN.{length, drop}
+use Rattle.dimacs.specs.Read.{after}
+use Rattle.scanner.proofs.Fields.{mark-more, mark-other, mark-done}
+use Rattle.scanner.proofs.begins.Statement.{statement}
+use Rattle.scanner.proofs.begins.Tie as tie
+
+abbrev Inv-loop : tie.InvT-loop
+Inv-loop line mark i₀ i = (after (drop i mark) (drop i line) ≡ after mark line) × (i ≤ length mark)
+
+abbrev μ-loop : tie.MeasureT-loop
+μ-loop line mark i₀ i = length mark - i
+
+abbrev start : tie.At-loop Inv-loop μ-loop → tie.Start Inv-loop μ-loop
+start l = l .before .before .before
+
+loop-holds : tie.Need-loop-holds Inv-loop μ-loop
+loop-holds c = (refl, omega arith)
+
+shared-slice-read-holds : tie.Need-shared-slice-read-holds Inv-loop μ-loop
+shared-slice-read-holds c = omega arith
+
+holds-requires : tie.Need-holds-requires Inv-loop μ-loop
+holds-requires c κs = search needs
+
+returns : tie.Need-returns Inv-loop μ-loop
+returns c =
+    let h = c .before in
+    let l = h .before .before .before in
+    let a = start l .args in
+    sym (mark-other (a .mark .now) (a .line .now) (l .loop .i) (omega arith) (sym (h .holds .ensures) ∙ not-true _ (c .if1 .taken))) ∙ l .loop .inv .0
+
+add-i : tie.Need-add-i Inv-loop μ-loop
+add-i c = omega arith
+
+loop-less : tie.Need-loop-less Inv-loop μ-loop
+loop-less c = omega arith
+
+loop-again : tie.Need-loop-again Inv-loop μ-loop
+loop-again c =
+    let h = c .before in
+    let l = h .before .before .before in
+    let a = start l .args in
+    (sym (mark-more (a .mark .now) (a .line .now) (l .loop .i) (omega arith) (sym (h .holds .ensures) ∙ not-false _ (c .if1 .left))) ∙ l .loop .inv .0, omega arith)
+
+returns-2 : tie.Need-returns-2 Inv-loop μ-loop
+returns-2 c =
+    let l = c .before in
+    let a = start l .args in
+    sym (mark-done (a .mark .now) (a .line .now) (l .loop .i) (omega arith)) ∙ l .loop .inv .0
+
+pub begins-spec : {M : Type 1} → statement M
+begins-spec =
+    tie.close
+    (tie.spec
+    Inv-loop
+    μ-loop
+    loop-holds
+    shared-slice-read-holds
+    holds-requires
+    returns
+    add-i
+    loop-less
+    loop-again
+    returns-2)

@@ -1,0 +1,60 @@
+-- `scanner::line_feed` meets its contract: no byte passed is a line feed. Assumes nothing.
+use native.Mathlib.Omega.{arith}
+use mathlib.Core.Path.{_≡_, sym}
+use mathlib.Core.Bool.{true}
+use Prim.Native.Nat.{_-_, _≤_}
+use lib.ListN.{length, take, drop}
+use Rattle.dimacs.specs.Lines.{plain}
+use Rattle.dimacs.proofs.Positions.{feed-start, feed-more, feed-ends, feed-open}
+use Rattle.scanner.proofs.line_feed.Statement.{statement}
+use Rattle.scanner.proofs.line_feed.Tie as tie
+
+abbrev Inv-loop : tie.InvT-loop
+Inv-loop text at i₀ i = (plain (take (i - at) (drop at text)) ≡ true) × (at ≤ i)
+
+abbrev μ-loop : tie.MeasureT-loop
+μ-loop text at i₀ i = length text - i
+
+loop-holds : tie.Need-loop-holds Inv-loop μ-loop
+loop-holds c = (feed-start (c .args .text .now) (c .args .at), omega arith)
+
+shared-slice-read-if1 : tie.Need-shared-slice-read-if1 Inv-loop μ-loop
+shared-slice-read-if1 c = omega arith
+
+returns : tie.Need-returns Inv-loop μ-loop
+returns c =
+    let l = c .before .before .before in
+    let a = l .before .args in
+    (sym (feed-ends (a .text .now) (a .at) (l .loop .i) (l .loop .inv .1) (omega arith) (c .if1 .taken) (l .loop .inv .0)), (omega arith, omega arith))
+
+add-i : tie.Need-add-i Inv-loop μ-loop
+add-i c = omega arith
+
+loop-less : tie.Need-loop-less Inv-loop μ-loop
+loop-less c = omega arith
+
+loop-again : tie.Need-loop-again Inv-loop μ-loop
+loop-again c =
+    let l = c .before .before .before in
+    let a = l .before .args in
+    (feed-more (a .text .now) (a .at) (l .loop .i) (l .loop .inv .1) (omega arith) (c .if1 .left) (l .loop .inv .0), omega arith)
+
+returns-2 : tie.Need-returns-2 Inv-loop μ-loop
+returns-2 c =
+    let l = c .before in
+    let a = l .before .args in
+    (sym (feed-open (a .text .now) (a .at) (l .loop .i) (l .loop .inv .1) (omega arith) (l .loop .inv .0)), tt)
+
+pub line-feed-spec : {M : Type 1} → statement M
+line-feed-spec =
+    tie.close
+    (tie.spec
+    Inv-loop
+    μ-loop
+    loop-holds
+    shared-slice-read-if1
+    returns
+    add-i
+    loop-less
+    loop-again
+    returns-2)

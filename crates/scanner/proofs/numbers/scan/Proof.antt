@@ -1,0 +1,74 @@
+-- `scanner::numbers::scan` meets its contract: what is left to read, from the value so far, comes to the same. Assumes nothing.
+use borrow.Author.Needs.{needs}
+use native.Mathlib.Omega.{arith}
+use mathlib.Core.Path.{_≡_, refl, sym, ap, _∙_}
+use Prim.Native.Nat.{ℕ, _+_, _-_, _≤_}
+use borrow.Author.Tests.{not-true, not-false}
+use lib.ListN.{length, drop}
+use Rattle.scanner.specs.Capped.{capScan}
+use Rattle.scanner.proofs.Caps.{scan-more, scan-stop, scan-end}
+use Rattle.scanner.proofs.numbers.scan.Statement.{statement}
+use Rattle.scanner.proofs.numbers.scan.Tie as tie
+
+abbrev Inv-loop : tie.InvT-loop
+Inv-loop s start first value₀ i₀ value i = (capScan value (drop i s) ≡ capScan first (drop start s)) × (i ≤ length s) × (value ≤ 65536)
+
+abbrev μ-loop : tie.MeasureT-loop
+μ-loop s start first value₀ i₀ value i = length s - i
+
+loop-holds : tie.Need-loop-holds Inv-loop μ-loop
+loop-holds c = (refl, search needs, search needs)
+
+shared-slice-read-b : tie.Need-shared-slice-read-b Inv-loop μ-loop
+shared-slice-read-b c = search needs
+
+is-digit-requires : tie.Need-is-digit-requires Inv-loop μ-loop
+is-digit-requires c κs = search needs
+
+returns : tie.Need-returns Inv-loop μ-loop
+returns c =
+    let l = c .before .before .before .before in
+    let a = l .before .before .args in
+    let e = sym (c .before .is-digit .ensures) ∙ not-true _ (c .if1 .taken) in
+    (sym (scan-stop (a .s .now) (l .loop .i) (l .loop .value) (omega arith) e (l .loop .inv .2)) ∙ l .loop .inv .0, l .loop .inv .1)
+
+push-requires : tie.Need-push-requires Inv-loop μ-loop
+push-requires c κs = (search needs, sym (c .before .is-digit .ensures) ∙ not-false _ (c .if1 .left))
+
+add-i : tie.Need-add-i Inv-loop μ-loop
+add-i c = search needs
+
+loop-less : tie.Need-loop-less Inv-loop μ-loop
+loop-less c = search needs
+
+loop-again : tie.Need-loop-again Inv-loop μ-loop
+loop-again c =
+    let l = c .before .before .before .before .before in
+    let a = l .before .before .args in
+    let e = sym (c .before .before .is-digit .ensures) ∙ not-false _ (c .before .if1 .left) in (
+      ap (λ (x : ℕ). capScan x (drop (l .loop .i + 1) (a .s .now))) (c .push .ensures) ∙ (sym (scan-more (a .s .now) (l .loop .i) (l .loop .value) (omega arith) e) ∙ l .loop .inv .0),
+      omega arith,
+      omega (arith, c .push .ensures),
+    )
+
+returns-2 : tie.Need-returns-2 Inv-loop μ-loop
+returns-2 c =
+    let l = c .before in
+    let a = l .before .before .args in
+    (sym (scan-end (a .s .now) (l .loop .i) (l .loop .value) (omega arith) (l .loop .inv .2)) ∙ l .loop .inv .0, l .loop .inv .1)
+
+pub scan-spec : {M : Type 1} → statement M
+scan-spec =
+    tie.close
+    (tie.spec
+    Inv-loop
+    μ-loop
+    loop-holds
+    shared-slice-read-b
+    is-digit-requires
+    returns
+    push-requires
+    add-i
+    loop-less
+    loop-again
+    returns-2)

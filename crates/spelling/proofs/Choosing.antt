@@ -1,0 +1,53 @@
+-- A landmark choice as number and words. Assumes nothing.
+use mathlib.Core.Path.{_≡_, refl, sym, ap, _∙_}
+use mathlib.Core.List.{List, [], _∷_}
+use Prim.Native.Nat.{ℕ, _≤_}
+use native.Mathlib.Omega.{arith}
+use lib.ListN.{length, set, getD}
+use Rattle.graph.specs.Refusal.{Verdict, accept, refuse, Reply, accepted, refused, over}
+use Rattle.graph.specs.declared.Judged.the-variants.{Fine, Refused}
+use Rattle.graph.specs.Code.{told}
+use Rattle.graph.proofs.Verdicts.{not-accept}
+use Rattle.inspect.specs.declared.Chosen.{Chosen}
+use Rattle.inspect.specs.Code.{Written, written, choosing, padded}
+use Rattle.spelling.specs.Code.{replyWords, Tells, choiceWords}
+use Rattle.spelling.proofs.Telling.{set-five, refused-tells, accepted-tells}
+
+-- a list of four words is the list of its four words
+four : (vs : List ℕ) → length vs ≡ 4 → getD vs 0 0 ∷ getD vs 1 0 ∷ getD vs 2 0 ∷ getD vs 3 0 ∷ [] ≡ vs
+four [] e = absurd (omega arith)
+four (a ∷ []) e = absurd (omega arith)
+four (a ∷ b ∷ []) e = absurd (omega arith)
+four (a ∷ b ∷ c ∷ []) e = absurd (omega arith)
+four (a ∷ b ∷ c ∷ d ∷ []) e = refl
+four (a ∷ b ∷ c ∷ d ∷ x ∷ vs) e = absurd (omega arith)
+
+numberIn : Verdict → ℕ
+numberIn accept = 0
+numberIn (refuse k i) = k
+
+placeIn : Verdict → ℕ
+placeIn accept = 0
+placeIn (refuse k i) = i
+
+module _ (r : Chosen) (xs : List ℕ) (l : replyWords ≤ length xs) where
+  pub choice-refused : (k i : ℕ) → r .verdict ≡ Refused k i → (x : Reply (List ℕ)) → choosing r ≡ written x → Tells choiceWords x k xs (set xs 0 i)
+  unfolding told written numberIn placeIn
+  choice-refused k i q (accepted us) e =
+      absurd (not-accept (sym (ap told q) ∙ ap (λ (w : Written). w .verdict) e))
+  choice-refused k i q (refused j p) e =
+      let v : refuse k i ≡ refuse j p = sym (ap told q) ∙ ap (λ (w : Written). w .verdict) e in
+      rw (ap numberIn v, ap placeIn v) (refused-tells choiceWords xs l j p)
+
+  pub choice-accepted : r .verdict ≡ Fine → length (r .choice .vertices) ≡ 4 → (x : Reply (List ℕ)) → choosing r ≡ written x →
+      let vs = r .choice .vertices in
+      Tells choiceWords x 0 xs (set (set (set (set (set xs 0 (r .choice .count)) 1 (getD vs 0 0)) 2 (getD vs 1 0)) 3 (getD vs 2 0)) 4 (getD vs 3 0))
+  unfolding told written
+  choice-accepted q h (refused j p) e = absurd (not-accept (sym (ap (λ (w : Written). w .verdict) e) ∙ ap told q))
+  choice-accepted q h (accepted us) e =
+      let vs = r .choice .vertices in
+      let z : r .choice .count ∷ getD vs 0 0 ∷ getD vs 1 0 ∷ getD vs 2 0 ∷ getD vs 3 0 ∷ [] ≡ length us ∷ padded us =
+      ap (λ (ys : List ℕ). r .choice .count ∷ ys) (four vs h)
+      ∙ ap (λ (w : Written). w .count ∷ w .vertices) e in
+      accepted-tells choiceWords xs l us
+      (set-five xs (r .choice .count) (getD vs 0 0) (getD vs 1 0) (getD vs 2 0) (getD vs 3 0) (omega arith) ∙ ap (λ (ys : List ℕ). over ys xs) z)

@@ -1,0 +1,3 @@
+pub mod Telling
+mod Choosing
+mod Unpacking

@@ -1,0 +1,66 @@
+-- Changes of four words each as four lists. Assumes nothing.
+use mathlib.Core.Path.{_≡_, refl, sym, ap, _∙_}
+use mathlib.Core.Bool.{Bool, true, false, _||_}
+use mathlib.Core.List.{List, [], _∷_}
+use Prim.Native.Nat.{ℕ, _+_, _<_}
+use native.Mathlib.Nat.{zero-add}
+use native.Mathlib.Omega.{arith}
+use lib.ListN.{length, getD, set, take, drop, length-map, List·getD-map}
+use lib.Seq.{paste, take-at}
+use lib.Dec.{eqb, ltb}
+use borrow.Author.Tests.{lt-ltb}
+use Rattle.graph.proofs.Copies.{copy-turn}
+use Rattle.graph.specs.Limits.{maxVertices, maxBatch}
+use Rattle.graph.specs.Refusal.{Verdict, refuse, _▷_, refuseIf, over}
+use Rattle.network.specs.Batch.{batchCall, batchFaults}
+use Rattle.calls.specs.Code.{network}
+use Rattle.apply.specs.declared.Applied.the-variants.{Refused}
+use Rattle.items.specs.Code.{changes}
+use Rattle.apply.specs.Code.{batchOutcome}
+use Rattle.plain_batch.proofs.Calling.{call-faulty}
+use Rattle.spelling.specs.Code.{wordsAt, changeOf, changesOf}
+use Rattle.network.specs.Change.{Change}
+
+pub words-length : (j : ℕ) (cs : List (List ℕ)) → length (wordsAt j cs) ≡ length cs
+unfolding wordsAt
+words-length j cs = length-map cs (λ (c : List ℕ). getD c j 0)
+
+words-at : (j : ℕ) (cs : List (List ℕ)) (i : ℕ) → getD (wordsAt j cs) i 0 ≡ getD (getD cs i []) j 0
+unfolding wordsAt
+words-at j cs i = List·getD-map (λ (c : List ℕ). getD c j 0) cs i []
+
+pub column-turn : (cs : List (List ℕ)) (j : ℕ) (d e : List ℕ) (i : ℕ) → i < length cs → i < length d → e ≡ paste d 0 (wordsAt j cs) i →
+    set e i (getD (getD cs i []) j 0) ≡ paste d 0 (wordsAt j cs) (i + 1)
+column-turn cs j d e i l m h =
+    let z = words-length j cs in
+    ap (λ (v : ℕ). set e i v) (sym (words-at j cs i))
+    ∙ (rw (zero-add i) at (copy-turn (wordsAt j cs) d e 0 i (omega arith) (omega arith) h))
+
+pub changes-words : (cs : List (List ℕ)) → changes (wordsAt 0 cs) (wordsAt 1 cs) (wordsAt 2 cs) (wordsAt 3 cs) ≡ changesOf cs
+unfolding changes wordsAt
+changes-words [] = refl
+changes-words (c ∷ cs) = ap (λ (ds : List Change). changeOf c ∷ ds) (changes-words cs)
+
+-- the words of a column, read back
+pub column-read : (cs : List (List ℕ)) (j : ℕ) (zs : List ℕ) {ys : List ℕ} → ys ≡ over (wordsAt j cs) zs → take (length cs) ys ≡ wordsAt j cs
+column-read cs j zs e =
+    ap (λ (xs : List ℕ). take (length cs) xs) e ∙ take-at (wordsAt j cs) (drop (length (wordsAt j cs)) zs) (length cs) (words-length j cs)
+
+pub column-length : (cs : List (List ℕ)) (j : ℕ) (zs : List ℕ) {ys : List ℕ} → ys ≡ over (wordsAt j cs) zs → length cs ≡ length (take (length cs) ys)
+column-length cs j zs e = sym (ap (λ (xs : List ℕ). length xs) (column-read cs j zs e) ∙ words-length j cs)
+
+pub changes-read : (cs : List (List ℕ)) {ks bs ds es : List ℕ} → ks ≡ wordsAt 0 cs → bs ≡ wordsAt 1 cs → ds ≡ wordsAt 2 cs → es ≡ wordsAt 3 cs →
+    changes ks bs ds es ≡ changesOf cs
+changes-read cs p q r s = rw (p, q, r, s) (changes-words cs)
+
+-- a batch that is too long is number 1, whatever the vertices are
+pub batch-large : (n : ℕ) (ls : List ℕ) (ts hs ws f b : List ℕ) (m : ℕ) (cs : List (List ℕ)) → maxBatch < length cs →
+    batchOutcome (Refused 1 0) ts hs ws f b ≡ batchCall n ls (network ts hs ws f b m) (changesOf cs)
+unfolding batchFaults _▷_ refuseIf
+batch-large n ls ts hs ws f b m cs l =
+    call-faulty n ls ts hs ws f b m (changesOf cs) 1 0
+    (pick (eqb n 0 || ltb maxVertices n) (ltb maxBatch (length (changesOf cs))) (lt-ltb maxBatch (length (changesOf cs)) (omega (arith, length-map cs changeOf))) _)
+  where
+    pick : (a c : Bool) → c ≡ true → (v : Verdict) → refuse 1 0 ≡ (refuseIf a 1 0 ▷ (refuseIf c 1 0 ▷ v))
+    pick true c e v = refl
+    pick false c e v = rw e

@@ -1,0 +1,64 @@
+-- `spelling::spell::spell_batch` meets its contract. Assumes nothing.
+use borrow.Author.Needs.{needs}
+use native.Mathlib.Omega.{arith}
+use Rattle.apply.specs.Code.{applying, reporting}
+use Rattle.spelling.specs.Code.{reportWords}
+use Rattle.spelling.proofs.Telling.{set-three, refused-tells, accepted-tells, within-one, within-two}
+use Rattle.spelling.proofs.spell.spell_batch.Statement.{statement}
+use Rattle.spelling.proofs.spell.spell_batch.Tie as tie
+
+enum-known-r : tie.Need-enum-known-r
+enum-known-r c = search needs
+
+cast-reply : tie.Need-cast-reply
+cast-reply c = search needs
+
+slice-write-reply : tie.Need-slice-write-reply
+slice-write-reply c = search needs
+
+slice-write-reply-2 : tie.Need-slice-write-reply-2
+slice-write-reply-2 c = within-one (c .before .before .before .before .args .reply .now) (c .before .before .r .given .0 .0 .count) 1 (omega arith)
+
+slice-write-reply-3 : tie.Need-slice-write-reply-3
+slice-write-reply-3 c = within-two (c .before .before .before .before .args .reply .now) (c .before .before .r .given .0 .0 .count) (c .before .before .r .given .0 .0 .affected) 2 (omega arith)
+
+enum-known-r-2 : tie.Need-enum-known-r-2
+enum-known-r-2 c = search needs
+
+slice-write-reply-4 : tie.Need-slice-write-reply-4
+slice-write-reply-4 c = search needs
+
+same-length : tie.Need-same-length
+same-length c = search needs
+
+returns : tie.Need-returns
+unfolding applying
+returns c =
+    let s = c .before .before .before .before in
+    let t = c .before .before .r .given .0 .0 in
+    rw (c .before .before .r .given .1) (accepted-tells reportWords (s .args .reply .now) (omega arith) (reporting t) (set-three (s .args .reply .now) (t .count) (t .affected) (t .stores) (omega arith)))
+
+same-length-2 : tie.Need-same-length-2
+same-length-2 c = search needs
+
+returns-2 : tie.Need-returns-2
+unfolding applying
+returns-2 c =
+    let s = c .before .before .before in
+    rw (c .before .r2 .given .1) (refused-tells reportWords (s .args .reply .now) (omega arith) _ _)
+
+pub spell-batch-spec : {M : Type 1} → statement M
+spell-batch-spec =
+    tie.close
+    (tie.spec
+    enum-known-r
+    cast-reply
+    slice-write-reply
+    slice-write-reply-2
+    slice-write-reply-3
+    enum-known-r-2
+    slice-write-reply-4
+    same-length
+    returns
+    same-length-2
+    returns-2)

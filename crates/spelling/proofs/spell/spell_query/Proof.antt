@@ -1,0 +1,61 @@
+-- `spelling::spell::spell_query` meets its contract. Assumes nothing.
+use borrow.Author.Needs.{needs}
+use native.Mathlib.Omega.{arith}
+use Rattle.run.specs.Code.{counts}
+use Rattle.query.specs.Code.{answering}
+use Rattle.spelling.specs.Code.{tallyWords}
+use Rattle.spelling.proofs.Telling.{set-three, refused-tells, accepted-tells, within-one, within-two}
+use Rattle.spelling.proofs.spell.spell_query.Statement.{statement}
+use Rattle.spelling.proofs.spell.spell_query.Tie as tie
+
+enum-known-r : tie.Need-enum-known-r
+enum-known-r c = search needs
+
+slice-write-reply : tie.Need-slice-write-reply
+slice-write-reply c = search needs
+
+slice-write-reply-2 : tie.Need-slice-write-reply-2
+slice-write-reply-2 c = within-one (c .before .before .before .args .reply .now) (c .before .r .given .0 .0 .taken) 1 (omega arith)
+
+slice-write-reply-3 : tie.Need-slice-write-reply-3
+slice-write-reply-3 c = within-two (c .before .before .before .args .reply .now) (c .before .r .given .0 .0 .taken) (c .before .r .given .0 .0 .rounds) 2 (omega arith)
+
+enum-known-r-2 : tie.Need-enum-known-r-2
+enum-known-r-2 c = search needs
+
+slice-write-reply-4 : tie.Need-slice-write-reply-4
+slice-write-reply-4 c = search needs
+
+same-length : tie.Need-same-length
+same-length c = search needs
+
+returns : tie.Need-returns
+unfolding answering
+returns c =
+    let s = c .before .before .before in
+    let t = c .before .r .given .0 .0 in
+    rw (c .before .r .given .1) (accepted-tells tallyWords (s .args .reply .now) (omega arith) (counts t) (set-three (s .args .reply .now) (t .taken) (t .rounds) (t .stores) (omega arith)))
+
+same-length-2 : tie.Need-same-length-2
+same-length-2 c = search needs
+
+returns-2 : tie.Need-returns-2
+unfolding answering
+returns-2 c =
+    let s = c .before .before .before in
+    rw (c .before .r2 .given .1) (refused-tells tallyWords (s .args .reply .now) (omega arith) _ _)
+
+pub spell-query-spec : {M : Type 1} → statement M
+spell-query-spec =
+    tie.close
+    (tie.spec
+    enum-known-r
+    slice-write-reply
+    slice-write-reply-2
+    slice-write-reply-3
+    enum-known-r-2
+    slice-write-reply-4
+    same-length
+    returns
+    same-length-2
+    returns-2)

@@ -1,0 +1,85 @@
+-- `spelling::unpack::column` meets its contract: the words below i are copied. Assumes nothing.
+use borrow.Author.Needs.{needs}
+use native.Mathlib.Omega.{arith}
+use Prim.Native.Nat.{ℕ, _-_, _≤_}
+use mathlib.Core.Path.{_≡_, refl, ap, _∙_}
+use lib.ListN.{length, length-set}
+use lib.Seq.{paste, paste-zero}
+use Rattle.calls.proofs.Flat.{paste-over}
+use Rattle.spelling.specs.Code.{wordsAt}
+use Rattle.spelling.proofs.Unpacking.{words-length, column-turn}
+use Rattle.spelling.proofs.unpack.column.Statement.{statement}
+use Rattle.spelling.proofs.unpack.column.Tie as tie
+
+abbrev Inv-loop : tie.InvT-loop
+Inv-loop changes j out₀ i₀ out i = (out ≡ paste out₀ 0 (wordsAt j changes) i) × (i ≤ length changes) × (length out ≡ length out₀)
+
+abbrev μ-loop : tie.MeasureT-loop
+μ-loop changes j out₀ i₀ out i = length changes - i
+
+loop-holds : tie.Need-loop-holds Inv-loop μ-loop
+loop-holds c = (paste-zero (c .args .out .now) 0 (wordsAt (c .args .j) (c .args .changes .now)), search needs, refl)
+
+mul-out : tie.Need-mul-out Inv-loop μ-loop
+mul-out c = search needs
+
+mul-out-2 : tie.Need-mul-out-2 Inv-loop μ-loop
+mul-out-2 c = search needs
+
+index-1-out : tie.Need-index-1-out Inv-loop μ-loop
+index-1-out c = search needs
+
+index-2-out : tie.Need-index-2-out Inv-loop μ-loop
+index-2-out c = search needs
+
+mul-out-3 : tie.Need-mul-out-3 Inv-loop μ-loop
+mul-out-3 c = search needs
+
+slice-write-out : tie.Need-slice-write-out Inv-loop μ-loop
+slice-write-out c = search needs
+
+add-i : tie.Need-add-i Inv-loop μ-loop
+add-i c = search needs
+
+loop-less : tie.Need-loop-less Inv-loop μ-loop
+loop-less c = search needs
+
+loop-again : tie.Need-loop-again Inv-loop μ-loop
+loop-again c =
+    let l = c .before .before in
+    let s = l .before in (
+      column-turn (s .args .changes .now) (s .args .j) (s .args .out .now) (l .loop .out) (l .loop .i) (omega arith) (omega arith) (l .loop .inv .0),
+      omega arith,
+      simp length-set (l .loop .inv .2),
+    )
+
+same-length : tie.Need-same-length Inv-loop μ-loop
+same-length c = search needs
+
+returns : tie.Need-returns Inv-loop μ-loop
+returns c =
+    let a = c .before .before .args in
+    let ws = wordsAt (a .j) (a .changes .now) in
+    let e : c .before .loop .i ≡ length (a .changes .now) = omega arith in
+    c .before .loop .inv .0
+    ∙ ap (λ (k : ℕ). paste (a .out .now) 0 ws k) e
+    ∙ paste-over (a .out .now) ws (length (a .changes .now)) (words-length (a .j) (a .changes .now))
+
+pub column-spec : {M : Type 1} → statement M
+column-spec =
+    tie.close
+    (tie.spec
+    Inv-loop
+    μ-loop
+    loop-holds
+    mul-out
+    mul-out-2
+    index-1-out
+    index-2-out
+    mul-out-3
+    slice-write-out
+    add-i
+    loop-less
+    loop-again
+    same-length
+    returns)

@@ -1,0 +1,80 @@
+-- What a caller in C gets and gives: a reply as a number and words, and changes of four words each. Assumes nothing.
+--
+--   replyWords             == how many words a reply list has at least
+--   numberOf r             == the refusal number of a reply; 0 where it is accepted
+--   wordsOf f r            == the words of a reply: f of what is answered, or the place of a refusal
+--   Tells f r k xs ys      == k and ys spell the reply r, where xs was the reply list: words past those of the reply stay
+--   openWords              == an opening tells only that it was accepted
+--   tallyWords             == taken, rounds, stores
+--   reportWords            == count, affected, stores
+--   checkWords             == 1 where settled; else 0, side, row, record
+--   choiceWords            == how many, then the four places
+--   sizeWords              == n and the count of a network that was read
+--   oneWord                == a single number: where a row starts, how long a text is, how many sources there are
+--   wordsAt j cs           == word j of each of the changes cs
+--   changeOf c             == four words as a change record
+--   changesOf cs           == a list of four words each as change records
+use mathlib.Core.Path.{_≡_}
+use mathlib.Core.List.{List, [], _∷_, map}
+use Prim.Native.Nat.{ℕ}
+use lib.ListN.{length, getD}
+use Rattle.graph.specs.Refusal.{Reply, accepted, refused, over}
+use Rattle.run.specs.Run.{Tally}
+use Rattle.network.specs.Batch.{Report}
+use Rattle.network.specs.Settled.{Check, settled, found}
+use Rattle.network.specs.Change.{Change}
+use Rattle.inspect.specs.Code.{padded}
+use Rattle.items.specs.Code.{change}
+use Rattle.dimacs.specs.Call.{Size}
+
+abbrev pub replyWords : ℕ
+replyWords = 8
+
+-- ---- a reply as number and words
+
+unfoldable pub numberOf : {A : Type 0} → Reply A → ℕ
+numberOf (accepted a) = 0
+numberOf (refused k i) = k
+
+unfoldable pub wordsOf : {A : Type 0} → (A → List ℕ) → Reply A → List ℕ
+wordsOf f (accepted a) = f a
+wordsOf f (refused k i) = i ∷ []
+
+pub record Tells {A : Type 0} (f : A → List ℕ) (r : Reply A) (k : ℕ) (xs ys : List ℕ) : Type 0 where
+  pub number : k ≡ numberOf r
+  pub reply : ys ≡ over (wordsOf f r) xs
+
+-- ---- what is answered, as words
+
+abbrev pub openWords : Unit {0} → List ℕ
+openWords t = []
+
+abbrev pub tallyWords : Tally → List ℕ
+tallyWords t = t .taken ∷ t .rounds ∷ t .stores ∷ []
+
+abbrev pub reportWords : Report → List ℕ
+reportWords r = r .count ∷ r .affected ∷ r .stores ∷ []
+
+unfoldable pub checkWords : Check → List ℕ
+checkWords settled = 1 ∷ []
+checkWords (found side r j) = 0 ∷ side ∷ r ∷ j ∷ []
+
+abbrev pub choiceWords : List ℕ → List ℕ
+choiceWords us = length us ∷ padded us
+
+abbrev pub sizeWords : Size → List ℕ
+sizeWords s = s .vertices ∷ s .count ∷ []
+
+abbrev pub oneWord : ℕ → List ℕ
+oneWord i = i ∷ []
+
+-- ---- changes
+
+unfoldable pub wordsAt : ℕ → List (List ℕ) → List ℕ
+wordsAt j cs = map (λ (c : List ℕ). getD c j 0) cs
+
+abbrev pub changeOf : List ℕ → Change
+changeOf c = change (getD c 0 0) (getD c 1 0) (getD c 2 0) (getD c 3 0)
+
+abbrev pub changesOf : List (List ℕ) → List Change
+changesOf cs = map changeOf cs

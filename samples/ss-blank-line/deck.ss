@@ -1,3 +1,0 @@
-p aux sp ss 1
-
-s 1

@@ -1,3 +1,0 @@
-cc
-p aux sp ss 1
-s 1

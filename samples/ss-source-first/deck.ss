@@ -1,2 +1,0 @@
-s 1
-p aux sp ss 1
