@@ -1,0 +1,472 @@
+// Times of the calls beside the same rounds in plain Rust (plain.rs) and Boost.Graph, on the same networks in the same process. Every
+// result that is timed is compared first. Usage: bench [REPEATS]; bench once WHAT runs one alone, to count instructions: open, plain,
+// boost, batch1, batch10, batch100, read, readany, readplain, readanyplain, write, writeplain.
+#include "plate_track.h"
+
+#include <boost/graph/breadth_first_search.hpp>
+#include <boost/graph/compressed_sparse_row_graph.hpp>
+#include <boost/graph/dijkstra_shortest_paths.hpp>
+
+#include <algorithm>
+#include <chrono>
+#include <cstdio>
+#include <cstdlib>
+#include <cstring>
+#include <functional>
+#include <set>
+#include <string>
+#include <vector>
+
+extern "C" void plain_open(uint32_t n, const uint32_t *landmarks, size_t landmarks_len, const uint32_t *tails, const uint32_t *heads,
+                           const uint32_t *weights, uint32_t count, uint32_t *forward, uint32_t *backward);
+
+extern "C" uint32_t plain_read(const uint8_t *text, size_t text_len, uint32_t *tails, uint32_t *heads, uint32_t *weights);
+extern "C" size_t plain_write(uint32_t n, const uint32_t *tails, const uint32_t *heads, const uint32_t *weights, uint32_t count, uint8_t *text,
+                              size_t text_len);
+
+namespace {
+
+const uint32_t M = UINT32_MAX;
+
+struct Random {
+    uint64_t state;
+    uint64_t next()
+    {
+        uint64_t z = (state += 0x9e3779b97f4a7c15u);
+        z = (z ^ (z >> 30)) * 0xbf58476d1ce4e5b9u;
+        z = (z ^ (z >> 27)) * 0x94d049bb133111ebu;
+        return z ^ (z >> 31);
+    }
+    uint32_t below(uint32_t n) { return static_cast<uint32_t>(next() % n); }
+};
+
+struct Network {
+    uint32_t n = 0, count = 0;
+    std::vector<uint32_t> landmarks, tails, heads, weights, forward, backward;
+};
+
+// Random pairs, weights 1 to 1,000; the landmarks are chosen by plate_track_choose.
+Network make(uint32_t n, uint32_t edges, uint64_t seed)
+{
+    Random r{seed};
+    std::set<std::pair<uint32_t, uint32_t>> pairs;
+    while (pairs.size() < edges) {
+        uint32_t t = r.below(n), h = r.below(n);
+        if (t != h)
+            pairs.insert({t, h});
+    }
+    Network w;
+    w.n = n;
+    w.count = edges;
+    for (auto &p : pairs) {
+        w.tails.push_back(p.first);
+        w.heads.push_back(p.second);
+        w.weights.push_back(1 + r.below(1000));
+    }
+    for (auto *list : {&w.tails, &w.heads, &w.weights})
+        list->resize(PLATE_TRACK_MOST_EDGES);
+    uint64_t reply[8];
+    if (plate_track_choose(n, w.tails.data(), w.tails.size(), w.heads.data(), w.heads.size(), w.weights.data(), w.weights.size(), edges, 4, reply, 8))
+        std::abort();
+    w.landmarks.assign(reply + 1, reply + 1 + reply[0]);
+    w.forward.resize(w.landmarks.size() * 5 * n);
+    w.backward.resize(w.landmarks.size() * 5 * n);
+    return w;
+}
+
+void open(Network &w)
+{
+    uint64_t reply[8];
+    if (plate_track_open(w.n, w.landmarks.data(), w.landmarks.size(), w.tails.data(), w.tails.size(), w.heads.data(), w.heads.size(), w.weights.data(),
+                         w.weights.size(), w.count, w.forward.data(), w.forward.size(), w.backward.data(), w.backward.size(), reply, 8))
+        std::abort();
+}
+
+void plain(Network &w)
+{
+    plain_open(w.n, w.landmarks.data(), w.landmarks.size(), w.tails.data(), w.heads.data(), w.weights.data(), w.count, w.forward.data(), w.backward.data());
+}
+
+struct Told {
+    uint64_t taken, rounds, stores;
+};
+
+Told query(const Network &w, uint32_t property, uint32_t source, std::vector<uint32_t> &starts, std::vector<uint32_t> &settled)
+{
+    uint64_t reply[8];
+    if (plate_track_query(w.n, w.landmarks.data(), w.landmarks.size(), w.tails.data(), w.tails.size(), w.heads.data(), w.heads.size(), w.weights.data(),
+                          w.weights.size(), w.count, w.forward.data(), w.forward.size(), w.backward.data(), w.backward.size(), property, source, nullptr, 0,
+                          starts.data(), starts.size(), settled.data(), settled.size(), reply, 8))
+        std::abort();
+    return {reply[0], reply[1], reply[2]};
+}
+
+void batch(Network &w, const std::vector<plate_track_change> &changes)
+{
+    uint64_t reply[8];
+    if (plate_track_batch(w.n, w.landmarks.data(), w.landmarks.size(), w.tails.data(), w.tails.size(), w.heads.data(), w.heads.size(), w.weights.data(),
+                          w.weights.size(), w.count, w.forward.data(), w.forward.size(), w.backward.data(), w.backward.size(), changes.data(), changes.size(),
+                          reply, 8))
+        std::abort();
+    w.count = static_cast<uint32_t>(reply[0]);
+}
+
+// ---- text
+
+using Text = std::vector<uint8_t>;
+
+size_t write(const Network &w, Text &text)
+{
+    uint64_t reply[8];
+    if (plate_track_write(w.n, w.tails.data(), w.tails.size(), w.heads.data(), w.heads.size(), w.weights.data(), w.weights.size(), w.count, text.data(),
+                          text.size(), reply, 8))
+        std::abort();
+    return static_cast<size_t>(reply[0]);
+}
+
+size_t write_plain(const Network &w, Text &text)
+{
+    return plain_write(w.n, w.tails.data(), w.heads.data(), w.weights.data(), w.count, text.data(), text.size());
+}
+
+void read(const Text &text, Network &w)
+{
+    uint64_t reply[8];
+    if (plate_track_read(text.data(), text.size(), w.tails.data(), w.tails.size(), w.heads.data(), w.heads.size(), w.weights.data(), w.weights.size(), reply,
+                         8))
+        std::abort();
+    w.n = static_cast<uint32_t>(reply[0]);
+    w.count = static_cast<uint32_t>(reply[1]);
+}
+
+void read_plain(const Text &text, Network &w)
+{
+    w.count = plain_read(text.data(), text.size(), w.tails.data(), w.heads.data(), w.weights.data());
+}
+
+// The network's text, in table order or its records in any order.
+Text text_of(const Network &w, bool ascending)
+{
+    Text text(PLATE_TRACK_LONGEST_TEXT);
+    text.resize(write(w, text));
+    if (ascending)
+        return text;
+    std::vector<std::string> lines;
+    for (size_t at = 0; at < text.size();) {
+        size_t end = std::find(text.begin() + at, text.end(), '\n') - text.begin() + 1;
+        lines.emplace_back(text.begin() + at, text.begin() + end);
+        at = end;
+    }
+    Random r{11};
+    for (uint32_t i = static_cast<uint32_t>(lines.size()) - 1; i > 1; i--)
+        std::swap(lines[i], lines[1 + r.below(i)]);
+    Text mixed;
+    for (auto &line : lines)
+        mixed.insert(mixed.end(), line.begin(), line.end());
+    return mixed;
+}
+
+// ---- Boost.Graph
+
+struct Weight {
+    uint32_t weight;
+};
+using Graph = boost::compressed_sparse_row_graph<boost::directedS, boost::no_property, Weight>;
+
+struct Both {
+    Graph ahead, back;
+};
+
+Graph build(const Network &w, bool reversed)
+{
+    std::vector<std::pair<uint32_t, uint32_t>> pairs;
+    std::vector<Weight> weights;
+    for (uint32_t i = 0; i < w.count; i++) {
+        pairs.push_back(reversed ? std::make_pair(w.heads[i], w.tails[i]) : std::make_pair(w.tails[i], w.heads[i]));
+        weights.push_back({w.weights[i]});
+    }
+    return Graph(boost::edges_are_unsorted_multi_pass, pairs.begin(), pairs.end(), weights.begin(), w.n);
+}
+
+Both build(const Network &w) { return {build(w, false), build(w, true)}; }
+
+struct Sum {
+    uint32_t operator()(uint32_t a, uint32_t b) const { return a > M - b ? M : a + b; }
+};
+struct Least {
+    uint32_t operator()(uint32_t a, uint32_t b) const { return std::min(a, b); }
+};
+struct Greatest {
+    uint32_t operator()(uint32_t a, uint32_t b) const { return std::max(a, b); }
+};
+
+template <class Better, class Along> void dijkstra(const Graph &g, uint32_t s, uint32_t *out, Better better, uint32_t none, uint32_t start, Along along)
+{
+    boost::dijkstra_shortest_paths(g, s,
+                                   boost::weight_map(boost::get(&Weight::weight, g))
+                                       .distance_map(boost::make_iterator_property_map(out, boost::get(boost::vertex_index, g)))
+                                       .distance_compare(better)
+                                       .distance_combine(along)
+                                       .distance_inf(none)
+                                       .distance_zero(start));
+}
+
+void hops(const Graph &g, uint32_t s, uint32_t *out)
+{
+    std::fill(out, out + num_vertices(g), M);
+    out[s] = 0;
+    auto map = boost::make_iterator_property_map(out, boost::get(boost::vertex_index, g));
+    boost::breadth_first_search(g, s, boost::visitor(boost::make_bfs_visitor(boost::record_distances(map, boost::on_tree_edge()))));
+}
+
+void boost_row(const Graph &g, uint32_t property, uint32_t s, uint32_t *out)
+{
+    switch (property) {
+    case 1: dijkstra(g, s, out, std::less<uint32_t>(), M, 0, Sum()); break;
+    case 2: hops(g, s, out); break;
+    case 3: dijkstra(g, s, out, std::greater<uint32_t>(), 0, M, Least()); break;
+    case 4: dijkstra(g, s, out, std::less<uint32_t>(), M, 0, Greatest()); break;
+    default:
+        hops(g, s, out);
+        std::transform(out, out + num_vertices(g), out, [](uint32_t v) { return v == M ? 0u : 1u; });
+    }
+}
+
+} // namespace
+
+extern "C" __attribute__((noinline)) void boost_rows(const void *both, const void *network, uint32_t *forward, uint32_t *backward)
+{
+    const Both &g = *static_cast<const Both *>(both);
+    const Network &w = *static_cast<const Network *>(network);
+    for (uint32_t l : w.landmarks)
+        for (uint32_t p = 1; p <= 5; p++, forward += w.n, backward += w.n) {
+            boost_row(g.ahead, p, l, forward);
+            boost_row(g.back, p, l, backward);
+        }
+}
+
+namespace {
+
+// ---- time
+
+// Microseconds of f(i), on average over i below `inputs`: the best of several repeats for each i, so that another process that takes
+// the core for a while does not show.
+double best(int repeats, int inputs, const std::function<void(int)> &f)
+{
+    double sum = 0;
+    for (int i = 0; i < inputs; i++) {
+        double least = 1e300;
+        for (int k = 0; k < repeats; k++) {
+            auto a = std::chrono::steady_clock::now();
+            f(i);
+            std::chrono::duration<double, std::micro> d = std::chrono::steady_clock::now() - a;
+            least = std::min(least, d.count());
+        }
+        sum += least;
+    }
+    return sum / inputs;
+}
+
+void same(const char *what, const std::vector<uint32_t> &a, const std::vector<uint32_t> &b)
+{
+    if (a != b) {
+        std::printf("bench: %s: the results differ\n", what);
+        std::exit(1);
+    }
+}
+
+// `size` deletes of different edges, and the inserts that undo them.
+std::pair<std::vector<plate_track_change>, std::vector<plate_track_change>> there_and_back(const Network &w, uint32_t size, Random &r)
+{
+    std::set<uint32_t> picked;
+    while (picked.size() < size)
+        picked.insert(r.below(w.count));
+    std::vector<plate_track_change> away, again;
+    for (uint32_t i : picked) {
+        away.push_back({PLATE_TRACK_DELETE, w.tails[i], w.heads[i], 0});
+        again.push_back({PLATE_TRACK_INSERT, w.tails[i], w.heads[i], w.weights[i]});
+    }
+    return {away, again};
+}
+
+void open_times(int repeats, uint32_t n, uint32_t edges)
+{
+    const int networks = 8;
+    std::vector<Network> ours, theirs;
+    std::vector<Both> graphs;
+    for (int i = 0; i < networks; i++) {
+        ours.push_back(make(n, edges, 100 + i));
+        theirs.push_back(ours.back());
+        graphs.push_back(build(ours.back()));
+        open(ours[i]);
+        plain(theirs[i]);
+        same("open, plain Rust", ours[i].forward, theirs[i].forward);
+        same("open, plain Rust", ours[i].backward, theirs[i].backward);
+        boost_rows(&graphs[i], &theirs[i], theirs[i].forward.data(), theirs[i].backward.data());
+        same("open, Boost", ours[i].forward, theirs[i].forward);
+        same("open, Boost", ours[i].backward, theirs[i].backward);
+    }
+    double a = best(repeats, networks, [&](int i) { open(ours[i]); });
+    double b = best(repeats, networks, [&](int i) { plain(theirs[i]); });
+    double c = best(repeats, networks, [&](int i) { boost_rows(&graphs[i], &theirs[i], theirs[i].forward.data(), theirs[i].backward.data()); });
+    std::printf("open %3u %4u: ours %8.1f us, plain Rust %8.1f us (ours/plain %.2f), Boost 40 rows %8.1f us (ours/Boost %.2f)\n", n, edges, a, b, a / b, c, a / c);
+}
+
+void query_times(int repeats, uint32_t n, uint32_t edges)
+{
+    static const char *const names[] = {"time", "handovers", "headroom", "worst", "reach"};
+    Network w = make(n, edges, 100);
+    open(w);
+    Both g = build(w);
+    for (uint32_t p = 1; p <= 5; p++) {
+        // rows that say nothing: the run starts from no route
+        Network blank = w;
+        for (auto *list : {&blank.forward, &blank.backward})
+            std::fill(list->begin(), list->end(), p == 3 || p == 5 ? 0 : M);
+        std::vector<uint32_t> starts(n), settled(n), found(n);
+        uint64_t with = 0, without = 0;
+        for (uint32_t s = 0; s < n; s++) {
+            with += query(w, p, s, starts, settled).stores;
+            boost_row(g.ahead, p, s, found.data());
+            same("query, Boost", settled, found);
+            without += query(blank, p, s, starts, found).stores;
+            same("query, without landmarks", settled, found);
+        }
+        double a = best(repeats, n, [&](int s) { query(w, p, s, starts, settled); });
+        double b = best(repeats, n, [&](int s) { query(blank, p, s, starts, settled); });
+        double c = best(repeats, n, [&](int s) { boost_row(g.ahead, p, s, found.data()); });
+        std::printf("query %3u %4u %-9s: with landmarks %6.1f us, %6.1f stores; without %6.1f us, %6.1f stores; Boost %6.1f us\n", n, edges, names[p - 1], a,
+                    double(with) / n, b, double(without) / n, c);
+    }
+}
+
+void batch_times(int repeats, uint32_t n, uint32_t edges, uint32_t size)
+{
+    const int rounds = 50;
+    Network w = make(n, edges, 100);
+    open(w);
+    Network before = w;
+    Random r{7};
+    std::vector<std::pair<std::vector<plate_track_change>, std::vector<plate_track_change>>> list;
+    for (int i = 0; i < rounds; i++)
+        list.push_back(there_and_back(w, size, r));
+    // after the deletes the rows are those of an opening of what is left, and of Boost's recomputation
+    for (auto &c : list) {
+        batch(w, c.first);
+        Network anew = w;
+        open(anew);
+        same("batch, opened anew", w.forward, anew.forward);
+        same("batch, opened anew", w.backward, anew.backward);
+        Both left = build(w);
+        boost_rows(&left, &anew, anew.forward.data(), anew.backward.data());
+        same("batch, Boost", w.forward, anew.forward);
+        batch(w, c.second);
+        same("batch, there and back", w.forward, before.forward);
+    }
+    // a batch of deletes and the batch of inserts that undoes it, halved
+    double a = best(repeats, rounds, [&](int i) { batch(w, list[i].first); batch(w, list[i].second); }) / 2;
+    Network other = w;
+    double b = best(repeats, 4, [&](int) { open(other); });
+    Both g = build(w);
+    double c = best(repeats, 4, [&](int) { boost_rows(&g, &other, other.forward.data(), other.backward.data()); });
+    double d = best(repeats, 4, [&](int) { Both h = build(w); boost_rows(&h, &other, other.forward.data(), other.backward.data()); });
+    std::printf("batch %3u %4u of %3u: ours %8.1f us; opened anew %8.1f us (%.1fx); Boost 40 rows %8.1f us (%.1fx), with its graphs built %8.1f us (%.1fx)\n", n, edges, size, a, b,
+                b / a, c, c / a, d, d / a);
+}
+
+void text_times(int repeats, uint32_t n, uint32_t edges)
+{
+    const int networks = 8;
+    std::vector<Network> list;
+    std::vector<Text> ordered, mixed;
+    Text ours(PLATE_TRACK_LONGEST_TEXT), theirs = ours;
+    size_t bytes = 0;
+    for (int i = 0; i < networks; i++) {
+        list.push_back(make(n, edges, 100 + i));
+        const Network &w = list[i];
+        ordered.push_back(text_of(w, true));
+        mixed.push_back(text_of(w, false));
+        bytes += ordered[i].size();
+        if (write(w, ours) != write_plain(w, theirs) || ours != theirs) {
+            std::printf("bench: the written texts differ\n");
+            std::exit(1);
+        }
+        for (auto *text : {&ordered[i], &mixed[i]})
+            for (auto reader : {read, read_plain}) {
+                Network back = w;
+                std::fill(back.tails.begin(), back.tails.end(), 0);
+                reader(*text, back);
+                same("text, tails", back.tails, w.tails);
+                same("text, heads", back.heads, w.heads);
+                same("text, weights", back.weights, w.weights);
+            }
+    }
+    Network w = list[0];
+    double a = best(repeats, networks, [&](int i) { read(ordered[i], w); });
+    double b = best(repeats, networks, [&](int i) { read_plain(ordered[i], w); });
+    double c = best(repeats, networks, [&](int i) { read(mixed[i], w); });
+    double d = best(repeats, networks, [&](int i) { read_plain(mixed[i], w); });
+    double e = best(repeats, networks, [&](int i) { write(list[i], ours); });
+    double f = best(repeats, networks, [&](int i) { write_plain(list[i], theirs); });
+    std::printf("text %3u %4u, %zu bytes: read %.1f us, plain Rust %.1f us (%.2f); in any order %.1f us, plain Rust %.1f us (%.2f); write %.1f us, plain Rust "
+                "%.1f us (%.2f)\n",
+                n, edges, bytes / networks, a, b, a / b, c, d, c / d, e, f, e / f);
+}
+
+// Text in or out, once.
+bool text_once(const std::string &what, Network &w)
+{
+    Text out(PLATE_TRACK_LONGEST_TEXT), text = text_of(w, what.compare(0, 7, "readany") != 0);
+    if (what == "read" || what == "readany")
+        read(text, w);
+    else if (what == "readplain" || what == "readanyplain")
+        read_plain(text, w);
+    else if (what == "writeplain")
+        write_plain(w, out);
+    else
+        return what == "write"; // text_of has written once
+    return true;
+}
+
+int once(const std::string &what)
+{
+    Network w = make(256, 2048, 100);
+    if (text_once(what, w))
+        return 0;
+    Both g = build(w);
+    if (what == "plain")
+        plain(w);
+    else if (what == "boost")
+        boost_rows(&g, &w, w.forward.data(), w.backward.data());
+    else {
+        open(w);
+        if (!what.compare(0, 5, "batch")) {
+            // as many batches as are timed: 50 of deletes, each undone by one of inserts
+            Random r{7};
+            uint32_t size = static_cast<uint32_t>(std::atoi(what.c_str() + 5));
+            for (int i = 0; i < 50; i++) {
+                auto c = there_and_back(w, size, r);
+                batch(w, c.first);
+                batch(w, c.second);
+            }
+        }
+    }
+    return 0;
+}
+
+} // namespace
+
+int main(int argc, char **argv)
+{
+    if (argc == 3 && !std::strcmp(argv[1], "once"))
+        return once(argv[2]);
+    int repeats = argc > 1 ? std::atoi(argv[1]) : 15;
+    open_times(repeats, 256, 2048);
+    open_times(repeats, 256, 512);
+    open_times(repeats, 64, 512);
+    query_times(repeats, 256, 2048);
+    for (uint32_t size : {1u, 10u, 100u})
+        batch_times(repeats, 256, 2048, size);
+    text_times(repeats, 256, 2048);
+    return 0;
+}

@@ -1,0 +1,219 @@
+/* Plate track: routes on a directed graph of up to 256 vertices and 2,048 weighted edges, landmark rows that are kept up to date
+ * while batches of edges come and go, and queries from any vertex.
+ *
+ * Every function here is proved to meet its contract (crates/plate_track). Nothing is allocated and nothing is kept between calls:
+ * the caller lends all memory. A call needs less than 160 KiB of stack.
+ *
+ * LISTS. A list is a pointer and a length in elements, in that order. A null pointer with length 0 is an empty list. A pointer
+ * with another length points to that many elements, aligned as C aligns them. A list that a call may write (not const here)
+ * overlaps no other list of the same call. Nothing can check this: it is what the caller owes. Everything else may be any value.
+ *
+ * NETWORK. Vertices are 0 to n - 1, n from 1 to 256. The edge table is three lists, tails, heads and weights, of at least 2,048
+ * words EACH, however few edges there are, and a count of records. Records ascend by tail, then head; no pair stands twice; tail and
+ * head differ; a weight is 1 to 65,535. Landmarks are 1 to 4 different vertices. Two lists hold the landmark rows: forward (landmark to
+ * each vertex) and backward (each vertex to landmark), each of at least landmarks x 5 x n words. Row i * 5 + p - 1, of n words, is
+ * that of landmark i of the list for property p.
+ *
+ *   property                     at the source   no route      along an edge           better
+ *   1 time                       0               4294967295    value + weight          less
+ *   2 handovers                  0               4294967295    value + 1               less
+ *   3 headroom                   4294967295      0             lesser of both          greater
+ *   4 worst stretch              0               4294967295    greater of both         less
+ *   5 reach                      1               0             value                   greater
+ * A sum above 4294967294 is 4294967295: it never wraps.
+ *
+ * REPLIES. A function returns 0 where the call is accepted, and else the number of its refusal (below). `reply` is a list of at least
+ * 8 words; with fewer, every function returns PLATE_TRACK_SHORT and looks at nothing else. Accepted, reply[0] and on hold the words that are named at
+ * the function, and the rest stay. Refused, reply[0] is the place (an index, a line, or 0), the rest stay, and NO other lent memory
+ * has changed. The lowest number that applies is given, but for two: plate_track_write judges the length of its buffer last; and in a
+ * batch, after 1 to 4, the first change with any of 6 to 12 decides, by its lowest number, against the table as earlier changes left it, and
+ * its index is the place.
+ *
+ * TEXT. Network text is the 9th DIMACS Challenge's shortest-path layout: a line `p sp N M`, then M lines `a TAIL HEAD WEIGHT` in any
+ * order, and comments, `c` alone or `c ` and any bytes, anywhere. N is 1 to 256, M at most 2,048 and at most N x (N - 1). A source file has
+ * `p aux sp ss COUNT`, then COUNT lines `s VERTEX`; COUNT is 0 to 256, and a vertex may stand twice. Each line
+ * ends with a line feed, the last one too; single spaces; numbers have no sign and no leading zero. VERTICES COUNT FROM 1 IN TEXT and
+ * from 0 in every list.
+ *
+ * A network keeps best values as long as only plate_track_batch writes its table and rows after plate_track_open, and each call gets
+ * the same n and landmarks and the present count: the opening's, until a batch is accepted, and then the one last reported.
+ *
+ * The functions may run on several threads at once, on different memory. */
+#ifndef PLATE_TRACK_H
+#define PLATE_TRACK_H
+
+#include <stddef.h>
+#include <stdint.h>
+
+#ifdef __cplusplus
+extern "C" {
+#endif
+
+enum {
+    PLATE_TRACK_MOST_VERTICES = 256,
+    PLATE_TRACK_MOST_EDGES = 2048,      /* and the least length of each table list */
+    PLATE_TRACK_MOST_LANDMARKS = 4,
+    PLATE_TRACK_MOST_CHANGES = 1024,
+    PLATE_TRACK_LONGEST_SCHEDULE = 4096,
+    PLATE_TRACK_MOST_SOURCES = 256,     /* and the least length of a list of sources */
+    PLATE_TRACK_LONGEST_TEXT = 32782,   /* no written text has more bytes */
+    PLATE_TRACK_PROPERTIES = 5,
+    PLATE_TRACK_REPLY_WORDS = 8         /* the least length of a reply list */
+};
+
+/* Properties. */
+enum { PLATE_TRACK_TIME = 1, PLATE_TRACK_HANDOVERS, PLATE_TRACK_HEADROOM, PLATE_TRACK_WORST, PLATE_TRACK_REACH };
+
+/* Sides. */
+enum { PLATE_TRACK_FORWARD = 0, PLATE_TRACK_BACKWARD = 1 };
+
+/* Refusals. */
+enum {
+    PLATE_TRACK_ACCEPTED = 0,
+    PLATE_TRACK_SIZE = 1,       /* n is 0 or over 256, a batch over 1,024, a schedule over 4,096 */
+    PLATE_TRACK_SHORT = 2,      /* a list or buffer is too short */
+    PLATE_TRACK_LANDMARKS = 3,  /* none, over 4, no vertex, repeated; k not 1 to 4; a look-up's landmark is not in the list */
+    PLATE_TRACK_TABLE = 4,      /* count over 2,048 (place 0), or a record breaks the rules (its index) */
+    PLATE_TRACK_PROPERTY = 5,   /* not 1 to 5; a side neither 0 nor 1 */
+    PLATE_TRACK_VERTEX = 6,     /* a source (place 0), then an entry of a schedule (its index); a tail or head of a change: n or more */
+    PLATE_TRACK_KIND = 7,       /* a change is neither an insert nor a delete */
+    PLATE_TRACK_LOOP = 8,       /* tail equals head */
+    PLATE_TRACK_WEIGHT = 9,     /* insert: not 1 to 65,535; delete: not 0 */
+    PLATE_TRACK_PRESENT = 10,   /* insert of a pair that is there */
+    PLATE_TRACK_ABSENT = 11,    /* delete of a pair that is not there */
+    PLATE_TRACK_FULL = 12,      /* insert when 2,048 records are there */
+    PLATE_TRACK_UNSETTLED = 13, /* some vertex waits after n rounds */
+    PLATE_TRACK_TEXT = 14       /* a text breaks the rules; the place is the first line, from 1, with which no good text can go on, and the
+                                   number of complete lines + 1 where it ends too soon */
+};
+
+/* Kinds of change. */
+enum { PLATE_TRACK_INSERT = 1, PLATE_TRACK_DELETE = 2 };
+
+/* A change of a batch: four words. A delete has weight 0. */
+typedef struct plate_track_change {
+    uint32_t kind;
+    uint32_t tail;
+    uint32_t head;
+    uint32_t weight;
+} plate_track_change;
+
+/* Opens a network: both row lists get best values; words past the rows stay. The reply has no words.
+ * Numbers: 1 to 4, 13. */
+uint32_t plate_track_open(
+    uint32_t n,
+    const uint32_t *landmarks, size_t landmarks_len,
+    const uint32_t *tails, size_t tails_len,
+    const uint32_t *heads, size_t heads_len,
+    const uint32_t *weights, size_t weights_len,
+    uint32_t count,
+    uint32_t *forward, size_t forward_len,
+    uint32_t *backward, size_t backward_len,
+    uint64_t *reply, size_t reply_len);
+
+/* Asks for one property from one source to every vertex. The schedule (0 to 4,096 vertices, usually none) is gone through before the
+ * rounds. `starts` gets the n words that the landmark rows alone give (at the source its own value), `settled` the n values asked for; both have
+ * at least n words, and words past them stay.
+ * reply: entries of the schedule taken, rounds, stores. Numbers: 1 to 6, 13. */
+uint32_t plate_track_query(
+    uint32_t n,
+    const uint32_t *landmarks, size_t landmarks_len,
+    const uint32_t *tails, size_t tails_len,
+    const uint32_t *heads, size_t heads_len,
+    const uint32_t *weights, size_t weights_len,
+    uint32_t count,
+    const uint32_t *forward, size_t forward_len,
+    const uint32_t *backward, size_t backward_len,
+    uint32_t property,
+    uint32_t source,
+    const uint32_t *schedule, size_t schedule_len,
+    uint32_t *starts, size_t starts_len,
+    uint32_t *settled, size_t settled_len,
+    uint64_t *reply, size_t reply_len);
+
+/* Applies up to 1,024 changes in order, all or none, and brings the rows up to date. Records from the new count to 2,047 become zero; table
+ * words from 2,048 on and words past the rows stay. changes_len counts changes, not words.
+ * reply: the new count (hand it to every later call), affected vertices and stores over all rows. Numbers: 1 to 4, 6 to 13. */
+uint32_t plate_track_batch(
+    uint32_t n,
+    const uint32_t *landmarks, size_t landmarks_len,
+    uint32_t *tails, size_t tails_len,
+    uint32_t *heads, size_t heads_len,
+    uint32_t *weights, size_t weights_len,
+    uint32_t count,
+    uint32_t *forward, size_t forward_len,
+    uint32_t *backward, size_t backward_len,
+    const plate_track_change *changes, size_t changes_len,
+    uint64_t *reply, size_t reply_len);
+
+/* Looks for the first edge that could still better a word of a row: forward, then backward, by row, then record.
+ * reply: 1 where there is none; else 0, side, row, record. "Settled" does not say that no word is too good.
+ * Numbers: 1 to 4. */
+uint32_t plate_track_settled(
+    uint32_t n,
+    const uint32_t *landmarks, size_t landmarks_len,
+    const uint32_t *tails, size_t tails_len,
+    const uint32_t *heads, size_t heads_len,
+    const uint32_t *weights, size_t weights_len,
+    uint32_t count,
+    const uint32_t *forward, size_t forward_len,
+    const uint32_t *backward, size_t backward_len,
+    uint64_t *reply, size_t reply_len);
+
+/* Chooses k landmarks (1 to 4; n of them where n is less): most edges in plus out first, ties to the lower number.
+ * reply: how many, then four places of which the unused are 0. Numbers: 1 to 4. */
+uint32_t plate_track_choose(
+    uint32_t n,
+    const uint32_t *tails, size_t tails_len,
+    const uint32_t *heads, size_t heads_len,
+    const uint32_t *weights, size_t weights_len,
+    uint32_t count,
+    uint32_t k,
+    uint64_t *reply, size_t reply_len);
+
+/* Tells where the row of a side, a landmark (its vertex number) and a property starts in the row list of that side; it has n words.
+ * reply: that index. Numbers: 1, 2, 3, 5. */
+uint32_t plate_track_row(
+    uint32_t n,
+    const uint32_t *landmarks, size_t landmarks_len,
+    const uint32_t *forward, size_t forward_len,
+    const uint32_t *backward, size_t backward_len,
+    uint32_t side,
+    uint32_t landmark,
+    uint32_t property,
+    uint64_t *reply, size_t reply_len);
+
+/* Reads network text into table lists, each of at least 2,048 words: the edges ascend, words past them stay.
+ * reply: n, count. Numbers: 2, 14. */
+uint32_t plate_track_read(
+    const uint8_t *text, size_t text_len,
+    uint32_t *tails, size_t tails_len,
+    uint32_t *heads, size_t heads_len,
+    uint32_t *weights, size_t weights_len,
+    uint64_t *reply, size_t reply_len);
+
+/* Writes a network's text: no comment, edges ascending; bytes past it stay. A buffer of PLATE_TRACK_LONGEST_TEXT bytes is always enough.
+ * reply: its length. Numbers: 1, 2, 4. */
+uint32_t plate_track_write(
+    uint32_t n,
+    const uint32_t *tails, size_t tails_len,
+    const uint32_t *heads, size_t heads_len,
+    const uint32_t *weights, size_t weights_len,
+    uint32_t count,
+    uint8_t *text, size_t text_len,
+    uint64_t *reply, size_t reply_len);
+
+/* Reads a source file of a network with n vertices into a list of at least 256 words: its vertices, from 0, in the file's order; words
+ * past them stay.
+ * reply: count. Numbers: 1, 2, 14. */
+uint32_t plate_track_read_sources(
+    const uint8_t *text, size_t text_len,
+    uint32_t n,
+    uint32_t *sources, size_t sources_len,
+    uint64_t *reply, size_t reply_len);
+
+#ifdef __cplusplus
+}
+#endif
+
+#endif

@@ -1,0 +1,3 @@
+cc
+p aux sp ss 1
+s 1

@@ -1,0 +1,505 @@
+//! Networks, batches, schedules and texts, good and damaged, with a leaning to the edges of what is accepted.
+
+use crate::case::{Call, Case};
+use crate::random::Random;
+use crate::reference::{print_network, Change, Edge, Network, M, MOST_EDGES};
+
+/// A word that often matters.
+pub fn odd_word(r: &mut Random) -> u32 {
+    match r.below(6) {
+        0 => r.pick(&[0, 1, 2, 3, 4, 5, 6, 255, 256, 257]),
+        1 => r.pick(&[M, M - 1, M - 2, M - 65_535, M - 65_536, 1 << 31]),
+        2 => r.pick(&[65_534, 65_535, 65_536, 65_537, 2_047, 2_048, 2_049]),
+        3 => r.below(10),
+        4 => r.below(300),
+        _ => r.next() as u32,
+    }
+}
+
+fn vertices(r: &mut Random) -> u32 {
+    match r.below(1_000) {
+        0..=79 => 1,
+        80..=179 => 2,
+        180..=899 => 3 + r.below(6),
+        900..=989 => 9 + r.below(24),
+        // the fewest vertices that can have a full table
+        990..=995 => 46,
+        996..=997 => 33 + r.below(60),
+        998 => 255,
+        _ => 256,
+    }
+}
+
+fn weigher(r: &mut Random) -> Box<dyn Fn(&mut Random) -> u32> {
+    match r.below(5) {
+        0 => {
+            let w = r.pick(&[1, 4, 65_535]);
+            Box::new(move |_| w)
+        }
+        1 => Box::new(|r| r.pick(&[1, 65_535])),
+        2 => Box::new(|r| 1 + r.below(4)),
+        3 => Box::new(|r| 1 + r.below(20)),
+        _ => Box::new(|r| 1 + r.below(65_535)),
+    }
+}
+
+/// Edges of a sound table.
+fn edges(r: &mut Random, n: u32) -> Vec<Edge> {
+    let weigh = weigher(r);
+    let most = (n as usize * (n as usize - 1)).min(MOST_EDGES);
+    let wanted = match r.below(8) {
+        _ if most == MOST_EDGES && !r.one_in(3) => most,
+        0 => 0,
+        1 | 2 => most - r.below(2).min(most as u32) as usize,
+        3 => r.below(n + 1) as usize,
+        4 | 5 => (2 * n as usize).min(most),
+        _ => r.below(most as u32 + 1) as usize,
+    };
+    let wanted = if n > 60 && r.one_in(3) { wanted.min(600) } else { wanted }.min(most);
+    let mut pairs = std::collections::BTreeSet::new();
+    if r.one_in(3) && n > 1 {
+        // a ring
+        for v in 0..n {
+            if pairs.len() < wanted {
+                pairs.insert((v, (v + 1) % n));
+            }
+        }
+    }
+    while pairs.len() < wanted {
+        if wanted * 2 > n as usize * (n as usize - 1) {
+            // dense: leave some out
+            let mut all: Vec<(u32, u32)> = (0..n).flat_map(|t| (0..n).map(move |h| (t, h))).filter(|p| p.0 != p.1 && !pairs.contains(p)).collect();
+            while pairs.len() < wanted {
+                let i = r.below(all.len() as u32) as usize;
+                pairs.insert(all.swap_remove(i));
+            }
+        } else {
+            let (t, h) = (r.below(n), r.below(n));
+            if t != h {
+                pairs.insert((t, h));
+            }
+        }
+    }
+    pairs.into_iter().map(|(tail, head)| Edge { tail, head, weight: weigh(r) }).collect()
+}
+
+/// Words to a list's end: past what a call may look at.
+fn lengthen(r: &mut Random, list: &mut Vec<u32>, least: usize) {
+    let len = least + if r.one_in(3) { r.below(5) as usize } else { 0 };
+    let plain = r.one_in(2);
+    while list.len() < len {
+        list.push(if plain { 0 } else { odd_word(r) });
+    }
+}
+
+/// A sound network that is not opened yet: its rows hold anything.
+pub fn network(r: &mut Random) -> Network {
+    let n = vertices(r);
+    let edges = edges(r, n);
+    let mut w = Network { n, count: edges.len() as u32, ..Network::default() };
+    let most = n.min(4);
+    let wanted = if n > 60 && r.one_in(2) { 1 } else { 1 + r.below(most) } as usize;
+    while w.landmarks.len() < wanted {
+        let v = r.below(n);
+        if !w.landmarks.contains(&v) {
+            w.landmarks.push(v);
+        }
+    }
+    for e in &edges {
+        w.tails.push(e.tail);
+        w.heads.push(e.head);
+        w.weights.push(e.weight);
+    }
+    lengthen(r, &mut w.tails, MOST_EDGES);
+    lengthen(r, &mut w.heads, MOST_EDGES);
+    lengthen(r, &mut w.weights, MOST_EDGES);
+    let rows = wanted * 5 * n as usize;
+    lengthen(r, &mut w.forward, rows);
+    lengthen(r, &mut w.backward, rows);
+    w
+}
+
+/// A network whose standing words are anything.
+pub fn arbitrary_rows(r: &mut Random, w: &mut Network) {
+    for list in [&mut w.forward, &mut w.backward] {
+        for x in list {
+            *x = odd_word(r);
+        }
+    }
+}
+
+// ---- batches
+
+/// A change that is good where the edges are as given.
+fn good_change(r: &mut Random, n: u32, edges: &[Edge]) -> Option<Change> {
+    let add = edges.is_empty() || (edges.len() < MOST_EDGES && r.one_in(2));
+    if !add {
+        let e = r.pick(edges);
+        return Some([2, e.tail, e.head, 0]);
+    }
+    for _ in 0..20 {
+        let (t, h) = (r.below(n), r.below(n));
+        if t != h && edges.binary_search_by_key(&(t, h), |e| (e.tail, e.head)).is_err() {
+            let w = match r.below(3) {
+                0 => r.pick(&[1, 4, 65_535]),
+                1 => 1 + r.below(20),
+                _ => 1 + r.below(65_535),
+            };
+            return Some([1, t, h, w]);
+        }
+    }
+    None
+}
+
+fn bad_change(r: &mut Random, n: u32, edges: &[Edge]) -> Change {
+    if edges.len() >= MOST_EDGES && r.one_in(2) {
+        // an insert into a full table: of a pair that is there, or that is not
+        let e = r.pick(edges);
+        if r.one_in(3) {
+            return [1, e.tail, e.head, 1];
+        }
+        let absent = |&(t, h): &(u32, u32)| t != h && edges.binary_search_by_key(&(t, h), |e| (e.tail, e.head)).is_err();
+        let (t, h) = (0..2_000).map(|_| (r.below(n), r.below(n))).find(absent).unwrap_or((0, 1));
+        return [1, t, h, 1];
+    }
+    let mut c = match good_change(r, n, edges) {
+        Some(c) if r.one_in(2) => c,
+        _ => [1 + r.below(2), r.below(n), r.below(n), r.below(4)],
+    };
+    for _ in 0..1 + r.below(2) {
+        let i = r.below(4) as usize;
+        c[i] = match i {
+            0 => r.pick(&[0, 1, 2, 3, M]),
+            1 | 2 => r.pick(&[n, n.wrapping_sub(1), 0, n + 1, M]),
+            _ => r.pick(&[0, 1, 65_535, 65_536, M]),
+        };
+    }
+    c
+}
+
+fn patch(edges: &mut Vec<Edge>, c: Change) {
+    let at = edges.binary_search_by_key(&(c[1], c[2]), |e| (e.tail, e.head));
+    match (c[0], at) {
+        (1, Err(i)) => edges.insert(i, Edge { tail: c[1], head: c[2], weight: c[3] }),
+        (2, Ok(i)) => {
+            edges.remove(i);
+        }
+        _ => {}
+    }
+}
+
+/// Changes in order, each good against what the earlier ones leave; one bad one among them at times.
+pub fn changes(r: &mut Random, w: &Network, bad: bool) -> Vec<Change> {
+    let mut edges = w.edges();
+    let wanted = match r.below(400) {
+        0 => r.pick(&[1_023, 1_024, 1_025]),
+        1..=40 => 0,
+        41..=180 => 1,
+        181..=360 => 2 + r.below(6),
+        _ => r.below(40),
+    };
+    let spoiled = if bad { r.below(wanted + 1) } else { M };
+    let mut list = Vec::new();
+    for i in 0..=wanted {
+        if i == spoiled {
+            list.push(bad_change(r, w.n, &edges));
+            continue;
+        }
+        if i == wanted {
+            break;
+        }
+        // the edge that has just gone comes back, as it was or with another weight
+        let last = list.last().copied();
+        let c = match last {
+            Some([2, t, h, _]) if r.one_in(3) => [1, t, h, r.pick(&[1, 4, 65_535])],
+            _ => match good_change(r, w.n, &edges) {
+                Some(c) => c,
+                None => break,
+            },
+        };
+        let known = edges.len();
+        patch(&mut edges, c);
+        if edges.len() == known {
+            break;
+        }
+        list.push(c);
+    }
+    list
+}
+
+pub fn schedule(r: &mut Random, n: u32) -> Vec<u32> {
+    let len = match r.below(300) {
+        0 => r.pick(&[4_095, 4_096, 4_097]),
+        1..=150 => 0,
+        151..=250 => 1 + r.below(6),
+        _ => r.below(40),
+    };
+    (0..len).map(|_| r.below(n)).collect()
+}
+
+// ---- text
+
+fn number(r: &mut Random, good: u64) -> String {
+    match r.below(12) {
+        0 => r
+            .pick(&[
+                "0", "00", "07", "+5", "-1", "", "1", "2", "255", "256", "257", "2047", "2048", "2049", "65535", "65536", "4294967295", "4294967296",
+                "4294967297", "18446744073709551615", "18446744073709551616", "18446744073709551617", "100000000000000000000000000000", "1 ", "x",
+            ])
+            .into(),
+        _ => good.to_string(),
+    }
+}
+
+fn shuffle<T>(r: &mut Random, list: &mut [T]) {
+    for i in (1..list.len()).rev() {
+        list.swap(i, r.below(i as u32 + 1) as usize);
+    }
+}
+
+fn comment(r: &mut Random) -> Vec<u8> {
+    let mut line: Vec<u8> = r.pick(&[&b"c"[..], b"c ", b"c a comment", b"c p sp 1 0", b"c a 1 2 3", b"c  c", b"c \t\r"]).to_vec();
+    if r.one_in(4) {
+        line = vec![b'c', b' '];
+        for _ in 0..r.below(6) {
+            line.push(r.pick(&[0, 9, 13, 32, 127, 128, 200, 255]));
+        }
+    }
+    line
+}
+
+/// Lines of a text: damaged at times, one of them or the bytes.
+fn spoil(r: &mut Random, mut lines: Vec<Vec<u8>>, bad: bool) -> Vec<u8> {
+    for _ in 0..r.pick(&[0, 0, 0, 1, 2, 5]) {
+        let i = r.below(lines.len() as u32 + 1) as usize;
+        lines.insert(i, comment(r));
+    }
+    let damage = if bad { r.below(12) } else { M };
+    let some = |r: &mut Random, lines: &[Vec<u8>]| r.below(lines.len() as u32) as usize;
+    if !lines.is_empty() {
+        match damage {
+            0 => {
+                let i = some(r, &lines);
+                lines.remove(i);
+            }
+            1 => {
+                let i = some(r, &lines);
+                lines.insert(i, lines[i].clone());
+            }
+            2 => {
+                let (i, j) = (some(r, &lines), some(r, &lines));
+                lines.swap(i, j);
+            }
+            3 => {
+                let i = some(r, &lines);
+                let extra = r.pick(&[&b""[..], b"cc", b"c\t", b"p sp 3 2", b"a 1 2 3", b"s 1", b"p aux sp ss 1", b"a 1 2", b"a 1 2 3 4", b"b", b" ", b"A 1 2 3", b"p max 3 2"]);
+                lines.insert(i, extra.to_vec());
+            }
+            4..=6 => {
+                // another number in a line
+                let i = some(r, &lines);
+                let mut parts: Vec<Vec<u8>> = lines[i].split(|&b| b == b' ').map(|p| p.to_vec()).collect();
+                let j = r.below(parts.len() as u32) as usize;
+                let known = std::str::from_utf8(&parts[j]).ok().and_then(|t| t.parse().ok()).unwrap_or(1u64);
+                parts[j] = match r.below(3) {
+                    0 => number(r, known + 1).into_bytes(),
+                    1 => number(r, known.saturating_sub(1)).into_bytes(),
+                    _ => loop {
+                        let t = number(r, known);
+                        if t != known.to_string() {
+                            break t.into_bytes();
+                        }
+                    },
+                };
+                lines[i] = parts.join(&b' ');
+            }
+            7 => {
+                let i = some(r, &lines);
+                let at = r.below(lines[i].len() as u32 + 1) as usize;
+                lines[i].insert(at, r.pick(&[b' ', b'\r', b'\t', b'0', 0, 255, b'a']));
+            }
+            8 => {
+                let i = some(r, &lines);
+                lines[i].push(r.pick(&[b' ', b'\r']));
+            }
+            _ => {}
+        }
+    }
+    let mut text = Vec::new();
+    for line in &lines {
+        text.extend_from_slice(line);
+        text.push(b'\n');
+    }
+    match damage {
+        9 => {
+            text.pop();
+        }
+        10 => text.truncate(r.below(text.len() as u32 + 1) as usize),
+        11 => text.extend_from_slice(r.pick(&[&b"c"[..], b"a 1 2 3", b"x", b"\n", b"c \n"])),
+        _ => {}
+    }
+    text
+}
+
+pub fn network_text(r: &mut Random, w: &Network, bad: bool) -> Vec<u8> {
+    let mut edges = w.edges();
+    shuffle(r, &mut edges);
+    let text = print_network(w.n, &edges);
+    let lines = text.split(|&b| b == b'\n').filter(|l| !l.is_empty()).map(|l| l.to_vec()).collect();
+    spoil(r, lines, bad)
+}
+
+pub fn source_text(r: &mut Random, n: u32, bad: bool) -> Vec<u8> {
+    let count = match r.below(40) {
+        0 => r.pick(&[255, 256, 257]),
+        1..=8 => 0,
+        _ => r.below(6),
+    };
+    let mut lines = vec![format!("p aux sp ss {count}").into_bytes()];
+    for _ in 0..count {
+        lines.push(format!("s {}", 1 + r.below(n)).into_bytes());
+    }
+    spoil(r, lines, bad)
+}
+
+// ---- calls
+
+fn out_list(r: &mut Random, least: usize) -> Vec<u32> {
+    let len = least + r.pick(&[0, 0, 1, 3]);
+    let word = odd_word(r);
+    (0..len).map(|i| word.wrapping_add(i as u32)).collect()
+}
+
+/// A call on a network, good as far as the network is.
+pub fn case(r: &mut Random, call: Call, w: &Network, bad: bool) -> Case {
+    let mut c = Case::new(call, w.clone());
+    c.reply = (0..8 + r.pick(&[0, 0, 0, 1, 4])).map(|i| 1_000 + i).collect();
+    c.property = 1 + r.below(5);
+    let n = w.n.max(1);
+    match call {
+        Call::Query => {
+            c.source = r.below(n);
+            c.schedule = schedule(r, n);
+            // schedules lean to what waits: the source and its heads
+            if !c.schedule.is_empty() && r.one_in(2) {
+                c.schedule[0] = c.source;
+            }
+            c.starts = out_list(r, n as usize);
+            c.settled = out_list(r, n as usize);
+        }
+        Call::Batch => c.changes = changes(r, w, bad),
+        Call::Choose => c.k = 1 + r.below(4),
+        Call::Row => {
+            c.side = r.below(2);
+            c.landmark = r.pick(&w.landmarks);
+        }
+        Call::Read => c.text = network_text(r, w, bad),
+        Call::Write => {
+            let len = print_network(w.n, &w.edges()).len();
+            c.text = vec![b'!'; len + r.pick(&[0, 0, 1, 7])];
+            if bad {
+                c.text.truncate(r.pick(&[len.saturating_sub(1), 0, len / 2]));
+            }
+        }
+        Call::ReadSources => {
+            c.text = source_text(r, n, bad);
+            c.sources = out_list(r, 256);
+        }
+        Call::Open | Call::Settled => {}
+    }
+    c
+}
+
+fn shorten(r: &mut Random, list: &mut Vec<u32>, least: usize) {
+    let len = r.pick(&[least.saturating_sub(1), 0, least / 2, least.saturating_sub(5)]);
+    list.truncate(len);
+}
+
+fn spoil_record(r: &mut Random, w: &mut Network) {
+    let count = (w.count as usize).min(w.tails.len()).min(w.heads.len()).min(w.weights.len());
+    if count == 0 {
+        return;
+    }
+    let i = r.below(count as u32) as usize;
+    match r.below(8) {
+        0 => w.weights[i] = r.pick(&[0, 65_536, M]),
+        1 => w.tails[i] = r.pick(&[w.n, M, 0]),
+        2 => w.heads[i] = r.pick(&[w.n, M, 0]),
+        3 => w.heads[i] = w.tails[i],
+        4 | 5 if i > 0 => {
+            w.tails.swap(i, i - 1);
+            w.heads.swap(i, i - 1);
+        }
+        6 if i > 0 => {
+            w.tails[i] = w.tails[i - 1];
+            w.heads[i] = w.heads[i - 1];
+        }
+        _ => w.tails.swap(0, i),
+    }
+}
+
+/// One or more things wrong with what a call takes, or only odd.
+pub fn damage(r: &mut Random, c: &mut Case) {
+    for _ in 0..r.pick(&[1, 1, 1, 2, 3]) {
+        let (n, k) = (c.network.n, c.network.landmarks.len());
+        let rows = (k * 5).saturating_mul(n as usize).min(6_000);
+        match r.below(17) {
+            0 => c.network.n = r.pick(&[0, 257, M, n.wrapping_add(1), n.wrapping_sub(1), 256, 1]),
+            1 => {
+                let list = match r.below(3) {
+                    0 => &mut c.network.tails,
+                    1 => &mut c.network.heads,
+                    _ => &mut c.network.weights,
+                };
+                shorten(r, list, MOST_EDGES);
+            }
+            2 => shorten(r, &mut c.network.forward, rows),
+            3 => shorten(r, &mut c.network.backward, rows),
+            4 => match r.below(6) {
+                0 => c.network.landmarks.clear(),
+                1 if k > 0 => c.network.landmarks.push(c.network.landmarks[0]),
+                2 => c.network.landmarks.push(r.pick(&[0, n, M, 1])),
+                3 => c.network.landmarks = vec![0, 1, 2, 3, 4],
+                4 if k > 0 => c.network.landmarks[k - 1] = r.pick(&[n, M, n.wrapping_add(1)]),
+                _ => {
+                    // one more, with rows for it
+                    c.network.landmarks.push(r.below(n.max(1)));
+                    let len = (rows + 5 * n as usize).min(8_000);
+                    c.network.forward.resize(len, 3);
+                    c.network.backward.resize(len, 3);
+                }
+            },
+            5 => c.network.count = r.pick(&[2_049, M, c.network.count.wrapping_add(1), c.network.count.wrapping_sub(1), 65_536, 2_048]),
+            6 | 7 => spoil_record(r, &mut c.network),
+            8 => c.property = r.pick(&[0, 6, M, 5, 1]),
+            9 => c.source = r.pick(&[n, M, n.wrapping_sub(1), 0]),
+            10 => {
+                if !c.schedule.is_empty() {
+                    let i = r.below(c.schedule.len() as u32) as usize;
+                    c.schedule[i] = r.pick(&[n, M, n.wrapping_add(1)]);
+                } else {
+                    c.schedule = vec![0; r.pick(&[1, 4_096, 4_097])];
+                }
+            }
+            11 => {
+                let least = n.min(300) as usize;
+                if r.one_in(2) {
+                    shorten(r, &mut c.starts, least);
+                } else {
+                    shorten(r, &mut c.settled, least);
+                }
+            }
+            12 => c.changes = vec![[r.pick(&[1, 2]), 0, 1, 0]; r.pick(&[1_024, 1_025, 1_100])],
+            13 => c.reply.truncate(r.below(8) as usize),
+            14 => c.k = r.pick(&[0, 5, M, 4]),
+            15 => {
+                if r.one_in(2) {
+                    c.side = r.pick(&[2, M, 1]);
+                } else {
+                    c.landmark = r.pick(&[n, M, 0, n.wrapping_sub(1)]);
+                }
+            }
+            _ => shorten(r, &mut c.sources, 256),
+        }
+    }
+}

@@ -1,0 +1,743 @@
+//! An independent implementation of document 01, written from the document alone and for plainness: no bit words, no index beyond a
+//! list of edges for each vertex, no scratch that is shared. Each call takes what the call takes and answers number and place, or
+//! the words of its reply; what it lends is changed only where it accepts.
+
+pub const M: u32 = 4_294_967_295;
+pub const MOST_VERTICES: u32 = 256;
+pub const MOST_EDGES: usize = 2_048;
+pub const MOST_LANDMARKS: usize = 4;
+pub const MOST_CHANGES: usize = 1_024;
+pub const LONGEST_SCHEDULE: usize = 4_096;
+pub const PROPERTIES: usize = 5;
+
+/// A refusal: its number and its place.
+#[derive(Clone, Copy, Debug, PartialEq, Eq)]
+pub struct Refusal {
+    pub number: u32,
+    pub place: u64,
+}
+
+pub type Answer<T> = Result<T, Refusal>;
+
+pub fn refuse<T>(number: u32, place: usize) -> Answer<T> {
+    Err(Refusal { number, place: place as u64 })
+}
+
+#[derive(Clone, Copy, Debug, PartialEq, Eq)]
+pub struct Edge {
+    pub tail: u32,
+    pub head: u32,
+    pub weight: u32,
+}
+
+impl Edge {
+    fn reversed(self) -> Edge {
+        Edge { tail: self.head, head: self.tail, weight: self.weight }
+    }
+}
+
+// ---- the five properties
+
+pub fn source_value(p: u32) -> u32 {
+    match p {
+        1 | 2 | 4 => 0,
+        3 => M,
+        _ => 1,
+    }
+}
+
+pub fn no_route(p: u32) -> u32 {
+    match p {
+        1 | 2 | 4 => M,
+        _ => 0,
+    }
+}
+
+/// A sum above 4,294,967,294 is M.
+fn sum(a: u32, b: u32) -> u32 {
+    let s = u64::from(a) + u64::from(b);
+    if s > 4_294_967_294 {
+        M
+    } else {
+        s as u32
+    }
+}
+
+pub fn along(p: u32, value: u32, weight: u32) -> u32 {
+    match p {
+        1 => sum(value, weight),
+        2 => sum(value, 1),
+        3 => value.min(weight),
+        4 => value.max(weight),
+        _ => value,
+    }
+}
+
+pub fn better(p: u32, a: u32, b: u32) -> bool {
+    match p {
+        1 | 2 | 4 => a < b,
+        _ => a > b,
+    }
+}
+
+fn join(p: u32, a: u32, b: u32) -> u32 {
+    match p {
+        1 | 2 => sum(a, b),
+        4 => a.max(b),
+        _ => a.min(b),
+    }
+}
+
+// ---- what is lent
+
+/// A network as a caller lends it: real lengths, and words that may be anything.
+#[derive(Clone, Debug, Default, PartialEq, Eq)]
+pub struct Network {
+    pub n: u32,
+    pub landmarks: Vec<u32>,
+    pub tails: Vec<u32>,
+    pub heads: Vec<u32>,
+    pub weights: Vec<u32>,
+    pub count: u32,
+    pub forward: Vec<u32>,
+    pub backward: Vec<u32>,
+}
+
+impl Network {
+    /// The records below the count.
+    pub fn edges(&self) -> Vec<Edge> {
+        (0..self.count as usize).map(|i| Edge { tail: self.tails[i], head: self.heads[i], weight: self.weights[i] }).collect()
+    }
+
+    fn bad_size(&self) -> bool {
+        self.n == 0 || self.n > MOST_VERTICES
+    }
+
+    fn short_table(&self) -> bool {
+        [&self.tails, &self.heads, &self.weights].iter().any(|l| l.len() < MOST_EDGES)
+    }
+
+    fn short_rows(&self) -> bool {
+        let words = self.landmarks.len() as u128 * PROPERTIES as u128 * u128::from(self.n);
+        (self.forward.len() as u128) < words || (self.backward.len() as u128) < words
+    }
+
+    fn bad_landmarks(&self) -> bool {
+        let l = &self.landmarks;
+        l.is_empty() || l.len() > MOST_LANDMARKS || l.iter().any(|&v| v >= self.n) || (0..l.len()).any(|i| l[..i].contains(&l[i]))
+    }
+
+    /// The place of the first record that breaks the table's rules; 0 for the count.
+    fn bad_table(&self) -> Option<usize> {
+        if self.count as usize > MOST_EDGES {
+            return Some(0);
+        }
+        let edges = self.edges();
+        (0..edges.len()).find(|&i| {
+            let e = edges[i];
+            let placed = e.tail < self.n && e.head < self.n && e.tail != e.head;
+            let weighed = (1..=65_535).contains(&e.weight);
+            let ascends = i == 0 || (edges[i - 1].tail, edges[i - 1].head) < (e.tail, e.head);
+            !(placed && weighed && ascends)
+        })
+    }
+
+    /// Numbers 1 to 4 of a call on a network; `size` and `short` are what else the call has for 1 and 2.
+    fn judge(&self, size: bool, short: bool) -> Answer<()> {
+        if self.bad_size() || size {
+            return refuse(1, 0);
+        }
+        if self.short_table() || self.short_rows() || short {
+            return refuse(2, 0);
+        }
+        if self.bad_landmarks() {
+            return refuse(3, 0);
+        }
+        match self.bad_table() {
+            Some(place) => refuse(4, place),
+            None => Ok(()),
+        }
+    }
+
+    /// Where the row of a landmark (an index of the list) for a property starts in a row list.
+    fn row_start(&self, landmark: usize, p: u32) -> usize {
+        (landmark * PROPERTIES + p as usize - 1) * self.n as usize
+    }
+}
+
+// ---- runs
+
+#[derive(Clone, Copy, Debug, Default, PartialEq, Eq)]
+pub struct Tally {
+    pub taken: u64,
+    pub rounds: u64,
+    pub stores: u64,
+}
+
+struct Run<'a> {
+    p: u32,
+    /// the edges that leave each vertex, in table order
+    leaving: &'a [Vec<Edge>],
+    words: Vec<u32>,
+    waiting: Vec<bool>,
+    tally: Tally,
+}
+
+fn leaving(n: u32, edges: &[Edge]) -> Vec<Vec<Edge>> {
+    let mut lists = vec![Vec::new(); n as usize];
+    for &e in edges {
+        lists[e.tail as usize].push(e);
+    }
+    lists
+}
+
+impl<'a> Run<'a> {
+    fn new(p: u32, leaving: &'a [Vec<Edge>], words: Vec<u32>) -> Run<'a> {
+        let waiting = vec![false; words.len()];
+        Run { p, leaving, words, waiting, tally: Tally::default() }
+    }
+
+    fn handle(&mut self, v: usize) {
+        self.waiting[v] = false;
+        for e in &self.leaving[v] {
+            let value = along(self.p, self.words[v], e.weight);
+            let h = e.head as usize;
+            if better(self.p, value, self.words[h]) {
+                self.words[h] = value;
+                self.waiting[h] = true;
+                self.tally.stores += 1;
+            }
+        }
+    }
+
+    fn any_waits(&self) -> bool {
+        self.waiting.iter().any(|&w| w)
+    }
+
+    fn follow(&mut self, schedule: &[u32]) {
+        for &v in schedule {
+            if self.waiting[v as usize] {
+                self.tally.taken += 1;
+                self.handle(v as usize);
+            }
+        }
+    }
+
+    /// Rounds while any vertex waits. Number 13 where one still waits after n rounds.
+    fn settle(&mut self) -> Answer<()> {
+        let n = self.words.len();
+        for _ in 0..n {
+            if !self.any_waits() {
+                return Ok(());
+            }
+            self.tally.rounds += 1;
+            for v in 0..n {
+                if self.waiting[v] {
+                    self.handle(v);
+                }
+            }
+        }
+        if self.any_waits() {
+            refuse(13, 0)
+        } else {
+            Ok(())
+        }
+    }
+}
+
+fn reversed(edges: &[Edge]) -> Vec<Edge> {
+    edges.iter().map(|e| e.reversed()).collect()
+}
+
+// ---- opening
+
+fn open_rows(w: &Network, edges: &[Edge]) -> Answer<Vec<u32>> {
+    let lists = leaving(w.n, edges);
+    let mut rows = Vec::new();
+    for &l in &w.landmarks {
+        for p in 1..=5 {
+            let mut run = Run::new(p, &lists, vec![no_route(p); w.n as usize]);
+            run.words[l as usize] = source_value(p);
+            run.waiting[l as usize] = true;
+            run.settle()?;
+            rows.extend(run.words);
+        }
+    }
+    Ok(rows)
+}
+
+pub fn open(w: &mut Network) -> Answer<Vec<u64>> {
+    w.judge(false, false)?;
+    let edges = w.edges();
+    let forward = open_rows(w, &edges)?;
+    let backward = open_rows(w, &reversed(&edges))?;
+    w.forward[..forward.len()].copy_from_slice(&forward);
+    w.backward[..backward.len()].copy_from_slice(&backward);
+    Ok(vec![])
+}
+
+// ---- query
+
+pub fn query(w: &Network, p: u32, source: u32, schedule: &[u32], starts: &mut [u32], settled: &mut [u32]) -> Answer<Vec<u64>> {
+    let n = w.n as usize;
+    w.judge(schedule.len() > LONGEST_SCHEDULE, starts.len() < n || settled.len() < n)?;
+    if !(1..=5).contains(&p) {
+        return refuse(5, 0);
+    }
+    if source >= w.n {
+        return refuse(6, 0);
+    }
+    if let Some(i) = schedule.iter().position(|&v| v >= w.n) {
+        return refuse(6, i);
+    }
+    let bound = |t: usize| {
+        let mut best: Option<u32> = None;
+        for l in 0..w.landmarks.len() {
+            let row = w.row_start(l, p);
+            let v = join(p, w.backward[row + source as usize], w.forward[row + t]);
+            if best.is_none_or(|b| better(p, v, b)) {
+                best = Some(v);
+            }
+        }
+        best.unwrap()
+    };
+    let mut words: Vec<u32> = (0..n).map(bound).collect();
+    words[source as usize] = source_value(p);
+    let start = words.clone();
+    let lists = leaving(w.n, &w.edges());
+    let mut run = Run::new(p, &lists, words);
+    run.waiting[source as usize] = true;
+    run.follow(schedule);
+    run.settle()?;
+    starts[..n].copy_from_slice(&start);
+    settled[..n].copy_from_slice(&run.words);
+    Ok(vec![run.tally.taken, run.tally.rounds, run.tally.stores])
+}
+
+// ---- batch
+
+/// Kind, tail, head, weight.
+pub type Change = [u32; 4];
+
+/// One change against the edges as earlier ones left them: its lowest number from 6 to 12, or the edges after it.
+pub fn apply(n: u32, edges: &mut Vec<Edge>, c: Change, place: usize) -> Answer<()> {
+    let [kind, tail, head, weight] = c;
+    let at = edges.iter().position(|e| (e.tail, e.head) == (tail, head));
+    if tail >= n || head >= n {
+        return refuse(6, place);
+    }
+    if kind != 1 && kind != 2 {
+        return refuse(7, place);
+    }
+    if tail == head {
+        return refuse(8, place);
+    }
+    if if kind == 1 { weight < 1 || weight > 65_535 } else { weight != 0 } {
+        return refuse(9, place);
+    }
+    match (kind, at) {
+        (1, Some(_)) => refuse(10, place),
+        (1, None) => {
+            if edges.len() >= MOST_EDGES {
+                return refuse(12, place);
+            }
+            let i = edges.iter().take_while(|e| (e.tail, e.head) < (tail, head)).count();
+            edges.insert(i, Edge { tail, head, weight });
+            Ok(())
+        }
+        (_, None) => refuse(11, place),
+        (_, Some(i)) => {
+            edges.remove(i);
+            Ok(())
+        }
+    }
+}
+
+struct Side {
+    rows: Vec<u32>,
+    affected: u64,
+    stores: u64,
+}
+
+/// The edges of a batch: the old ones that go, the old ones that stay, those that come, and all new ones. Each by its three words.
+struct Net {
+    removed: Vec<Edge>,
+    kept: Vec<Edge>,
+    added: Vec<Edge>,
+    new: Vec<Edge>,
+}
+
+impl Net {
+    fn of(old: &[Edge], new: &[Edge]) -> Net {
+        // both ascend, so a record is found by its pair
+        let has = |list: &[Edge], e: &Edge| list.binary_search_by_key(&(e.tail, e.head), |f| (f.tail, f.head)).is_ok_and(|i| list[i] == *e);
+        let (kept, removed) = old.iter().partition(|e| has(new, e));
+        Net { removed, kept, added: new.iter().filter(|e| !has(old, e)).copied().collect(), new: new.to_vec() }
+    }
+
+    fn reversed(&self) -> Net {
+        Net { removed: reversed(&self.removed), kept: reversed(&self.kept), added: reversed(&self.added), new: reversed(&self.new) }
+    }
+}
+
+/// What a batch does to one row list.
+fn batch_rows(w: &Network, net: &Net, list: &[u32]) -> Answer<Side> {
+    let n = w.n as usize;
+    let kept_from = leaving(w.n, &net.kept);
+    let new_from = leaving(w.n, &net.new);
+    let mut side = Side { rows: Vec::new(), affected: 0, stores: 0 };
+    for (i, &l) in w.landmarks.iter().enumerate() {
+        for p in 1..=5 {
+            let start = w.row_start(i, p);
+            let words = list[start..start + n].to_vec();
+            // the head of a tight edge, where it can be affected
+            let tight = |e: &Edge| e.head != l && words[e.head as usize] != no_route(p) && along(p, words[e.tail as usize], e.weight) == words[e.head as usize];
+            let mut affected = vec![false; n];
+            let mut to_follow: Vec<u32> = net.removed.iter().filter(|&e| tight(e)).map(|e| e.head).collect();
+            while let Some(v) = to_follow.pop() {
+                if !affected[v as usize] {
+                    affected[v as usize] = true;
+                    to_follow.extend(kept_from[v as usize].iter().filter(|&e| tight(e)).map(|e| e.head));
+                }
+            }
+            let mut run = Run::new(p, &new_from, words.clone());
+            for v in 0..n {
+                if affected[v] {
+                    run.words[v] = no_route(p);
+                    side.affected += 1;
+                }
+            }
+            for e in net.new.iter().filter(|e| affected[e.head as usize]).chain(&net.added) {
+                run.waiting[e.tail as usize] = true;
+            }
+            run.settle()?;
+            side.stores += run.tally.stores;
+            side.rows.extend(run.words);
+        }
+    }
+    Ok(side)
+}
+
+pub fn batch(w: &mut Network, changes: &[Change]) -> Answer<Vec<u64>> {
+    w.judge(changes.len() > MOST_CHANGES, false)?;
+    let old = w.edges();
+    let mut new = old.clone();
+    for (i, &c) in changes.iter().enumerate() {
+        apply(w.n, &mut new, c, i)?;
+    }
+    let net = Net::of(&old, &new);
+    let ahead = batch_rows(w, &net, &w.forward)?;
+    let back = batch_rows(w, &net.reversed(), &w.backward)?;
+    w.forward[..ahead.rows.len()].copy_from_slice(&ahead.rows);
+    w.backward[..back.rows.len()].copy_from_slice(&back.rows);
+    for i in 0..MOST_EDGES {
+        let e = new.get(i).copied().unwrap_or(Edge { tail: 0, head: 0, weight: 0 });
+        w.tails[i] = e.tail;
+        w.heads[i] = e.head;
+        w.weights[i] = e.weight;
+    }
+    Ok(vec![new.len() as u64, ahead.affected + back.affected, ahead.stores + back.stores])
+}
+
+// ---- calls that write nothing
+
+pub fn settled(w: &Network) -> Answer<Vec<u64>> {
+    w.judge(false, false)?;
+    let edges = w.edges();
+    let n = w.n as usize;
+    for (side, list, edges) in [(0, &w.forward, edges.clone()), (1, &w.backward, reversed(&edges))] {
+        for row in 0..w.landmarks.len() * PROPERTIES {
+            let p = (row % PROPERTIES) as u32 + 1;
+            let words = &list[row * n..row * n + n];
+            for (record, e) in edges.iter().enumerate() {
+                if better(p, along(p, words[e.tail as usize], e.weight), words[e.head as usize]) {
+                    return Ok(vec![0, side, row as u64, record as u64]);
+                }
+            }
+        }
+    }
+    Ok(vec![1])
+}
+
+/// Only n, the table and the count of `w` are taken.
+pub fn choose(w: &Network, k: u32) -> Answer<Vec<u64>> {
+    if w.bad_size() {
+        return refuse(1, 0);
+    }
+    if w.short_table() {
+        return refuse(2, 0);
+    }
+    if !(1..=4).contains(&k) {
+        return refuse(3, 0);
+    }
+    if let Some(place) = w.bad_table() {
+        return refuse(4, place);
+    }
+    let edges = w.edges();
+    let degree = |v: u32| edges.iter().filter(|e| e.tail == v || e.head == v).count();
+    let mut vertices: Vec<(std::cmp::Reverse<usize>, u32)> = (0..w.n).map(|v| (std::cmp::Reverse(degree(v)), v)).collect();
+    vertices.sort();
+    vertices.truncate(k as usize);
+    let mut reply = vec![vertices.len() as u64, 0, 0, 0, 0];
+    for (i, (_, v)) in vertices.iter().enumerate() {
+        reply[i + 1] = u64::from(*v);
+    }
+    Ok(reply)
+}
+
+/// Only n, the landmarks and the rows of `w` are taken.
+pub fn row(w: &Network, side: u32, landmark: u32, p: u32) -> Answer<Vec<u64>> {
+    if w.bad_size() {
+        return refuse(1, 0);
+    }
+    if w.short_rows() {
+        return refuse(2, 0);
+    }
+    let at = w.landmarks.iter().position(|&l| l == landmark);
+    if w.bad_landmarks() || at.is_none() {
+        return refuse(3, 0);
+    }
+    if !(1..=5).contains(&p) || side > 1 {
+        return refuse(5, 0);
+    }
+    Ok(vec![w.row_start(at.unwrap(), p) as u64])
+}
+
+// ---- text
+
+/// A number as document 01 writes them, of any length; those above every limit are told apart from none that fits.
+fn number(field: &[u8]) -> Option<u64> {
+    if field.is_empty() || !field.iter().all(u8::is_ascii_digit) || (field.len() > 1 && field[0] == b'0') {
+        return None;
+    }
+    if field.len() > 12 {
+        return Some(u64::MAX);
+    }
+    std::str::from_utf8(field).unwrap().parse().ok()
+}
+
+fn is_comment(line: &[u8]) -> bool {
+    line == b"c" || line.starts_with(b"c ")
+}
+
+/// The complete lines of a text, and whether bytes follow the last of them.
+fn lines(text: &[u8]) -> (Vec<&[u8]>, bool) {
+    let mut parts: Vec<&[u8]> = text.split(|&b| b == b'\n').collect();
+    let rest = parts.pop().unwrap();
+    (parts, !rest.is_empty())
+}
+
+/// The numbers of a line that has these words and then as many numbers.
+fn fields<const K: usize>(line: &[u8], words: &[&[u8]]) -> Option<[u64; K]> {
+    let parts: Vec<&[u8]> = line.split(|&b| b == b' ').collect();
+    if parts.len() != words.len() + K || parts[..words.len()] != *words {
+        return None;
+    }
+    let mut numbers = [0; K];
+    for (x, part) in numbers.iter_mut().zip(&parts[words.len()..]) {
+        *x = number(part)?;
+    }
+    Some(numbers)
+}
+
+/// A network text: vertices and edges ascending, or the place of number 14.
+pub fn parse_network(text: &[u8]) -> Result<(u32, Vec<Edge>), usize> {
+    let (complete, cut) = lines(text);
+    let mut header: Option<(u64, u64)> = None;
+    let mut edges: Vec<Edge> = Vec::new();
+    for (i, line) in complete.iter().enumerate() {
+        let good = if is_comment(line) {
+            true
+        } else if let Some([n, m]) = fields::<2>(line, &[b"p", b"sp"]) {
+            let fits = header.is_none() && (1..=256).contains(&n) && m <= 2_048 && m <= n * (n - 1);
+            header = Some((n, m));
+            fits
+        } else if let (Some([t, h, x]), Some((n, m))) = (fields::<3>(line, &[b"a"]), header) {
+            let fits = (edges.len() as u64) < m && (1..=n).contains(&t) && (1..=n).contains(&h) && t != h && (1..=65_535).contains(&x);
+            if fits {
+                let e = Edge { tail: t as u32 - 1, head: h as u32 - 1, weight: x as u32 };
+                let twice = edges.iter().any(|f| (f.tail, f.head) == (e.tail, e.head));
+                edges.push(e);
+                !twice
+            } else {
+                false
+            }
+        } else {
+            false
+        };
+        if !good {
+            return Err(i + 1);
+        }
+    }
+    match header {
+        Some((n, m)) if !cut && edges.len() as u64 == m => {
+            edges.sort_by_key(|e| (e.tail, e.head));
+            Ok((n as u32, edges))
+        }
+        _ => Err(complete.len() + 1),
+    }
+}
+
+pub fn read(text: &[u8], tails: &mut [u32], heads: &mut [u32], weights: &mut [u32]) -> Answer<Vec<u64>> {
+    if tails.len() < MOST_EDGES || heads.len() < MOST_EDGES || weights.len() < MOST_EDGES {
+        return refuse(2, 0);
+    }
+    match parse_network(text) {
+        Err(place) => refuse(14, place),
+        Ok((n, edges)) => {
+            for (i, e) in edges.iter().enumerate() {
+                tails[i] = e.tail;
+                heads[i] = e.head;
+                weights[i] = e.weight;
+            }
+            Ok(vec![u64::from(n), edges.len() as u64])
+        }
+    }
+}
+
+pub fn print_network(n: u32, edges: &[Edge]) -> Vec<u8> {
+    let mut text = format!("p sp {} {}\n", n, edges.len());
+    for e in edges {
+        text += &format!("a {} {} {}\n", e.tail + 1, e.head + 1, e.weight);
+    }
+    text.into_bytes()
+}
+
+/// Only n, the table and the count of `w` are taken.
+pub fn write(w: &Network, text: &mut [u8]) -> Answer<Vec<u64>> {
+    if w.bad_size() {
+        return refuse(1, 0);
+    }
+    if w.short_table() {
+        return refuse(2, 0);
+    }
+    if let Some(place) = w.bad_table() {
+        return refuse(4, place);
+    }
+    let printed = print_network(w.n, &w.edges());
+    if text.len() < printed.len() {
+        return refuse(2, 0);
+    }
+    text[..printed.len()].copy_from_slice(&printed);
+    Ok(vec![printed.len() as u64])
+}
+
+/// A source file: vertices from 0, or the place of number 14.
+pub fn parse_sources(text: &[u8], n: u32) -> Result<Vec<u32>, usize> {
+    let (complete, cut) = lines(text);
+    let mut header: Option<u64> = None;
+    let mut sources = Vec::new();
+    for (i, line) in complete.iter().enumerate() {
+        let good = if is_comment(line) {
+            true
+        } else if let Some([m]) = fields::<1>(line, &[b"p", b"aux", b"sp", b"ss"]) {
+            let fits = header.is_none() && m <= 256;
+            header = Some(m);
+            fits
+        } else if let (Some([s]), Some(m)) = (fields::<1>(line, &[b"s"]), header) {
+            let fits = (sources.len() as u64) < m && s >= 1 && s <= u64::from(n);
+            sources.push((s as u32).wrapping_sub(1));
+            fits
+        } else {
+            false
+        };
+        if !good {
+            return Err(i + 1);
+        }
+    }
+    match header {
+        Some(m) if !cut && sources.len() as u64 == m => Ok(sources),
+        _ => Err(complete.len() + 1),
+    }
+}
+
+pub fn read_sources(text: &[u8], n: u32, sources: &mut [u32]) -> Answer<Vec<u64>> {
+    if n == 0 || n > MOST_VERTICES {
+        return refuse(1, 0);
+    }
+    if sources.len() < 256 {
+        return refuse(2, 0);
+    }
+    match parse_sources(text, n) {
+        Err(place) => refuse(14, place),
+        Ok(found) => {
+            sources[..found.len()].copy_from_slice(&found);
+            Ok(vec![found.len() as u64])
+        }
+    }
+}
+
+// ---- the values program
+
+/// What the values program prints for its two files; one that can't be opened counts as empty.
+pub fn values(deck: &[u8], sources: &[u8]) -> Vec<u8> {
+    match try_values(deck, sources) {
+        Ok(text) => text.into_bytes(),
+        Err(r) => format!("refused {} {}\n", r.number, r.place).into_bytes(),
+    }
+}
+
+fn try_values(deck: &[u8], sources: &[u8]) -> Answer<String> {
+    if deck.len() > 65_536 {
+        return refuse(2, 0);
+    }
+    let mut w = Network { tails: vec![0; 2_048], heads: vec![0; 2_048], weights: vec![0; 2_048], ..Network::default() };
+    let told = read(deck, &mut w.tails, &mut w.heads, &mut w.weights)?;
+    w.n = told[0] as u32;
+    w.count = told[1] as u32;
+    if sources.len() > 65_536 {
+        return refuse(2, 0);
+    }
+    let mut list = vec![0; 256];
+    let found = read_sources(sources, w.n, &mut list)?[0] as usize;
+    let chosen = choose(&w, 4)?;
+    w.landmarks = chosen[1..=chosen[0] as usize].iter().map(|&v| v as u32).collect();
+    w.forward = vec![0; w.landmarks.len() * PROPERTIES * w.n as usize];
+    w.backward = w.forward.clone();
+    open(&mut w)?;
+    let mut out = String::from("source station time handovers headroom worst reach\n");
+    for &s in &list[..found] {
+        let mut columns = Vec::new();
+        for p in 1..=5 {
+            let mut starts = vec![0; w.n as usize];
+            let mut words = vec![0; w.n as usize];
+            query(&w, p, s, &[], &mut starts, &mut words)?;
+            columns.push(words);
+        }
+        for t in 0..w.n as usize {
+            out += &format!("{} {}", s + 1, t + 1);
+            for column in &columns {
+                out += &format!(" {}", column[t]);
+            }
+            out.push('\n');
+        }
+    }
+    Ok(out)
+}
+
+// ---- best values, apart from any run
+
+/// The best values from a vertex: every edge is tried over and over, at most n times, until none betters a word.
+pub fn best_values(p: u32, n: u32, edges: &[Edge], source: u32) -> Vec<u32> {
+    let mut words = vec![no_route(p); n as usize];
+    words[source as usize] = source_value(p);
+    for _ in 0..n {
+        let before = words.clone();
+        for e in edges {
+            let v = along(p, words[e.tail as usize], e.weight);
+            if better(p, v, words[e.head as usize]) {
+                words[e.head as usize] = v;
+            }
+        }
+        if words == before {
+            break;
+        }
+    }
+    words
+}
+
+/// Both row lists as best values of the edges.
+pub fn best_rows(n: u32, landmarks: &[u32], edges: &[Edge]) -> (Vec<u32>, Vec<u32>) {
+    let side = |edges: &[Edge]| landmarks.iter().flat_map(|&l| (1..=5).flat_map(move |p| best_values(p, n, edges, l))).collect();
+    (side(edges), side(&reversed(edges)))
+}

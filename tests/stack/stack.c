@@ -1,0 +1,89 @@
+/* How many bytes of stack each call takes: it runs on a painted stack of its own, and the lowest byte that changed is looked up.
+ * 256 vertices, 2,048 edges, 4 landmarks, a schedule of 4,096, a batch of 1,024, 256 sources. Exit status 1 where a call is refused or
+ * takes more than 160 KiB, which the header promises. */
+#include "plate_track.h"
+
+#include <stdio.h>
+#include <string.h>
+#include <ucontext.h>
+
+enum { SIZE = 1 << 20, LIMIT = 160 * 1024, PAINT = 0xA5 };
+
+static unsigned char stack[SIZE] __attribute__((aligned(4096)));
+static ucontext_t here, there;
+static uint32_t tails[2048], heads[2048], weights[2048], landmarks[4] = {0, 77, 154, 255};
+static uint32_t forward[5120], backward[5120], starts[256], settled[256], schedule[4096], sources[256];
+static plate_track_change changes[1024];
+static uint8_t text[PLATE_TRACK_LONGEST_TEXT], source_text[4096];
+static size_t text_len, source_len;
+static uint64_t reply[8];
+static uint32_t number;
+
+#define TABLE tails, 2048, heads, 2048, weights, 2048
+#define ROWS forward, 5120, backward, 5120
+
+static void fill(void)
+{
+    uint32_t k = 0;
+    for (uint32_t v = 0; v < 256; v++) {
+        uint32_t d = v == 255 ? 8 : 1 + v % 15;
+        for (uint32_t j = 0; j < d; j++, k++) {
+            uint32_t h = (j * 255 + v * 7 % 255) / d;
+            tails[k] = v;
+            heads[k] = h < v ? h : h + 1;
+            weights[k] = 1 + (v * 7919 + j * 10473) % 65535;
+        }
+    }
+    for (uint32_t i = 0; i < 4096; i++) schedule[i] = i % 256;
+    /* 512 edges are taken and added again with another weight */
+    for (uint32_t i = 0; i < 512; i++) {
+        uint32_t e = i * 4;
+        changes[2 * i] = (plate_track_change){2, tails[e], heads[e], 0};
+        changes[2 * i + 1] = (plate_track_change){1, tails[e], heads[e], weights[e] % 65535 + 1};
+    }
+    source_len = (size_t)sprintf((char *)source_text, "p aux sp ss 256\n");
+    for (int v = 1; v <= 256; v++) source_len += (size_t)sprintf((char *)source_text + source_len, "s %d\n", v);
+}
+
+static void nothing(void) { number = 0; }
+static void open_(void) { number = plate_track_open(256, landmarks, 4, TABLE, 2048, ROWS, reply, 8); }
+static void query(void) { number = plate_track_query(256, landmarks, 4, TABLE, 2048, ROWS, 1, 100, schedule, 4096, starts, 256, settled, 256, reply, 8); }
+static void batch(void) { number = plate_track_batch(256, landmarks, 4, TABLE, 2048, ROWS, changes, 1024, reply, 8); }
+static void check(void) { number = plate_track_settled(256, landmarks, 4, TABLE, 2048, ROWS, reply, 8); }
+static void choose(void) { number = plate_track_choose(256, TABLE, 2048, 4, reply, 8); }
+static void row(void) { number = plate_track_row(256, landmarks, 4, ROWS, 1, 154, 3, reply, 8); }
+static void write_(void) { number = plate_track_write(256, TABLE, 2048, text, sizeof text, reply, 8); }
+static void read_(void) { number = plate_track_read(text, text_len, TABLE, reply, 8); }
+static void read_sources(void) { number = plate_track_read_sources(source_text, source_len, 256, sources, 256, reply, 8); }
+
+static size_t measure(void (*call)(void))
+{
+    memset(stack, PAINT, SIZE);
+    number = 99;
+    getcontext(&there);
+    there.uc_stack.ss_sp = stack;
+    there.uc_stack.ss_size = SIZE;
+    there.uc_link = &here;
+    makecontext(&there, call, 0);
+    swapcontext(&here, &there);
+    size_t low = 0;
+    while (low < SIZE && stack[low] == PAINT) low++;
+    return SIZE - low;
+}
+
+int main(void)
+{
+    struct { const char *name; void (*call)(void); } calls[] = {
+        {"open", open_}, {"query", query}, {"batch", batch}, {"settled", check}, {"choose", choose}, {"row", row},
+        {"write", write_}, {"read", read_}, {"read_sources", read_sources}};
+    int bad = 0;
+    fill();
+    size_t base = measure(nothing);
+    for (size_t i = 0; i < sizeof calls / sizeof *calls; i++) {
+        size_t used = measure(calls[i].call) - base;
+        printf("stack: plate_track_%s takes %zu bytes, number %u\n", calls[i].name, used, number);
+        if (calls[i].call == write_) text_len = (size_t)reply[0];
+        bad |= number != 0 || used > LIMIT;
+    }
+    return bad;
+}
