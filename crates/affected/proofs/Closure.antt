@@ -11,7 +11,7 @@ use native.Mathlib.Decide.{ℕ-discrete}
 use lib.ListN.{set}
 use lib.Seq.{getD-set-other}
 use lib.Dec.{eqb}
-use borrow.Author.Tests.{eqb-true, eqb-false, eq-eqb, ne-eqb, not-true}
+use borrow.Author.Tests.{eqb-true, eqb-false, ne-eqb, not-true}
 use Rattle.property.specs.Property.{Property}
 use Rattle.graph.specs.Edge.{Edge, among}
 use Rattle.graph.proofs.Tests.{both, and-true, or-right, same-test}
@@ -27,13 +27,13 @@ module _ (P : Property) (s : ℕ) (ws : List ℕ) (e : Edge) where
   held-of h =
       let a = both (tight P ws e) _ h in
       let b = both (not (eqb (e .head) s)) (not (eqb (word P ws (e .head)) (P .none))) (a .1) in record {
-        tight = eqb-true _ _ (a .0);
+        tight = a .0;
         elsewhere = eqb-false _ _ (not-true _ (b .0));
         routed = eqb-false _ _ (not-true _ (b .1));
       }
 
   pub of-held : Held P s ws e → held P s ws e ≡ true
-  of-held h = and-true (eq-eqb _ _ (h .tight)) (and-true (ap not (ne-eqb _ _ (h .elsewhere))) (ap not (ne-eqb _ _ (h .routed))))
+  of-held h = and-true (h .tight) (and-true (ap not (ne-eqb _ _ (h .elsewhere))) (ap not (ne-eqb _ _ (h .routed))))
 
 -- ---- what marks say
 

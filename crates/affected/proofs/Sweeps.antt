@@ -22,7 +22,7 @@ use Rattle.graph.proofs.Lists.{fold-keeps, replicate-at}
 use Rattle.graph.proofs.Edges.{among-mem}
 use Rattle.graph.proofs.Order.{Within, Same}
 use Rattle.run.specs.Run.{word, tight}
-use Rattle.affected.specs.Affected.{removed, Held, Affected, Named, struck, onward, marked, touches, mark, sweep, sweeps, affected}
+use Rattle.affected.specs.Affected.{removed, Held, Affected, Named, struck, onward, marked, touches, mark, sweep, sweeps, affected, AffectedExact}
 use Rattle.affected.proofs.Closure.{Closed, sweeps-named, closed-marked, landmark-unaffected, affected-order}
 
 module _ (P : Property) (es fs : List Edge) (s : ℕ) (ws : List ℕ) where
@@ -156,12 +156,6 @@ module _ (P : Property) (es fs : List Edge) (s : ℕ) (ws : List ℕ) (n : ℕ) 
     pub named-affected : {t : ℕ} → Affected P es fs s ws t → marked marks t ≡ true
     named-affected a = all-marked (inside .heads) a
 
-    -- The computed marks are the inductive closure. Each sweep marks only what the closure names. After n sweeps a further one would
-    -- change nothing, so the marks are closed under both rules of the closure, and by induction along these rules they have all
-    -- that it names.
-    pub affected-exact : (t : ℕ) → (marked marks t ≡ true) ↔ Affected P es fs s ws t
-    affected-exact t = (affected-named t, named-affected)
-
     -- Seen from a head that is not marked: a held edge into it stays, and its tail is not marked either. A removed one would have
     -- marked the head, and so would a marked tail.
     pub held-closed : (e : Edge) → List·Memᴰ e es → Held P s ws e → marked marks (e .head) ≡ false
@@ -178,7 +172,13 @@ module _ (P : Property) (es fs : List Edge) (s : ℕ) (ws : List ℕ) (n : ℕ) 
     -- the same, part by part
     pub affected-closed : (e : Edge) → List·Memᴰ e es → tight P ws e ≡ true → e .head ≢ s → word P ws (e .head) ≢ P .none
         → marked marks (e .head) ≡ false → List·Memᴰ e fs × (marked marks (e .tail) ≡ false)
-    affected-closed e m t d w q = held-closed e m (record { tight = eqb-true _ _ t; elsewhere = d; routed = w }) q
+    affected-closed e m t d w q = held-closed e m (record { tight = t; elsewhere = d; routed = w }) q
+
+-- The computed marks are the inductive closure. Each sweep marks only what the closure names. After n sweeps a further one would
+-- change nothing, so the marks are closed under both rules of the closure, and by induction along these rules they have all
+-- that it names.
+pub affected-exact : AffectedExact
+affected-exact P es fs s ws n heads t = (affected-named P es fs s ws n t, all-marked P es fs s ws n heads)
 
 -- ---- the order of records
 

@@ -6,25 +6,25 @@
 --   added es e              == e, an edge of fs, is "added": not in the old list
 --   Held P s ws e           == e is tight, and its head is not the landmark and has a route
 --   Affected P es fs s ws t == t is affected: the head of a removed held edge, and so on along held edges that stay
---   holds P s v w h x       == an edge's words as a test: v at its tail, weight w, head h with x; it is tight, and h is not s and has a route
 --   held P s ws e           == the same as Held, as a test
 --   marked ms t             == t is marked
 --   touches .. ms e         == e marks its head: held, and removed or its tail is marked
 --   sweep .. ms             == one pass over the old edges, each marking its head where it does
 --   sweeps .. k ms          == k passes
 --   affected P es fs s ws n == the affected ones of n vertices, as marks: n passes find all
+--   AffectedExact           == the marks are the closure, for any words: proved as affected-exact
 --   Named P es fs s ws ms   == each mark of ms is of an affected vertex
 --   mark .. ms e            == the marks after one edge: its head is marked where it touches
 use mathlib.Core.Path.{_≡_}
-use mathlib.Core.Logic.{_≢_}
+use mathlib.Core.Logic.{_≢_, _↔_}
 use mathlib.Core.Bool.{Bool, true, false, not, _&&_, _||_, cond}
 use mathlib.Core.List.{List, foldl, List·Memᴰ}
-use Prim.Native.Nat.{ℕ, zero, suc}
+use Prim.Native.Nat.{ℕ, zero, suc, _<_}
 use lib.ListN.{getD, set, replicate}
 use lib.Dec.{eqb}
 use Rattle.property.specs.Property.{Property}
 use Rattle.graph.specs.Edge.{Edge, among}
-use Rattle.run.specs.Run.{word}
+use Rattle.run.specs.Run.{word, tight}
 
 -- ---- the net effect of a batch
 
@@ -37,7 +37,7 @@ added es e = not (among es e)
 -- ---- the closure, as document 01 names it
 
 pub record Held (P : Property) (s : ℕ) (ws : List ℕ) (e : Edge) : Type 0 where
-  pub tight : P .along (word P ws (e .tail)) (e .weight) ≡ word P ws (e .head)
+  pub tight : tight P ws e ≡ true
   pub elsewhere : e .head ≢ s
   pub routed : word P ws (e .head) ≢ P .none
 
@@ -48,11 +48,8 @@ pub data Affected (P : Property) (es fs : List Edge) (s : ℕ) (ws : List ℕ) :
 
 -- ---- as marks that compute
 
-abbrev pub holds : Property → ℕ → ℕ → ℕ → ℕ → ℕ → Bool
-holds P s v w h x = eqb (P .along v w) x && (not (eqb h s) && not (eqb x (P .none)))
-
 abbrev pub held : Property → ℕ → List ℕ → Edge → Bool
-held P s ws e = holds P s (word P ws (e .tail)) (e .weight) (e .head) (word P ws (e .head))
+held P s ws e = tight P ws e && (not (eqb (e .head) s) && not (eqb (word P ws (e .head)) (P .none)))
 
 abbrev pub marked : List Bool → ℕ → Bool
 marked ms t = getD ms t false
@@ -74,6 +71,12 @@ module _ (P : Property) (es fs : List Edge) (s : ℕ) (ws : List ℕ) where
 
   unfoldable pub affected : ℕ → List Bool
   affected n = sweeps n (replicate n false)
+
+-- ---- that they are the closure
+
+abbrev pub AffectedExact : Type 0
+AffectedExact = (P : Property) (es fs : List Edge) (s : ℕ) (ws : List ℕ) (n : ℕ) → ((e : Edge) → List·Memᴰ e es → e .head < n)
+    → (t : ℕ) → (marked (affected P es fs s ws n) t ≡ true) ↔ Affected P es fs s ws t
 
 abbrev pub Named : Property → List Edge → List Edge → ℕ → List ℕ → List Bool → Type 0
 Named P es fs s ws ms = (t : ℕ) → marked ms t ≡ true → Affected P es fs s ws t

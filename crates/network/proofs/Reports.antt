@@ -38,7 +38,7 @@ module _ (n : ℕ) (ls : List ℕ) (es fs : List Edge) (xs : List ℕ) (inside :
   row-counted r =
       let A = Affected (propertyOf r) es fs (landmarkOf ls r) (row n r xs) in
       let e = affected-length (propertyOf r) es fs (landmarkOf ls r) (row n r xs) n in
-      let f = affected-exact (propertyOf r) es fs (landmarkOf ls r) (row n r xs) n inside in
+      let f = affected-exact (propertyOf r) es fs (landmarkOf ls r) (row n r xs) n (inside .heads) in
       subst (λ m. Counted A 0 m (countOf (affectedIn n ls es fs xs r))) e
       (counted-marks A (affectedIn n ls es fs xs r) 0 (λ t. (λ q. subst A (sym (zero-add t)) (f t .0 q), λ a. f t .1 (subst A (zero-add t) a))))
 

@@ -25,9 +25,9 @@ use Rattle.graph.proofs.Records.{edges-length, edges-at}
 use Rattle.run.specs.Run.{word}
 use Rattle.run.specs.Code.{bits, Marks}
 use Rattle.run.proofs.States.{marks-set, marks-clear}
-use Rattle.affected.specs.Affected.{removed, Named, holds, held, marked, affected}
+use Rattle.affected.specs.Affected.{removed, Named, held, marked, affected}
 use Rattle.compare.specs.Code.{Missing, Ends}
-use Rattle.prepare.specs.Code.{Before, Going, Grown, strikes, Struck, Along, Covered, Spreads}
+use Rattle.prepare.specs.Code.{holds, Before, Going, Grown, strikes, Struck, Along, Covered, Spreads}
 use Rattle.prepare.proofs.Bits.{raise-keeps, raise-only, bits-all, bits-length, marks-if}
 use Rattle.affected.proofs.Closure.{touches-named}
 use Rattle.affected.proofs.Sweeps.{closed-exact}

@@ -7,6 +7,7 @@
 --   Inward n is xs fs            == that index has the edges fs
 --   Going n bs ds                == marks bs, and ds, the marked vertices from which marks are still to go on
 --   Grown ms ds ms′ ds′          == marks ms with the vertices ds to do became ms′ and ds′: none was taken away, and each new mark is to do
+--   holds P s v w h x            == an edge's words as a test, as `held`: v at its tail, weight w, head h with x
 --   strikes P s ws ms e          == e marks its head: it holds it up, and the head has no mark yet
 --   Struck .. i vs bs ds bs′ ds′ == the first i of the listed edges marked their heads
 --   Along .. u j k vs bs ds bs′ ds′ == marks went on from u along its edges of index j to k - 1
@@ -19,6 +20,7 @@ use mathlib.Core.Bool.{Bool, true, false, not, _&&_}
 use mathlib.Core.List.{List, List·Memᴰ}
 use Prim.Native.Nat.{ℕ, _+_, _≤_, _<_}
 use lib.ListN.{length, getD}
+use lib.Dec.{eqb}
 use Rattle.property.specs.Property.{Property}
 use Rattle.frontier.specs.Waiting.{waitingOf, countOf}
 use Rattle.graph.specs.Limits.{maxVertices}
@@ -57,6 +59,9 @@ pub record Inward (n : ℕ) (is xs : List ℕ) (fs : List Edge) : Type 0 where
   pub whole : (e : Edge) → List·Memᴰ e fs → (k : ℕ) × (getD is (e .head) 0 ≤ k) × (k < getD is (e .head + 1) 0) × (getD xs k 0 ≡ e .tail)
 
 -- ---- how marks go on
+
+abbrev pub holds : Property → ℕ → ℕ → ℕ → ℕ → ℕ → Bool
+holds P s v w h x = eqb (P .along v w) x && (not (eqb h s) && not (eqb x (P .none)))
 
 pub record Going (n : ℕ) (bs ds : List ℕ) : Type 0 where
   pub marks : Marks n bs

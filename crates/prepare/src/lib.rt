@@ -18,14 +18,14 @@ ghost use Rattle.run.specs.Code.{bits, Marks};
 ghost use Rattle.affected.specs.Affected as spec;
 ghost use Rattle.affected.specs.Prepared as start;
 ghost use Rattle.compare.specs.Code.{Missing};
-ghost use Rattle.prepare.specs.Code.{Before, Into, After, Inward, Going, strikes, Struck, Along, Spreads, Raised};
+ghost use Rattle.prepare.specs.Code.{Before, Into, After, Inward, Going, holds, strikes, Struck, Along, Spreads, Raised};
 
 // ---- who is affected
 
 // Whether the edge from a vertex with word `v`, of weight `w`, holds up its head `h`, whose word is `x`: it is tight, and the head
 // is not the landmark `s` and has a route.
 pub fn is_held(p: u32, s: u32, v: u32, w: u32, h: u32, x: u32) -> bool
-    ensures { λ r. ⌜ r ≡ spec.holds (property p) s v w h x ⌝ }
+    ensures { λ r. ⌜ r ≡ holds (property p) s v w h x ⌝ }
 {
     property::along(p, v, w) == x && (h != s && x != property::none(p))
 }

@@ -16,6 +16,7 @@
 --   settle P es n k st           == rounds while any waits, at most k of them
 --   noTally                      == the tally of a run that starts
 --   oneTaken, oneRound, oneStore == the tally raised by a step
+--   counted f st                 == the state st with its tally raised by f
 --   storeIf, visitIf, takeIf     == what a step does where its test holds
 use mathlib.Core.Bool.{Bool, true, false}
 use mathlib.Core.List.{List, foldl}

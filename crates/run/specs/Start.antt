@@ -1,7 +1,8 @@
 -- Where the run of a row or a query starts: document 01, "Opening" and "Query". Assumes nothing.
 --
 --   opened P n s        == the state in which a row of landmark s is opened: no route but for s, which has its value and waits
---   Landmark            == a landmark, its vertex, and what its two rows tell a query: the word from the source to it, and the row on from it
+--   Landmark            == a landmark: its vertex, which says which one it is, and what its two rows tell a query: the word from the source
+--                          to it, and the row on from it
 --   finer P a b         == the better of two words
 --   bound P ls t        == the best, over the landmarks, of the word to the landmark joined with the word on to t
 --   asked P ls n s      == the state in which a query from s starts: bounds, but for s, which has its value and alone waits

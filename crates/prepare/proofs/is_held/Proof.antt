@@ -6,7 +6,7 @@ use borrow.Author.Needs.{needs}
 use borrow.Author.Tests.{eq-eqb, ne-eqb}
 use lib.Dec.{eqb}
 use Rattle.property.specs.Property.{Property, property}
-use Rattle.affected.specs.Affected.{holds}
+use Rattle.prepare.specs.Code.{holds}
 use Rattle.prepare.proofs.is_held.Statement.{statement}
 use Rattle.prepare.proofs.is_held.Tie as tie
 
