@@ -123,12 +123,11 @@ module _ (n : ℕ) (ls : List ℕ) (w : Network) (b : List Change) (g : Good n l
   -- of the call's refusals those are left that document 01 has for a batch, and 13
   judged : batchVerdict n ls w b ≡ (turnedBack n es b ▷ stillWaiting n ls w fs)
   unfolding turnedBack batchFaults
-  judged = then-assoc (size n) _ _ ∙ accept-then (g .sized)
-      ∙ (then-assoc (longBatch (length b)) _ _ ∙ then-same (longBatch (length b)) (λ _. accept-then whole))
+  judged = then-assoc (longBatch (length b)) _ _ ∙ then-same (longBatch (length b)) (λ _. accept-then whole)
       ∙ sym (then-assoc (longBatch (length b)) (items n 0 es b) _)
     where
-      whole : (shortTable (w .memory .table) ▷ shortRows n ls (w .memory .rows) ▷ landmarks n ls ▷ table n (w .memory .table) (w .count)) ≡ accept
-      whole = accept-then (g .roomy) ∙ accept-then (g .long) ∙ accept-then (g .chosen) ∙ g .sound
+      whole : faults n ls w ≡ accept
+      whole = accept-then (g .sized) ∙ accept-then (g .roomy) ∙ accept-then (g .long) ∙ accept-then (g .chosen) ∙ g .sound
 
   refused-kept : (v : Verdict) (k i : ℕ) → (out v) .reply ≡ refused k i → handOn w (out v) ≡ w
   unfolding replied choose reported

@@ -28,11 +28,11 @@ use Rattle.frontier.specs.Waiting.{countOf}
 use Rattle.graph.specs.Limits.{maxEdges, maxBatch}
 use Rattle.graph.specs.Refusal.{Verdict, _▷_, refuseIf, Outcome, outcome, over}
 use Rattle.graph.specs.Edge.{Edge, reverse}
-use Rattle.graph.specs.Table.{Columns, size, shortTable, table}
+use Rattle.graph.specs.Table.{Columns}
 use Rattle.run.specs.Run.{State, settle}
 use Rattle.affected.specs.Affected.{affected}
 use Rattle.affected.specs.Prepared.{prepared}
-use Rattle.network.specs.Network.{Memory, Network, edgesIn, shortRows, landmarks, row, propertyOf, landmarkOf, rowsOf, flat, unsettled, storesOf}
+use Rattle.network.specs.Network.{Memory, Network, edgesIn, faults, row, propertyOf, landmarkOf, rowsOf, flat, unsettled, storesOf}
 use Rattle.network.specs.Change.{Change, edits, items}
 
 -- ---- one row, whose words are vs
@@ -116,13 +116,7 @@ abbrev pub longBatch : ℕ → Verdict
 longBatch k = refuseIf (ltb maxBatch k) 1 0
 
 unfoldable pub batchFaults : ℕ → List ℕ → Network → ℕ → Verdict
-batchFaults n ls w k =
-    size n
-    ▷ longBatch k
-    ▷ shortTable (w .memory .table)
-    ▷ shortRows n ls (w .memory .rows)
-    ▷ landmarks n ls
-    ▷ table n (w .memory .table) (w .count)
+batchFaults n ls w k = longBatch k ▷ faults n ls w
 
 module _ (n : ℕ) (ls : List ℕ) (w : Network) (b : List Change) where
   abbrev pub batchVerdict : Verdict

@@ -9,7 +9,7 @@
 --   shortRows n ls xs == number 2: a row list has fewer than landmarks × 5 × n words
 --   areLandmarks n ls == the vertices ls are below n and different
 --   landmarks n ls    == number 3: none, over 4, not a vertex, repeated
---   faults n ls w     == numbers 1 to 4 of a network: what an opening and a settled check are refused for
+--   faults n ls w     == numbers 1 to 4 of a network
 --   row n r xs        == row r of a row list: n words; rows go by landmark in list order, then property
 --   propertyOf r      == the property of row r
 --   landmarkOf ls r   == the landmark of row r

@@ -3,7 +3,7 @@
 --   Query             == what is asked: property, source, schedule
 --   Words             == the two lists lent for the answer: start words and settled words
 --   known n ls w q    == what the rows of the property tell of each landmark: the backward word of the source, the forward row
---   atStart n ls w q  == the state at the start: triangle bounds, and the source's value; only the source waits
+--   atStart n ls w q  == the state at the start: the start words, with its value at the source; only the source waits
 --   atRounds n ls w q == the state after the schedule
 --   atEnd n ls w q    == the state after the rounds, at most n
 --   scheduled n i vs  == number 6 at the first entry of the schedule, from index i, that is no vertex

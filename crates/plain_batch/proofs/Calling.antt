@@ -1,30 +1,26 @@
 -- A batch as a call: numbers 1 to 4, then its changes, then number 13, and what is lent. Assumes nothing.
 use mathlib.Core.Path.{_≡_, refl, sym, _∙_}
-use mathlib.Core.Bool.{Bool, true, false, _||_}
 use mathlib.Core.List.{List, [], _∷_}
 use Prim.Native.Nat.{ℕ, _+_, _≤_, _<_, min}
 use native.Mathlib.Omega.{arith}
 use lib.ListN.{length, take, drop}
 use lib.Seq.{paste, take-at, length-take-le}
-use lib.Dec.{ltb, eqb}
 use borrow.Author.Tests.{lt-ltb, le-ltb}
-use Rattle.graph.specs.declared.Judged.{Judged}
-use Rattle.graph.specs.declared.Judged.the-variants.{Fine, Refused}
-use Rattle.graph.specs.Limits.{maxVertices, maxBatch}
+use Rattle.graph.specs.Limits.{maxBatch}
 use Rattle.graph.specs.Refusal.{Verdict, accept, refuse, _▷_, refuseIf, replied, choose}
 use Rattle.graph.specs.Edge.{Edge, edges}
-use Rattle.graph.specs.Table.{size, shortTable, table}
-use Rattle.graph.specs.Code.{told, Room, columns}
-use Rattle.graph.proofs.Verdicts.{then-accept, accept-then, refuse-then, then-assoc}
+use Rattle.graph.specs.Code.{Room, columns}
+use Rattle.graph.proofs.Verdicts.{then-accept, accept-then, accept-if, refuse-then}
 use Rattle.apply.specs.declared.Applied.the-variants as applied
-use Rattle.network.specs.Network.{Network, edgesIn, shortRows, landmarks}
+use Rattle.network.specs.Network.{Network, edgesIn, faults}
 use Rattle.network.specs.Change.{Change, edits, items}
-use Rattle.network.specs.Batch.{batchVerdict, newEdges, stillWaiting, batchCall, batchFaults}
+use Rattle.network.specs.Batch.{batchVerdict, newEdges, stillWaiting, longBatch, batchCall, batchFaults}
 use Rattle.sides.specs.Code.{Fair}
 use Rattle.apply.specs.Code.{applying, applyCall, batchOutcome}
 use Rattle.items.specs.Code.{changes}
-use Rattle.calls.specs.Code.{rowLists, network}
+use Rattle.calls.specs.Code.{network}
 use Rattle.network.proofs.Rows.{landmark-below}
+use Rattle.network.proofs.Moment.{faults-parts}
 use Rattle.graph.proofs.Judging.{size-accept, lengths-accept, table-accept}
 use Rattle.calls.proofs.Judging.{rows-accept, landmarks-accept}
 
@@ -40,40 +36,13 @@ changes-length (k ∷ ks) (t ∷ ts) (h ∷ hs) (w ∷ ws) = let z = changes-len
 
 -- ---- numbers 1 to 4
 
--- a batch that is too long is number 1, and so is a size that is refused
 pub faults-long : (n : ℕ) (ls : List ℕ) (w : Network) (j : ℕ) → maxBatch < j → refuse 1 0 ≡ batchFaults n ls w j
 unfolding batchFaults refuseIf _▷_
-faults-long n ls w j h = pick (eqb n 0 || ltb maxVertices n) refl
-  where
-    pick : (b : Bool) → (eqb n 0 || ltb maxVertices n) ≡ b → refuse 1 0 ≡ batchFaults n ls w j
-    pick true e = rw e
-    pick false e = rw (e, lt-ltb maxBatch j h)
+faults-long n ls w j h = rw (lt-ltb maxBatch j h)
 
-module _ (n : ℕ) (ls : List ℕ) (w : Network) (j : ℕ) where
-  module _ (a : Judged) (e : told a ≡ size n) where
-    pub faults-size : (k i : ℕ) → a ≡ Refused k i → told a ≡ batchFaults n ls w j
-    unfolding batchFaults told _▷_
-    faults-size k i q = rw (← e, q)
-
-    module _ (q : a ≡ Fine) where
-      pub faults-many : maxBatch < j → told (Refused 1 0) ≡ batchFaults n ls w j
-      unfolding batchFaults told refuseIf _▷_
-      faults-many h = rw (← e, q, lt-ltb maxBatch j h)
-
-      module _ (h : j ≤ maxBatch) (b : Judged) (f : told b ≡ (shortTable (w .memory .table) ▷ shortRows n ls (w .memory .rows))) where
-        later : {v : Verdict} → v ≡ ((shortTable (w .memory .table) ▷ shortRows n ls (w .memory .rows)) ▷ (landmarks n ls ▷ table n (w .memory .table) (w .count))) → v ≡ batchFaults n ls w j
-        unfolding batchFaults told refuseIf _▷_
-        later g =
-            let z = then-assoc (shortTable (w .memory .table)) (shortRows n ls (w .memory .rows)) (landmarks n ls ▷ table n (w .memory .table) (w .count)) in
-            (g ∙ z) ∙ rw (← e, q, le-ltb maxBatch j h)
-
-        pub faults-short : (k i : ℕ) → b ≡ Refused k i → told b ≡ batchFaults n ls w j
-        unfolding told _▷_
-        faults-short k i d = later (rw (← f, d))
-
-        pub faults-rest : b ≡ Fine → (c : Judged) → told c ≡ (landmarks n ls ▷ table n (w .memory .table) (w .count)) → told c ≡ batchFaults n ls w j
-        unfolding told _▷_
-        faults-rest d c g = later (rw (← f, d) g)
+pub faults-rest : (n : ℕ) (ls : List ℕ) (w : Network) (j : ℕ) → j ≤ maxBatch → {v : Verdict} → v ≡ faults n ls w → v ≡ batchFaults n ls w j
+unfolding batchFaults
+faults-rest n ls w j h e = e ∙ sym (accept-then (accept-if 1 0 (le-ltb maxBatch j h)))
 
 pub faults-as : (n : ℕ) (ls : List ℕ) (w : Network) {j k : ℕ} → j ≡ k → batchFaults n ls w j ≡ accept → batchFaults n ls w k ≡ accept
 faults-as n ls w q e = rw q at e
@@ -83,18 +52,14 @@ faults-as n ls w q e = rw q at e
 pub faults-fair : (n : ℕ) (ls : List ℕ) (ts hs ws f b : List ℕ) (m j : ℕ) → batchFaults n ls (network ts hs ws f b m) j ≡ accept → Fair n ls (network ts hs ws f b m)
 unfolding batchFaults
 faults-fair n ls ts hs ws f b m j e =
-    let p = then-accept (size n) _ e in
-    let q = then-accept (refuseIf (ltb maxBatch j) 1 0) _ (p .1) in
-    let s = then-accept (shortTable (columns ts hs ws)) _ (q .1) in
-    let r = then-accept (shortRows n ls (rowLists f b)) _ (s .1) in
-    let l = then-accept (landmarks n ls) (table n (columns ts hs ws) m) (r .1) in
-    let t = table-accept n (columns ts hs ws) m (l .1) in
-    let x = rows-accept n ls f b (r .0) in
-    let y = landmarks-accept n ls (l .0) in
+    let p = faults-parts n ls (network ts hs ws f b m) (then-accept (longBatch j) (faults n ls (network ts hs ws f b m)) e .1) in
+    let t = table-accept n (columns ts hs ws) m (p .4) in
+    let x = rows-accept n ls f b (p .2) in
+    let y = landmarks-accept n ls (p .3) in
     record {
       few = size-accept n (p .0) .1;
-      landmarks = record { few = y .0; vertices = λ i k. landmark-below n ls i (l .0) k };
-      table = record { few = t .0; room = lengths-accept ts hs ws (s .0); rules = t .1 };
+      landmarks = record { few = y .0; vertices = λ i k. landmark-below n ls i (p .3) k };
+      table = record { few = t .0; room = lengths-accept ts hs ws (p .1); rules = t .1 };
       forward = x .0;
       backward = x .1;
     }

@@ -2,7 +2,6 @@
 // network.
 use apply::Applied;
 use graph::Judged;
-use graph::rules;
 use graph::words;
 use items::Edited;
 ghost use mathlib.Core.Path.{_≡_};
@@ -47,18 +46,19 @@ fn judge_batch(
 ) -> Judged
     ensures { λ r. ⌜ told r ≡ batchFaults n (now (landmarks .entry)) (network (now (tails .entry)) (now (heads .entry)) (now (weights .entry)) (now (forward .entry)) (now (backward .entry)) count) size ⌝ }
 {
-    let vertices = rules::judge_size(n);
-    let Judged::Fine = vertices else {
-        return vertices;
-    };
     if size > graph::MAX_BATCH {
         return Judged::Refused(1, 0);
     }
-    let lists = calls::judge_lists(n, landmarks, tails, heads, weights, forward, backward);
-    let Judged::Fine = lists else {
-        return lists;
-    };
-    calls::judge_network(n, landmarks, tails, heads, weights, count)
+    calls::judge_all(
+        n,
+        landmarks,
+        tails,
+        heads,
+        weights,
+        count,
+        forward,
+        backward,
+    )
 }
 
 // A batch that numbers 1 to 4 let pass: its changes are tried on a scratch table, of lists 2.

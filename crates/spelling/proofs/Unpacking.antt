@@ -1,23 +1,20 @@
 -- Changes of four words each as four lists. Assumes nothing.
 use mathlib.Core.Path.{_≡_, refl, sym, ap, _∙_}
-use mathlib.Core.Bool.{Bool, true, false, _||_}
 use mathlib.Core.List.{List, [], _∷_}
 use Prim.Native.Nat.{ℕ, _+_, _<_}
 use native.Mathlib.Nat.{zero-add}
 use native.Mathlib.Omega.{arith}
 use lib.ListN.{length, getD, set, take, drop, length-map, List·getD-map}
 use lib.Seq.{paste, take-at}
-use lib.Dec.{eqb, ltb}
-use borrow.Author.Tests.{lt-ltb}
 use Rattle.graph.proofs.Copies.{copy-turn}
-use Rattle.graph.specs.Limits.{maxVertices, maxBatch}
-use Rattle.graph.specs.Refusal.{Verdict, refuse, _▷_, refuseIf, over}
-use Rattle.network.specs.Batch.{batchCall, batchFaults}
+use Rattle.graph.specs.Limits.{maxBatch}
+use Rattle.graph.specs.Refusal.{over}
+use Rattle.network.specs.Batch.{batchCall}
 use Rattle.calls.specs.Code.{network}
 use Rattle.apply.specs.declared.Applied.the-variants.{Refused}
 use Rattle.items.specs.Code.{changes}
 use Rattle.apply.specs.Code.{batchOutcome}
-use Rattle.plain_batch.proofs.Calling.{call-faulty}
+use Rattle.plain_batch.proofs.Calling.{call-faulty, faults-long}
 use Rattle.spelling.specs.Code.{wordsAt, changeOf, changesOf}
 use Rattle.network.specs.Change.{Change}
 
@@ -56,11 +53,6 @@ changes-read cs p q r s = rw (p, q, r, s) (changes-words cs)
 -- a batch that is too long is number 1, whatever the vertices are
 pub batch-large : (n : ℕ) (ls : List ℕ) (ts hs ws f b : List ℕ) (m : ℕ) (cs : List (List ℕ)) → maxBatch < length cs →
     batchOutcome (Refused 1 0) ts hs ws f b ≡ batchCall n ls (network ts hs ws f b m) (changesOf cs)
-unfolding batchFaults _▷_ refuseIf
 batch-large n ls ts hs ws f b m cs l =
     call-faulty n ls ts hs ws f b m (changesOf cs) 1 0
-    (pick (eqb n 0 || ltb maxVertices n) (ltb maxBatch (length (changesOf cs))) (lt-ltb maxBatch (length (changesOf cs)) (omega (arith, length-map cs changeOf))) _)
-  where
-    pick : (a c : Bool) → c ≡ true → (v : Verdict) → refuse 1 0 ≡ (refuseIf a 1 0 ▷ (refuseIf c 1 0 ▷ v))
-    pick true c e v = refl
-    pick false c e v = rw e
+    (faults-long n ls (network ts hs ws f b m) (length (changesOf cs)) (omega (arith, length-map cs changeOf)))
