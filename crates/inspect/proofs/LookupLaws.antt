@@ -18,11 +18,12 @@ use Rattle.graph.specs.Refusal.{Verdict, refuseIf, verdictOf, replied, choose}
 use Rattle.graph.specs.Table.{size}
 use Rattle.graph.specs.Code.{told}
 use Rattle.graph.proofs.Tests.{both, neither}
-use Rattle.graph.proofs.Verdicts.{then-accept, if-accept, verdict-replied}
+use Rattle.graph.proofs.Verdicts.{not-accept, then-accept, if-accept, verdict-replied}
 use Rattle.network.specs.Network.{isIn, landmarks, shortRows, row}
 use Rattle.network.specs.Query.{rowAt}
 use Rattle.network.specs.Lookup.{indexOf, lookupVerdict, lookupRow, lookupNumber}
 use Rattle.calls.specs.Code.{rowLists}
+use Rattle.inspect.specs.Code.{wordAt, Shows}
 use Rattle.graph.proofs.Judging.{size-accept}
 use Rattle.calls.proofs.Judging.{rows-accept, landmarks-accept}
 use Rattle.calls.proofs.Rows.{row-within}
@@ -70,6 +71,11 @@ module _ (n : ℕ) (ls f b : List ℕ) (side l p : ℕ) where
     unfolding lookupRow choose told
     row-refused k i q = rw (sym (told-number r e) ∙ ap told q)
 
+    -- a refused look-up shows no row
+    pub part-refused : (k i : ℕ) → r ≡ Refused k i → (x y z : ℕ × ℕ) → Shows n ls (rowLists f b) side l p x y z
+    unfolding told
+    part-refused k i q x y z h = absurd (not-accept (sym (ap told q) ∙ (told-number r e ∙ h)))
+
     row-shown : r ≡ Fine → row n (rowAt (indexOf l ls) p) (cond (eqb side 0) f b) ≡ lookupRow n ls (rowLists f b) side l p
     unfolding lookupRow choose told
     row-shown q = rw (sym (told-number r e) ∙ ap told q)
@@ -84,6 +90,15 @@ module _ (n : ℕ) (ls f b : List ℕ) (side l p : ℕ) where
 
       pub row-backward : (side ≡ 0 → ⊥) → take (s + n - s) (drop s b) ≡ lookupRow n ls (rowLists f b) side l p
       row-backward h = part b ∙ (ap (λ (t : Bool). row n (rowAt (indexOf l ls) p) (cond t f b)) (sym (ne-eqb side 0 h)) ∙ row-shown q)
+
+  -- ---- where the part starts
+
+  module _ (s : ℕ) (at : s ≡ rowAt (indexOf l ls) p * n) (x y : ℕ × ℕ) where
+    pub part-forward : side ≡ 0 → Shows n ls (rowLists f b) side l p x y (wordAt x s)
+    part-forward h _ = ap (wordAt x) at ∙ ap (λ (t : Bool). wordAt (cond t x y) (rowAt (indexOf l ls) p * n)) (sym (eq-eqb side 0 h))
+
+    pub part-backward : (side ≡ 0 → ⊥) → Shows n ls (rowLists f b) side l p x y (wordAt y s)
+    part-backward h _ = ap (wordAt y) at ∙ ap (λ (t : Bool). wordAt (cond t x y) (rowAt (indexOf l ls) p * n)) (sym (ne-eqb side 0 h))
 
   -- ---- what an accepted look-up tells
 

@@ -6,12 +6,18 @@
 --   choosing r                                        == the program's reply to a landmark choice, so written
 --   written x                                         == document 01's reply x, so written; a refusal shows no vertex
 --   padded us                                         == the vertices us in the four places
+--   wordAt p i                                        == where word i of a list of 32-bit words lies that starts at p: in the same block of
+--                                                        memory, four bytes further for each word
+--   Shows .. f b at                                   == the part that starts at `at` is the row in the list of its side, of the two that start
+--                                                        at f and b; of a refused look-up nothing is said: its part is empty
 --   Holds us k xs                                     == xs are the four places with us in them, and k is how many
 --   Counted es ds                                     == word v of the list ds is the degree of v, for every v: it is 0 past the list
 use mathlib.Core.Path.{_≡_}
+use mathlib.Core.Bool.{cond}
 use mathlib.Core.List.{List, [], _++_}
-use Prim.Native.Nat.{ℕ, _-_}
+use Prim.Native.Nat.{ℕ, _+_, _-_, _*_}
 use lib.ListN.{length, getD, replicate}
+use lib.Dec.{eqb}
 use Rattle.graph.specs.Limits.{maxLandmarks}
 use Rattle.graph.specs.Refusal.{Verdict, accept, refuse, Reply, accepted, refused}
 use Rattle.graph.specs.Edge.{Edge}
@@ -21,6 +27,9 @@ use Rattle.inspect.specs.declared.Checked.the-variants as checked
 use Rattle.inspect.specs.declared.Chosen.{Chosen}
 use Rattle.network.specs.Settled.{Check, settled, found}
 use Rattle.network.specs.Choice.{degree}
+use Rattle.network.specs.Network.{Rows}
+use Rattle.network.specs.Query.{rowAt}
+use Rattle.network.specs.Lookup.{indexOf, lookupVerdict}
 
 unfoldable pub checking : Checked → Reply Check
 checking checked.Settled = accepted settled
@@ -50,3 +59,11 @@ pub record Holds (us : List ℕ) (k : ℕ) (xs : List ℕ) : Type 0 where
 
 abbrev pub Counted : List Edge → List ℕ → Type 0
 Counted es ds = (v : ℕ) → getD ds v 0 ≡ degree es v
+
+-- ---- row look-up
+
+abbrev pub wordAt : ℕ × ℕ → ℕ → ℕ × ℕ
+wordAt p i = (p .0, i * 4 + p .1)
+
+abbrev pub Shows : ℕ → List ℕ → Rows → ℕ → ℕ → ℕ → ℕ × ℕ → ℕ × ℕ → ℕ × ℕ → Type 0
+Shows n ls xs side l p f b at = lookupVerdict n ls xs side l p ≡ accept → at ≡ wordAt (cond (eqb side 0) f b) (rowAt (indexOf l ls) p * n)

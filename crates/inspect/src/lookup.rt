@@ -6,6 +6,7 @@ ghost use Rattle.graph.specs.Refusal.{replied};
 ghost use Rattle.graph.specs.Code.{told};
 ghost use Rattle.network.specs.Lookup.{indexOf, lookupRow, lookupNumber};
 ghost use Rattle.calls.specs.Code.{rowLists};
+ghost use Rattle.inspect.specs.Code.{Shows};
 
 // Where `v` stands among the vertices; past them where it does not.
 pub fn index_of(v: u32, vertices: &[u32]) -> usize
@@ -61,7 +62,8 @@ pub fn row<'a>(
     landmark: u32,
     property: u32,
 ) -> &'a [u32]
-    ensures { λ r. ⌜ now r ≡ lookupRow n (now (landmarks .entry)) (rowLists (now (forward .entry)) (now (backward .entry))) side landmark property ⌝ }
+    ensures words { λ r. ⌜ now r ≡ lookupRow n (now (landmarks .entry)) (rowLists (now (forward .entry)) (now (backward .entry))) side landmark property ⌝ }
+    ensures part { λ r. ⌜ Shows n (now (landmarks .entry)) (rowLists (now (forward .entry)) (now (backward .entry))) side landmark property (forward .entry .ptr) (backward .entry .ptr) (r .ptr) ⌝ }
 {
     let number = row_number(n, landmarks, forward, backward, side, landmark, property);
     let Judged::Fine = number else {

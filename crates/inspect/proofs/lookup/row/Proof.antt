@@ -6,7 +6,7 @@ use Prim.Native.Nat.{ℕ, _+_, _*_, _≤_}
 use lib.ListN.{length}
 use Rattle.network.specs.Query.{rowAt}
 use Rattle.network.specs.Lookup.{indexOf}
-use Rattle.inspect.proofs.LookupLaws.{Shown, lookup-accept, row-refused, row-forward, row-backward}
+use Rattle.inspect.proofs.LookupLaws.{Shown, lookup-accept, row-refused, row-forward, row-backward, part-refused, part-forward, part-backward}
 use Rattle.inspect.proofs.lookup.row.Statement.{statement}
 use Rattle.inspect.proofs.lookup.row.Tie as tie
 
@@ -52,7 +52,10 @@ part-result-end : tie.Need-part-result-end
 part-result-end c = search needs
 
 returns : tie.Need-returns
-returns c = row-refused _ _ _ _ _ _ _ _ (c .before .before .before .row-number .ensures) _ _ (c .before .enum-told2 .given .1)
+returns c =
+    let e = c .before .before .before .row-number .ensures in
+    let q = c .before .enum-told2 .given .1 in
+    (row-refused _ _ _ _ _ _ _ _ e _ _ q, part-refused _ _ _ _ _ _ _ _ e _ _ q _ _ _)
 
 index-of-requires : tie.Need-index-of-requires
 index-of-requires c κs = search needs
@@ -81,7 +84,9 @@ returns-2 : tie.Need-returns-2
 returns-2 c =
     let s = c .before .before in
     let n = s .before .before in
-    row-forward _ _ _ _ _ _ _ _ (n .before .before .row-number .ensures) (n .enum-told .given .1) (s .row-start .result) (lies s .at) (c .before .if1 .taken)
+    let a = start n .args in
+    let at = lies s .at in
+    (row-forward _ _ _ _ _ _ _ _ (n .before .before .row-number .ensures) (n .enum-told .given .1) (s .row-start .result) at (c .before .if1 .taken), part-forward (a .n) (a .landmarks .now) (a .forward .now) (a .backward .now) (a .side) (a .landmark) (a .property) (s .row-start .result) at (a .forward .ptr) (a .backward .ptr) (c .before .if1 .taken))
 
 mul-result-2 : tie.Need-mul-result-2
 mul-result-2 c = omega (arith, lies (c .before))
@@ -99,7 +104,9 @@ returns-3 : tie.Need-returns-3
 returns-3 c =
     let s = c .before .before in
     let n = s .before .before in
-    row-backward _ _ _ _ _ _ _ _ (n .before .before .row-number .ensures) (n .enum-told .given .1) (s .row-start .result) (lies s .at) (c .before .if1 .left)
+    let a = start n .args in
+    let at = lies s .at in
+    (row-backward _ _ _ _ _ _ _ _ (n .before .before .row-number .ensures) (n .enum-told .given .1) (s .row-start .result) at (c .before .if1 .left), part-backward (a .n) (a .landmarks .now) (a .forward .now) (a .backward .now) (a .side) (a .landmark) (a .property) (s .row-start .result) at (a .forward .ptr) (a .backward .ptr) (c .before .if1 .left))
 
 pub row-spec : {M : Type 1} → statement M
 row-spec =
