@@ -1,4 +1,5 @@
-// Two tables compared: what a batch took and what it added, found by one walk along both.
+// Two tables compared: the edges that are removed and those that are added, net: one that a batch takes and adds again is neither. One
+// walk along both tables finds each of the two lists.
 use graph::rules;
 ghost use mathlib.Core.Path.{_≡_};
 ghost use mathlib.Core.Bool.{true, false, cond};
@@ -67,7 +68,8 @@ pub fn past(there: bool, j: usize) -> usize
     if there { j + 1 } else { j }
 }
 
-// The edge of index `k` is listed where it is missing. Answers how many the list has.
+// Index `k` is stored after the `size` that are listed, and counts where its edge is missing; where it is there the next store goes over
+// it. Answers how many are listed.
 pub fn note(there: bool, k: usize, list: &mut [u32], size: usize) -> usize
     requires { ⌜ (size < length (now list)) × (k < maxEdges) ⌝ }
     ensures { λ r. ⌜ (now (list .exit) ≡ set (now (list .entry)) size k) × (r ≡ cond there size (size + 1)) ⌝ }

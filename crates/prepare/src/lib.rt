@@ -86,7 +86,8 @@ pub fn strike_removed(
     }
 }
 
-// Marks go on from vertex `u` along its old edges.
+// Marks go on from vertex `u` along its old edges. None is asked whether it is removed: a removed edge that holds its head up has marked
+// that head already, so that going along it marks nothing more.
 pub fn spread_from(
     p: u32,
     n: usize,

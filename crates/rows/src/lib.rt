@@ -1,6 +1,6 @@
 // The rows of one side of a batch: each is prepared for the new edges and settled. The lists of 1 are the table before the batch, those
-// of 2 the one after it, each with its index, and `firsts3` and `ends3` are the index of the new edges into a vertex. A row costs what it
-// changes: no row goes over all edges.
+// of 2 the one after it, each with its index, and `firsts3` and `ends3` are the index of the new edges into a vertex. A row costs a
+// copy of its n words, a look at each removed and each added edge, and what it changes: no row goes over all edges.
 use graph::index;
 ghost use mathlib.Core.Path.{_≡_};
 ghost use Prim.Native.Nat.{_*_, _<_, _≤_};

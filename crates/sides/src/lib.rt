@@ -10,8 +10,8 @@ ghost use Rattle.calls.specs.Code.{network, Tabled};
 ghost use Rattle.rows.specs.Code.{Compared, Indexed};
 ghost use Rattle.sides.specs.Code.{Fair, Sized, Scratch, SidesDone};
 
-// All rows of both lists, by the new table, of lists 2: the new rows go to `ahead` and `back`. Each table comes with its index and the
-// reversed table; the index of the edges into a vertex is that of the other side.
+// All rows of both lists, with both tables compared and indexed: the new rows go to `ahead` and `back`. Backward rows read the lists with
+// tails and heads changed over, and the index of the reversed table; the index of the edges into a vertex is that of the other side.
 fn batch_sides(
     n: usize,
     landmarks: &[u32],
@@ -110,7 +110,7 @@ fn batch_sides(
     }
 }
 
-// The same where the new table has no index yet.
+// The new table is indexed, once for the rows of both sides, and then they are run.
 fn batch_indexed(
     n: usize,
     landmarks: &[u32],
@@ -193,7 +193,7 @@ fn batch_indexed(
     )
 }
 
-// The same where neither table has an index yet.
+// The old table is indexed, and then the new one, before the rows of both sides are run.
 fn batch_tables(
     n: usize,
     landmarks: &[u32],
@@ -266,7 +266,8 @@ fn batch_tables(
     )
 }
 
-// The same with scratch lists: the tables are compared first, once for all rows.
+// A batch's rows from the two tables alone: they are compared, which lists the removed edges in `gone` and the added ones in `fresh`,
+// and then indexed, once for all rows.
 pub fn batch_runs(
     n: u32,
     landmarks: &[u32],
