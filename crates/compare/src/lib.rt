@@ -80,7 +80,7 @@ pub fn note(there: bool, k: usize, list: &mut [u32], size: usize) -> usize
 
 // The indices of the edges of a table, that of lists 1, which are missing from the table of lists 2: both keep the rules, so that one
 // walk along both finds them. Answers how many they are.
-pub fn missing(
+pub fn find_missing(
     n: u32,
     count1: usize,
     tails1: &[u32],

@@ -7,8 +7,8 @@
 --   Inward n is xs fs            == that index has the edges fs
 --   Going n bs ds                == marks bs, and ds, the marked vertices from which marks are still to go on
 --   Grown ms ds ms′ ds′          == marks ms with the vertices ds to do became ms′ and ds′: none was taken away, and each new mark is to do
---   strikes P s ws ms e          == e marks its head: it holds it up, and the head has no mark yet
---   Struck .. i vs bs ds bs′ ds′ == the first i of the listed edges marked their heads
+--   marksHead P s ws ms e        == e marks its head: it holds it up, and the head has no mark yet
+--   HeadsMarked .. i vs bs ds bs′ ds′ == the first i of the listed edges marked their heads
 --   Along .. u j k vs bs ds bs′ ds′ == marks went on from u along its edges of index j to k - 1
 --   Covered P es s ws ms ds      == a held edge from a marked vertex that is not to do has its head marked
 --   Spreads P n s es vs bs ds bs′ ds′ == marks went on along edges of es
@@ -39,7 +39,7 @@ pub record Before (n m : ℕ) (ts hs ws gs : List ℕ) (g : ℕ) (vs : List ℕ)
 
 pub record Into (n m : ℕ) (is xs : List ℕ) : Type 0 where
   pub firsts : n < length is
-  pub ends : m ≤ length xs
+  pub heads : m ≤ length xs
   pub rising : (v : ℕ) → v < n → getD is v 0 ≤ getD is (v + 1) 0
   pub within : (v : ℕ) → v < n → getD is (v + 1) 0 ≤ m
   pub inside : (k : ℕ) → k < m → getD xs k 0 < n
@@ -70,15 +70,15 @@ pub record Grown (ms ds ms′ ds′ : List Bool) : Type 0 where
   pub count : countOf ms′ + countOf ds ≡ countOf ms + countOf ds′
   pub more : countOf ms ≤ countOf ms′
 
-abbrev pub strikes : Property → ℕ → List ℕ → List Bool → Edge → Bool
-strikes P s ws ms e = not (marked ms (e .head)) && held P s ws e
+abbrev pub marksHead : Property → ℕ → List ℕ → List Bool → Edge → Bool
+marksHead P s ws ms e = not (marked ms (e .head)) && held P s ws e
 
-pub record Struck (P : Property) (n s m : ℕ) (ts hs ws gs : List ℕ) (i : ℕ) (vs bs ds bs′ ds′ : List ℕ) : Type 0 where
+pub record HeadsMarked (P : Property) (n s m : ℕ) (ts hs ws gs : List ℕ) (i : ℕ) (vs bs ds bs′ ds′ : List ℕ) : Type 0 where
   pub going : Going n bs′ ds′
   pub grown : Grown (waitingOf bs) (waitingOf ds) (waitingOf bs′) (waitingOf ds′)
   pub named : (fs : List Edge) (g : ℕ) → i ≤ g → Missing m ts hs ws fs gs g → Named P (edges ts hs ws m) fs s vs (waitingOf bs)
       → Named P (edges ts hs ws m) fs s vs (waitingOf bs′)
-  pub struck : (j : ℕ) → j < i → held P s vs (edgeAt ts hs ws (getD gs j 0)) ≡ true → marked (waitingOf bs′) (getD hs (getD gs j 0) 0) ≡ true
+  pub heads : (j : ℕ) → j < i → held P s vs (edgeAt ts hs ws (getD gs j 0)) ≡ true → marked (waitingOf bs′) (getD hs (getD gs j 0) 0) ≡ true
 
 pub record Along (P : Property) (n s : ℕ) (hs ws : List ℕ) (u j k : ℕ) (vs bs ds bs′ ds′ : List ℕ) : Type 0 where
   pub going : Going n bs′ ds′

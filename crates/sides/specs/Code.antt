@@ -28,8 +28,8 @@ pub record Sized (k : ℕ) (xs ys : List ℕ) : Type 0 where
   pub back : length ys ≡ k
 
 pub record Scratch (k : ℕ) (gs bs xs ys : List ℕ) : Type 0 where
-  pub gone : maxEdges ≤ length gs
-  pub fresh : maxEdges ≤ length bs
+  pub removed : maxEdges ≤ length gs
+  pub added : maxEdges ≤ length bs
   pub rows : Sized k xs ys
 
 pub record SidesDone (n : ℕ) (ls : List ℕ) (w : Network) (fs : List Edge) (xs ys : List ℕ) (a : Rowed) : Type 0 where

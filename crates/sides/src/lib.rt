@@ -21,8 +21,8 @@ fn batch_sides(
     count: usize,
     forward: &[u32],
     backward: &[u32],
-    size1: usize,
-    gone: &[u32],
+    nremoved: usize,
+    removed: &[u32],
     firsts1: &[u32],
     rfirsts1: &[u32],
     rheads1: &[u32],
@@ -31,8 +31,8 @@ fn batch_sides(
     heads2: &[u32],
     weights2: &[u32],
     count2: usize,
-    size2: usize,
-    fresh: &[u32],
+    nadded: usize,
+    added: &[u32],
     firsts2: &[u32],
     rfirsts2: &[u32],
     rheads2: &[u32],
@@ -42,8 +42,8 @@ fn batch_sides(
 ) -> Rowed
     requires { ⌜ Fair n (now landmarks) (network (now tails) (now heads) (now weights) (now forward) (now backward) count) ⌝ }
     requires { ⌜ Tabled n count2 (now tails2) (now heads2) (now weights2) ⌝ }
-    requires { ⌜ Compared n count (now tails) (now heads) (now weights) (now gone) size1 (edges (now tails2) (now heads2) (now weights2) count2) ⌝ }
-    requires { ⌜ Compared n count2 (now tails2) (now heads2) (now weights2) (now fresh) size2 (edges (now tails) (now heads) (now weights) count) ⌝ }
+    requires { ⌜ Compared n count (now tails) (now heads) (now weights) (now removed) nremoved (edges (now tails2) (now heads2) (now weights2) count2) ⌝ }
+    requires { ⌜ Compared n count2 (now tails2) (now heads2) (now weights2) (now added) nadded (edges (now tails) (now heads) (now weights) count) ⌝ }
     requires { ⌜ Sized (rowCount (now landmarks) * n) (now ahead) (now back) ⌝ }
     requires { ⌜ Indexed n count (now firsts1) (now heads) (now weights) (edges (now tails) (now heads) (now weights) count) ⌝ }
     requires { ⌜ Indexed n count (now rfirsts1) (now rheads1) (now rweights1) (edges (now heads) (now tails) (now weights) count) ⌝ }
@@ -58,8 +58,8 @@ fn batch_sides(
         tails,
         heads,
         weights,
-        size1,
-        gone,
+        nremoved,
+        removed,
         firsts1,
         heads,
         weights,
@@ -67,8 +67,8 @@ fn batch_sides(
         tails2,
         heads2,
         weights2,
-        size2,
-        fresh,
+        nadded,
+        added,
         firsts2,
         heads2,
         weights2,
@@ -84,8 +84,8 @@ fn batch_sides(
         heads,
         tails,
         weights,
-        size1,
-        gone,
+        nremoved,
+        removed,
         rfirsts1,
         rheads1,
         rweights1,
@@ -93,8 +93,8 @@ fn batch_sides(
         heads2,
         tails2,
         weights2,
-        size2,
-        fresh,
+        nadded,
+        added,
         rfirsts2,
         rheads2,
         rweights2,
@@ -111,7 +111,7 @@ fn batch_sides(
 }
 
 // The new table is indexed, once for the rows of both sides, and then they are run.
-fn batch_indexed(
+fn index_new_then_run(
     n: usize,
     landmarks: &[u32],
     tails: &[u32],
@@ -120,8 +120,8 @@ fn batch_indexed(
     count: usize,
     forward: &[u32],
     backward: &[u32],
-    size1: usize,
-    gone: &[u32],
+    nremoved: usize,
+    removed: &[u32],
     firsts1: &[u32],
     rfirsts1: &[u32],
     rheads1: &[u32],
@@ -130,15 +130,15 @@ fn batch_indexed(
     heads2: &[u32],
     weights2: &[u32],
     count2: usize,
-    size2: usize,
-    fresh: &[u32],
+    nadded: usize,
+    added: &[u32],
     ahead: &mut [u32],
     back: &mut [u32],
 ) -> Rowed
     requires { ⌜ Fair n (now landmarks) (network (now tails) (now heads) (now weights) (now forward) (now backward) count) ⌝ }
     requires { ⌜ Tabled n count2 (now tails2) (now heads2) (now weights2) ⌝ }
-    requires { ⌜ Compared n count (now tails) (now heads) (now weights) (now gone) size1 (edges (now tails2) (now heads2) (now weights2) count2) ⌝ }
-    requires { ⌜ Compared n count2 (now tails2) (now heads2) (now weights2) (now fresh) size2 (edges (now tails) (now heads) (now weights) count) ⌝ }
+    requires { ⌜ Compared n count (now tails) (now heads) (now weights) (now removed) nremoved (edges (now tails2) (now heads2) (now weights2) count2) ⌝ }
+    requires { ⌜ Compared n count2 (now tails2) (now heads2) (now weights2) (now added) nadded (edges (now tails) (now heads) (now weights) count) ⌝ }
     requires { ⌜ Sized (rowCount (now landmarks) * n) (now ahead) (now back) ⌝ }
     requires { ⌜ Indexed n count (now firsts1) (now heads) (now weights) (edges (now tails) (now heads) (now weights) count) ⌝ }
     requires { ⌜ Indexed n count (now rfirsts1) (now rheads1) (now rweights1) (edges (now heads) (now tails) (now weights) count) ⌝ }
@@ -172,8 +172,8 @@ fn batch_indexed(
         count,
         forward,
         backward,
-        size1,
-        gone,
+        nremoved,
+        removed,
         firsts1,
         rfirsts1,
         rheads1,
@@ -182,8 +182,8 @@ fn batch_indexed(
         heads2,
         weights2,
         count2,
-        size2,
-        fresh,
+        nadded,
+        added,
         &firsts2,
         &rfirsts2,
         &rheads2,
@@ -194,7 +194,7 @@ fn batch_indexed(
 }
 
 // The old table is indexed, and then the new one, before the rows of both sides are run.
-fn batch_tables(
+fn index_old_then_run(
     n: usize,
     landmarks: &[u32],
     tails: &[u32],
@@ -203,21 +203,21 @@ fn batch_tables(
     count: usize,
     forward: &[u32],
     backward: &[u32],
-    size1: usize,
-    gone: &[u32],
+    nremoved: usize,
+    removed: &[u32],
     tails2: &[u32],
     heads2: &[u32],
     weights2: &[u32],
     count2: usize,
-    size2: usize,
-    fresh: &[u32],
+    nadded: usize,
+    added: &[u32],
     ahead: &mut [u32],
     back: &mut [u32],
 ) -> Rowed
     requires { ⌜ Fair n (now landmarks) (network (now tails) (now heads) (now weights) (now forward) (now backward) count) ⌝ }
     requires { ⌜ Tabled n count2 (now tails2) (now heads2) (now weights2) ⌝ }
-    requires { ⌜ Compared n count (now tails) (now heads) (now weights) (now gone) size1 (edges (now tails2) (now heads2) (now weights2) count2) ⌝ }
-    requires { ⌜ Compared n count2 (now tails2) (now heads2) (now weights2) (now fresh) size2 (edges (now tails) (now heads) (now weights) count) ⌝ }
+    requires { ⌜ Compared n count (now tails) (now heads) (now weights) (now removed) nremoved (edges (now tails2) (now heads2) (now weights2) count2) ⌝ }
+    requires { ⌜ Compared n count2 (now tails2) (now heads2) (now weights2) (now added) nadded (edges (now tails) (now heads) (now weights) count) ⌝ }
     requires { ⌜ Sized (rowCount (now landmarks) * n) (now ahead) (now back) ⌝ }
     ensures { λ r. ⌜ SidesDone n (now (landmarks .entry)) (network (now (tails .entry)) (now (heads .entry)) (now (weights .entry)) (now (forward .entry)) (now (backward .entry)) count) (edges (now (tails2 .entry)) (now (heads2 .entry)) (now (weights2 .entry)) count2) (now (ahead .exit)) (now (back .exit)) r ⌝ }
 {
@@ -240,7 +240,7 @@ fn batch_tables(
         &mut rheads1,
         &mut rweights1,
     );
-    batch_indexed(
+    index_new_then_run(
         n,
         landmarks,
         tails,
@@ -249,8 +249,8 @@ fn batch_tables(
         count,
         forward,
         backward,
-        size1,
-        gone,
+        nremoved,
+        removed,
         &firsts1,
         &rfirsts1,
         &rheads1,
@@ -259,15 +259,15 @@ fn batch_tables(
         heads2,
         weights2,
         count2,
-        size2,
-        fresh,
+        nadded,
+        added,
         ahead,
         back,
     )
 }
 
-// A batch's rows from the two tables alone: they are compared, which lists the removed edges in `gone` and the added ones in `fresh`,
-// and then indexed, once for all rows.
+// A batch's rows from the two tables alone: they are compared, which lists the removed and the added edges by their indices in `removed`
+// and `added`, and then indexed, once for all rows.
 pub fn batch_runs(
     n: u32,
     landmarks: &[u32],
@@ -281,17 +281,17 @@ pub fn batch_runs(
     heads2: &[u32],
     weights2: &[u32],
     count2: usize,
-    gone: &mut [u32],
-    fresh: &mut [u32],
+    removed: &mut [u32],
+    added: &mut [u32],
     ahead: &mut [u32],
     back: &mut [u32],
 ) -> Rowed
     requires { ⌜ Fair n (now landmarks) (network (now tails) (now heads) (now weights) (now forward) (now backward) count) ⌝ }
     requires { ⌜ Tabled n count2 (now tails2) (now heads2) (now weights2) ⌝ }
-    requires { ⌜ Scratch (rowCount (now landmarks) * n) (now gone) (now fresh) (now ahead) (now back) ⌝ }
+    requires { ⌜ Scratch (rowCount (now landmarks) * n) (now removed) (now added) (now ahead) (now back) ⌝ }
     ensures { λ r. ⌜ SidesDone n (now (landmarks .entry)) (network (now (tails .entry)) (now (heads .entry)) (now (weights .entry)) (now (forward .entry)) (now (backward .entry)) count) (edges (now (tails2 .entry)) (now (heads2 .entry)) (now (weights2 .entry)) count2) (now (ahead .exit)) (now (back .exit)) r ⌝ }
 {
-    let size1 = compare::missing(
+    let nremoved = compare::find_missing(
         n,
         count,
         tails,
@@ -301,9 +301,9 @@ pub fn batch_runs(
         tails2,
         heads2,
         weights2,
-        gone,
+        removed,
     );
-    let size2 = compare::missing(
+    let nadded = compare::find_missing(
         n,
         count2,
         tails2,
@@ -313,9 +313,9 @@ pub fn batch_runs(
         tails,
         heads,
         weights,
-        fresh,
+        added,
     );
-    batch_tables(
+    index_old_then_run(
         n as usize,
         landmarks,
         tails,
@@ -324,14 +324,14 @@ pub fn batch_runs(
         count,
         forward,
         backward,
-        size1,
-        gone,
+        nremoved,
+        removed,
         tails2,
         heads2,
         weights2,
         count2,
-        size2,
-        fresh,
+        nadded,
+        added,
         ahead,
         back,
     )

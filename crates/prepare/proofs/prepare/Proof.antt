@@ -19,8 +19,8 @@ mark-affected-requires c κs =
     let s = c .before .before .before .before .before .before .before .before .before .before .before .before .before .before .before .before .before in
     (s .pre .0, s .pre .1 .0)
 
-cleared-requires : tie.Need-cleared-requires
-cleared-requires c κs =
+copy-cleared-requires : tie.Need-copy-cleared-requires
+copy-cleared-requires c κs =
     let m = c .before .before in
     let s = m .before .before .before .before .before .before .before .before .before .before .before .before .before .before .before .before .before .before in
     (m .mark-affected .ensures .1, s .pre .0 .words, s .pre .1 .1 .1 .0 .1)
@@ -49,7 +49,7 @@ returns c =
     let ms = m .mark-affected .last .1 .1 .1 .1 .1 .1 .1 .1 .1 .1 .1 .1 .1 .0 in
     let p = s .pre .1 .1 .1 in
     let e : bits (a .n) ms ≡ affected (property (a .p)) es fs (a .s) (a .words .now) (a .n) = m .mark-affected .ensures .0 fs (p .1 .0) in (
-      prepared-made (property (a .p)) es fs (a .s) (a .n) (a .words .now) e (w .cleared .ensures)
+      prepared-made (property (a .p)) es fs (a .s) (a .n) (a .words .now) e (w .copy-cleared .ensures)
           (o .reopen .ensures .0 (a .heads2 .now) (a .weights2 .now) es (p .0 .0) (p .1 .1) (s .pre .1 .1 .0 .1)),
       (c .count .ensures ∙ bits-count (a .n) ms (m .mark-affected .ensures .1) ∙ ap countOf e, o .reopen .ensures .1),
     )
@@ -60,7 +60,7 @@ prepare-spec =
     (tie.spec
     empty-requires
     mark-affected-requires
-    cleared-requires
+    copy-cleared-requires
     reopen-requires
     count-requires
     same-length
