@@ -13,7 +13,7 @@ ghost use Rattle.graph.specs.Code.{Room, edgeAt};
 ghost use Rattle.compare.specs.Code.{Missing, Passed};
 
 // How many edges of a table precede a pair, where the first `from` do: those that follow are gone over until one does not.
-pub fn skip(
+fn skip(
     t: u32,
     h: u32,
     from: usize,
@@ -37,7 +37,7 @@ pub fn skip(
 }
 
 // Whether an edge stands in a table, by its three words, where `j` edges precede its pair.
-pub fn stands(
+fn stands(
     n: u32,
     t: u32,
     h: u32,
@@ -61,7 +61,7 @@ pub fn stands(
 }
 
 // From where the search for the next edge goes on: past the one that was found.
-pub fn past(there: bool, j: usize) -> usize
+fn past(there: bool, j: usize) -> usize
     requires { ⌜ j ≤ maxEdges ⌝ }
     ensures { λ r. ⌜ r ≡ cond there (j + 1) j ⌝ }
 {
@@ -70,7 +70,7 @@ pub fn past(there: bool, j: usize) -> usize
 
 // Index `k` is stored after the `size` that are listed, and counts where its edge is missing; where it is there the next store goes over
 // it. Answers how many are listed.
-pub fn note(there: bool, k: usize, list: &mut [u32], size: usize) -> usize
+fn note(there: bool, k: usize, list: &mut [u32], size: usize) -> usize
     requires { ⌜ (size < length (now list)) × (k < maxEdges) ⌝ }
     ensures { λ r. ⌜ (now (list .exit) ≡ set (now (list .entry)) size k) × (r ≡ cond there size (size + 1)) ⌝ }
 {

@@ -24,7 +24,7 @@ ghost use Rattle.prepare.specs.Code.{Before, Into, After, Inward, Going,
 
 // Whether the edge from a vertex with word `v`, of weight `w`, holds up its head `h`, whose word is `x`: it is tight, and the head
 // is not the landmark `s` and has a route.
-pub fn is_held(p: u32, s: u32, v: u32, w: u32, h: u32, x: u32) -> bool
+fn is_held(p: u32, s: u32, v: u32, w: u32, h: u32, x: u32) -> bool
     ensures { λ r. ⌜ r ≡ spec.holds (property p) s v w h x ⌝ }
 {
     property::along(p, v, w) == x && (h != s && x != property::none(p))
@@ -32,7 +32,7 @@ pub fn is_held(p: u32, s: u32, v: u32, w: u32, h: u32, x: u32) -> bool
 
 // An edge from `t` to `h` that is removed, or whose tail is marked: where it holds its head up, the head is marked, and is to do where
 // that mark is one more.
-pub fn mark_head(
+fn mark_head(
     p: u32,
     n: usize,
     s: u32,
@@ -60,7 +60,7 @@ pub fn mark_head(
 
 // The removed edges mark the heads that they held up: `removed` has their indices, `nremoved` of them, so that a row in which none is
 // held costs a few steps for each.
-pub fn mark_removed_heads(
+fn mark_removed_heads(
     p: u32,
     n: usize,
     s: u32,
@@ -89,7 +89,7 @@ pub fn mark_removed_heads(
 // Marks go on from vertex `u` along its old edges, by the index of the old table: they stand from `firsts[u]` to before `firsts[u + 1]`
 // in `iheads` and `iweights`, which have their heads and weights. None is asked whether it is removed: a removed edge that holds its
 // head up has marked that head already, so that going along it marks nothing more.
-pub fn spread_from(
+fn spread_from(
     p: u32,
     n: usize,
     s: u32,
@@ -125,7 +125,7 @@ pub fn spread_from(
 }
 
 // Marks go on from every vertex that is to do, and from those that get marked: the edges of a vertex are gone along once.
-pub fn spread(
+fn spread(
     p: u32,
     n: usize,
     s: u32,
@@ -164,7 +164,7 @@ pub fn spread(
 }
 
 // The affected vertices: marks are cleared, the removed edges mark heads, and marks spread along the index of the old edges.
-pub fn mark_affected(
+fn mark_affected(
     p: u32,
     n: usize,
     s: u32,
@@ -218,7 +218,7 @@ pub fn mark_affected(
 // ---- where the rounds start
 
 // The marked vertices of a row have no route.
-pub fn clear_marked(p: u32, n: usize, marks: &Words, out: &mut [u32])
+fn clear_marked(p: u32, n: usize, marks: &Words, out: &mut [u32])
     requires { ⌜ Marks n (now marks) × (length (now out) ≡ n) ⌝ }
     ensures { λ _. ⌜ now (out .exit) ≡ start.cleared (property p) (bits n (now (marks .entry))) (now (out .entry)) n ⌝ }
 {
@@ -234,7 +234,7 @@ pub fn clear_marked(p: u32, n: usize, marks: &Words, out: &mut [u32])
 }
 
 // The row's words, with no route for the marked vertices.
-pub fn copy_cleared(p: u32, n: usize, marks: &Words, words: &[u32], out: &mut [u32])
+fn copy_cleared(p: u32, n: usize, marks: &Words, words: &[u32], out: &mut [u32])
     requires { ⌜ Marks n (now marks) × (length (now words) ≡ n) × (length (now out) ≡ n) ⌝ }
     ensures { λ _. ⌜ now (out .exit) ≡ start.cleared (property p) (bits n (now (marks .entry))) (now (words .entry)) n ⌝ }
 {
@@ -243,7 +243,7 @@ pub fn copy_cleared(p: u32, n: usize, marks: &Words, words: &[u32], out: &mut [u
 }
 
 // The tails of the added edges wait: `added` has their indices, `nadded` of them.
-pub fn wake_added(
+fn wake_added(
     n: usize,
     count: usize,
     tails: &[u32],
@@ -267,14 +267,7 @@ pub fn wake_added(
 
 // The tails of the new edges into vertex `v` wait, by the reversed index of the new table: the reversed edges of `v` stand from
 // `rfirsts[v]` to before `rfirsts[v + 1]` in `rheads`, whose heads are the tails.
-pub fn wake_into(
-    n: usize,
-    count: usize,
-    v: usize,
-    rfirsts: &[u32],
-    rheads: &[u32],
-    waiting: &mut Words,
-)
+fn wake_into(n: usize, count: usize, v: usize, rfirsts: &[u32], rheads: &[u32], waiting: &mut Words)
     requires { ⌜ (v < n) × Into n count (now rfirsts) (now rheads) × Marks n (now waiting) ⌝ }
     ensures { λ _. ⌜ Raised (waitingOf (now (waiting .entry))) (waitingOf (now (waiting .exit))) (λ t. (k : ℕ) × (getD (now (rfirsts .entry)) v 0 ≤ k) × (k < getD (now (rfirsts .entry)) (v + 1) 0) × (getD (now (rheads .entry)) k 0 ≡ t)) ⌝ }
     ensures { λ _. ⌜ Marks n (now (waiting .exit)) ⌝ }
@@ -288,7 +281,7 @@ pub fn wake_into(
 }
 
 // The tails of the new edges into marked vertices wait.
-pub fn wake_marked(
+fn wake_marked(
     n: usize,
     count: usize,
     rfirsts: &[u32],
@@ -312,7 +305,7 @@ pub fn wake_marked(
 }
 
 // Who waits: the tails of all added edges, and of all new edges into marked vertices, by the reversed index.
-pub fn reopen(
+fn reopen(
     n: usize,
     count: usize,
     tails: &[u32],
