@@ -5,6 +5,11 @@
 --                                   by which their tails are read
 --   Into n m is xs               == an index of m edges by their heads, below n: where those into each vertex start in xs, which has their tails
 --   Inward n is xs fs            == that index has the edges fs
+--   Compared n m ts hs ws gs g fs == m edges between n vertices, and the g indices of those that are absent from fs
+--   Indexed n m is hs ws es      == an index by which the edges es are read, tail by tail
+--   Entered n m is xs es         == an index by which the tails of those of m edges es that lead into a vertex are read
+--   Batched .. m′ ..             == a table of m edges, with those that a batch removed and its index, beside the table of m′ edges after the
+--                                   batch, with those that it added and the index of the edges into each vertex
 --   Going n bs ds                == marks bs, and ds, the marked vertices from which marks are still to go on
 --   Grown ms ds ms′ ds′          == marks ms with the vertices ds to do became ms′ and ds′: none was taken away, and each new mark is to do
 --   marksHead P s ws ms e        == e marks its head: it holds it up, and the head has no mark yet
@@ -24,6 +29,7 @@ use Rattle.frontier.specs.Waiting.{waitingOf, countOf}
 use Rattle.graph.specs.Limits.{maxVertices}
 use Rattle.graph.specs.Edge.{Edge, edge, edges}
 use Rattle.graph.specs.Code.{Room, edgeAt}
+use Rattle.graph.specs.Own.{Fit, Own}
 use Rattle.run.specs.Code.{Marks}
 use Rattle.affected.specs.Affected.{Named, held, marked}
 use Rattle.compare.specs.Code.{Missing, Ends}
@@ -55,6 +61,25 @@ pub record After (n m : ℕ) (ts gs : List ℕ) (g : ℕ) (is xs : List ℕ) : T
 pub record Inward (n : ℕ) (is xs : List ℕ) (fs : List Edge) : Type 0 where
   pub reads : (v k : ℕ) → v < n → getD is v 0 ≤ k → k < getD is (v + 1) 0 → (w : ℕ) × List·Memᴰ (edge (getD xs k 0) v w) fs
   pub whole : (e : Edge) → List·Memᴰ e fs → (k : ℕ) × (getD is (e .head) 0 ≤ k) × (k < getD is (e .head + 1) 0) × (getD xs k 0 ≡ e .tail)
+
+pub record Compared (n m : ℕ) (ts hs ws gs : List ℕ) (g : ℕ) (fs : List Edge) : Type 0 where
+  pub room : Room m ts hs ws
+  pub ends : Ends n m ts hs
+  pub missing : Missing m ts hs ws fs gs g
+
+pub record Indexed (n m : ℕ) (is hs ws : List ℕ) (es : List Edge) : Type 0 where
+  pub fit : Fit n m is hs ws
+  pub own : Own n is hs ws es
+
+pub record Entered (n m : ℕ) (is xs : List ℕ) (es : List Edge) : Type 0 where
+  pub index : Into n m is xs
+  pub inward : Inward n is xs es
+
+pub record Batched (n m : ℕ) (ts hs ws gs : List ℕ) (g : ℕ) (is xs vs : List ℕ) (m′ : ℕ) (ts′ hs′ ws′ gs′ : List ℕ) (g′ : ℕ) (is′ xs′ : List ℕ) : Type 0 where
+  pub removed : Compared n m ts hs ws gs g (edges ts′ hs′ ws′ m′)
+  pub added : Compared n m′ ts′ hs′ ws′ gs′ g′ (edges ts hs ws m)
+  pub index : Indexed n m is xs vs (edges ts hs ws m)
+  pub into : Entered n m′ is′ xs′ (edges ts′ hs′ ws′ m′)
 
 -- ---- how marks go on
 

@@ -18,7 +18,7 @@ ghost use Rattle.run.specs.Code.{bits, Marks};
 ghost use Rattle.affected.specs.Affected as spec;
 ghost use Rattle.affected.specs.Prepared as start;
 ghost use Rattle.compare.specs.Code.{Missing};
-ghost use Rattle.prepare.specs.Code.{Before, Into, After, Inward, Going, marksHead, HeadsMarked, Along, Spreads, Raised};
+ghost use Rattle.prepare.specs.Code.{Before, Into, After, Inward, Indexed, Batched, Going, marksHead, HeadsMarked, Along, Spreads, Raised};
 
 // ---- who is affected
 
@@ -181,7 +181,7 @@ fn mark_affected(
     marks: &mut Words,
 )
     requires { ⌜ Before n count (now tails) (now heads) (now weights) (now removed) nremoved (now words) ⌝ }
-    requires { ⌜ Fit n count (now firsts) (now iheads) (now iweights) × Own n (now firsts) (now iheads) (now iweights) (edges (now tails) (now heads) (now weights) count) ⌝ }
+    requires { ⌜ Indexed n count (now firsts) (now iheads) (now iweights) (edges (now tails) (now heads) (now weights) count) ⌝ }
     ensures { λ _. ⌜ ((fs : List Edge) → Missing count (now (tails .entry)) (now (heads .entry)) (now (weights .entry)) fs (now (removed .entry)) nremoved → bits n (now (marks .exit)) ≡ spec.affected (property p) (edges (now (tails .entry)) (now (heads .entry)) (now (weights .entry)) count) fs s (now (words .entry)) n) ⌝ }
     ensures { λ _. ⌜ Marks n (now (marks .exit)) ⌝ }
 {
@@ -353,12 +353,8 @@ pub fn prepare(
     out: &mut [u32],
     waiting: &mut Words,
 ) -> u64
-    requires { ⌜ Before n count1 (now tails1) (now heads1) (now weights1) (now removed) nremoved (now words) ⌝ }
-    requires { ⌜ Fit n count1 (now firsts1) (now iheads1) (now iweights1) × Own n (now firsts1) (now iheads1) (now iweights1) (edges (now tails1) (now heads1) (now weights1) count1) ⌝ }
-    requires { ⌜ After n count2 (now tails2) (now added) nadded (now rfirsts2) (now rheads2) × Inward n (now rfirsts2) (now rheads2) (edges (now tails2) (now heads2) (now weights2) count2) ⌝ }
-    requires { ⌜ Room count2 (now tails2) (now heads2) (now weights2) × (length (now out) ≡ n) ⌝ }
-    requires { ⌜ Missing count1 (now tails1) (now heads1) (now weights1) (edges (now tails2) (now heads2) (now weights2) count2) (now removed) nremoved ⌝ }
-    requires { ⌜ Missing count2 (now tails2) (now heads2) (now weights2) (edges (now tails1) (now heads1) (now weights1) count1) (now added) nadded ⌝ }
+    requires { ⌜ Batched n count1 (now tails1) (now heads1) (now weights1) (now removed) nremoved (now firsts1) (now iheads1) (now iweights1) count2 (now tails2) (now heads2) (now weights2) (now added) nadded (now rfirsts2) (now rheads2) ⌝ }
+    requires { ⌜ (length (now words) ≡ n) × (length (now out) ≡ n) ⌝ }
     ensures { λ r. ⌜ record { words = now (out .exit); waiting = bits n (now (waiting .exit)); tally = noTally } ≡ start.prepared (property p) (edges (now (tails1 .entry)) (now (heads1 .entry)) (now (weights1 .entry)) count1) (edges (now (tails2 .entry)) (now (heads2 .entry)) (now (weights2 .entry)) count2) s (now (words .entry)) n ⌝ }
     ensures { λ r. ⌜ r ≡ countOf (spec.affected (property p) (edges (now (tails1 .entry)) (now (heads1 .entry)) (now (weights1 .entry)) count1) (edges (now (tails2 .entry)) (now (heads2 .entry)) (now (weights2 .entry)) count2) s (now (words .entry)) n) ⌝ }
     ensures { λ r. ⌜ Marks n (now (waiting .exit)) ⌝ }

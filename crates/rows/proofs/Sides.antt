@@ -12,10 +12,11 @@ use Rattle.graph.proofs.Records.{room-less}
 use Rattle.graph.proofs.Own.{own-table, fit-table, keyed-tails, keyed-heads, own-reversed, fit-reversed}
 use Rattle.compare.specs.Code.{Missing, Ends}
 use Rattle.compare.proofs.Reversed.{ends-rules, ends-reverse, edges-reverse, missing-reverse}
+use Rattle.prepare.specs.Code.{Compared, Indexed, Entered}
 use Rattle.prepare.proofs.Spreading.{edge-head, own-reads, own-whole}
 use Rattle.rows.specs.declared.Rowed.{Rowed}
 use Rattle.calls.specs.Code.{Tabled}
-use Rattle.rows.specs.Code.{Compared, Indexed, Entered, RowsDone}
+use Rattle.rows.specs.Code.{RowsDone}
 
 -- ---- a table beside another
 

@@ -11,7 +11,7 @@ ghost use Rattle.graph.specs.Edge.{edges};
 ghost use Rattle.graph.specs.Code.{Room};
 ghost use Rattle.network.specs.Network.{rowCount};
 ghost use Rattle.calls.specs.Code.{Placed, Tabled};
-ghost use Rattle.rows.specs.Code.{Compared, Indexed, Entered, RowDone, RowsDone};
+ghost use Rattle.rows.specs.Code.{Lined, Indices, RowDone, RowsDone};
 
 // What runs of rows come to: whether some vertex still waits, how many vertices are affected, how many stores there were.
 pub struct Rowed {
@@ -49,11 +49,7 @@ fn batch_row(
     out: &mut [u32],
 ) -> Rowed
     requires { ⌜ (r < rowCount (now landmarks)) × Placed n (now landmarks) × (length (now words) ≡ n) × (length (now out) ≡ n) ⌝ }
-    requires { ⌜ Compared n count1 (now tails1) (now heads1) (now weights1) (now removed) nremoved (edges (now tails2) (now heads2) (now weights2) count2) ⌝ }
-    requires { ⌜ Compared n count2 (now tails2) (now heads2) (now weights2) (now added) nadded (edges (now tails1) (now heads1) (now weights1) count1) ⌝ }
-    requires { ⌜ Indexed n count1 (now firsts1) (now iheads1) (now iweights1) (edges (now tails1) (now heads1) (now weights1) count1) ⌝ }
-    requires { ⌜ Indexed n count2 (now firsts2) (now iheads2) (now iweights2) (edges (now tails2) (now heads2) (now weights2) count2) ⌝ }
-    requires { ⌜ Entered n count2 (now rfirsts2) (now rheads2) (edges (now tails2) (now heads2) (now weights2) count2) ⌝ }
+    requires { ⌜ Lined n count1 (now tails1) (now heads1) (now weights1) (now removed) nremoved (now firsts1) (now iheads1) (now iweights1) count2 (now tails2) (now heads2) (now weights2) (now added) nadded (now firsts2) (now iheads2) (now iweights2) (now rfirsts2) (now rheads2) ⌝ }
     ensures { λ a. ⌜ RowDone n (now (landmarks .entry)) (edges (now (tails1 .entry)) (now (heads1 .entry)) (now (weights1 .entry)) count1) (edges (now (tails2 .entry)) (now (heads2 .entry)) (now (weights2 .entry)) count2) (now (words .entry)) r (now (out .exit)) a ⌝ }
 {
     let p = (r % 5) as u32 + 1;
@@ -120,11 +116,7 @@ pub fn batch_rows(
     out: &mut [u32],
 ) -> Rowed
     requires { ⌜ Placed n (now landmarks) × (rowCount (now landmarks) * n ≤ length (now rows)) × (length (now out) ≡ rowCount (now landmarks) * n) ⌝ }
-    requires { ⌜ Compared n count1 (now tails1) (now heads1) (now weights1) (now removed) nremoved (edges (now tails2) (now heads2) (now weights2) count2) ⌝ }
-    requires { ⌜ Compared n count2 (now tails2) (now heads2) (now weights2) (now added) nadded (edges (now tails1) (now heads1) (now weights1) count1) ⌝ }
-    requires { ⌜ Indexed n count1 (now firsts1) (now iheads1) (now iweights1) (edges (now tails1) (now heads1) (now weights1) count1) ⌝ }
-    requires { ⌜ Indexed n count2 (now firsts2) (now iheads2) (now iweights2) (edges (now tails2) (now heads2) (now weights2) count2) ⌝ }
-    requires { ⌜ Entered n count2 (now rfirsts2) (now rheads2) (edges (now tails2) (now heads2) (now weights2) count2) ⌝ }
+    requires { ⌜ Lined n count1 (now tails1) (now heads1) (now weights1) (now removed) nremoved (now firsts1) (now iheads1) (now iweights1) count2 (now tails2) (now heads2) (now weights2) (now added) nadded (now firsts2) (now iheads2) (now iweights2) (now rfirsts2) (now rheads2) ⌝ }
     ensures { λ a. ⌜ RowsDone n (now (landmarks .entry)) (edges (now (tails1 .entry)) (now (heads1 .entry)) (now (weights1 .entry)) count1) (edges (now (tails2 .entry)) (now (heads2 .entry)) (now (weights2 .entry)) count2) (now (rows .entry)) (now (out .exit)) a ⌝ }
 {
     let size = landmarks.len() * 5;
@@ -190,8 +182,7 @@ pub fn index_table(
 )
     requires { ⌜ (n ≤ maxVertices) × Tabled n count (now tails) (now heads) (now weights) ⌝ }
     requires { ⌜ (n < length (now firsts)) × (n < length (now free)) × (n < length (now rfirsts)) × Room count (now rtails) (now rheads) (now rweights) ⌝ }
-    ensures { λ _. ⌜ Indexed n count (now (firsts .exit)) (now (heads .entry)) (now (weights .entry)) (edges (now (tails .entry)) (now (heads .entry)) (now (weights .entry)) count) ⌝ }
-    ensures { λ _. ⌜ Indexed n count (now (rfirsts .exit)) (now (rheads .exit)) (now (rweights .exit)) (edges (now (heads .entry)) (now (tails .entry)) (now (weights .entry)) count) ⌝ }
+    ensures { λ _. ⌜ Indices n count (now (tails .entry)) (now (heads .entry)) (now (weights .entry)) (now (firsts .exit)) (now (rfirsts .exit)) (now (rheads .exit)) (now (rweights .exit)) ⌝ }
 {
     index::index(n, count, tails, firsts);
     index::reverse_table(

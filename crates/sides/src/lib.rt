@@ -1,14 +1,12 @@
 // The rows of both sides of a batch: the two tables are compared and indexed once, then each side's rows are run, all in scratch lists.
-// Lists 2 are the new table.
+// Lists 2 are the new table, and an `r` stands before the lists of a reversed table and its index.
 use rows::Rowed;
-ghost use mathlib.Core.Path.{_≡_};
 ghost use Prim.Native.Nat.{_*_};
-ghost use lib.ListN.{length};
 ghost use Rattle.graph.specs.Edge.{edges};
 ghost use Rattle.network.specs.Network.{rowCount};
 ghost use Rattle.calls.specs.Code.{network, Tabled};
-ghost use Rattle.rows.specs.Code.{Compared, Indexed};
-ghost use Rattle.sides.specs.Code.{Fair, Sized, Scratch, SidesDone};
+ghost use Rattle.rows.specs.Code.{Indices};
+ghost use Rattle.sides.specs.Code.{Fair, Sides, Scratch, SidesDone};
 
 // All rows of both lists, with both tables compared and indexed: the new rows go to `ahead` and `back`. Backward rows read the lists with
 // tails and heads changed over, and the index of the reversed table; the index of the edges into a vertex is that of the other side.
@@ -40,15 +38,9 @@ fn batch_sides(
     ahead: &mut [u32],
     back: &mut [u32],
 ) -> Rowed
-    requires { ⌜ Fair n (now landmarks) (network (now tails) (now heads) (now weights) (now forward) (now backward) count) ⌝ }
-    requires { ⌜ Tabled n count2 (now tails2) (now heads2) (now weights2) ⌝ }
-    requires { ⌜ Compared n count (now tails) (now heads) (now weights) (now removed) nremoved (edges (now tails2) (now heads2) (now weights2) count2) ⌝ }
-    requires { ⌜ Compared n count2 (now tails2) (now heads2) (now weights2) (now added) nadded (edges (now tails) (now heads) (now weights) count) ⌝ }
-    requires { ⌜ Sized (rowCount (now landmarks) * n) (now ahead) (now back) ⌝ }
-    requires { ⌜ Indexed n count (now firsts1) (now heads) (now weights) (edges (now tails) (now heads) (now weights) count) ⌝ }
-    requires { ⌜ Indexed n count (now rfirsts1) (now rheads1) (now rweights1) (edges (now heads) (now tails) (now weights) count) ⌝ }
-    requires { ⌜ Indexed n count2 (now firsts2) (now heads2) (now weights2) (edges (now tails2) (now heads2) (now weights2) count2) ⌝ }
-    requires { ⌜ Indexed n count2 (now rfirsts2) (now rheads2) (now rweights2) (edges (now heads2) (now tails2) (now weights2) count2) ⌝ }
+    requires { ⌜ Sides n (now landmarks) (network (now tails) (now heads) (now weights) (now forward) (now backward) count) count2 (now tails2) (now heads2) (now weights2) (now removed) nremoved (now added) nadded (now ahead) (now back) ⌝ }
+    requires { ⌜ Indices n count (now tails) (now heads) (now weights) (now firsts1) (now rfirsts1) (now rheads1) (now rweights1) ⌝ }
+    requires { ⌜ Indices n count2 (now tails2) (now heads2) (now weights2) (now firsts2) (now rfirsts2) (now rheads2) (now rweights2) ⌝ }
     ensures { λ r. ⌜ SidesDone n (now (landmarks .entry)) (network (now (tails .entry)) (now (heads .entry)) (now (weights .entry)) (now (forward .entry)) (now (backward .entry)) count) (edges (now (tails2 .entry)) (now (heads2 .entry)) (now (weights2 .entry)) count2) (now (ahead .exit)) (now (back .exit)) r ⌝ }
 {
     let f = rows::batch_rows(
@@ -135,13 +127,8 @@ fn index_new_then_run(
     ahead: &mut [u32],
     back: &mut [u32],
 ) -> Rowed
-    requires { ⌜ Fair n (now landmarks) (network (now tails) (now heads) (now weights) (now forward) (now backward) count) ⌝ }
-    requires { ⌜ Tabled n count2 (now tails2) (now heads2) (now weights2) ⌝ }
-    requires { ⌜ Compared n count (now tails) (now heads) (now weights) (now removed) nremoved (edges (now tails2) (now heads2) (now weights2) count2) ⌝ }
-    requires { ⌜ Compared n count2 (now tails2) (now heads2) (now weights2) (now added) nadded (edges (now tails) (now heads) (now weights) count) ⌝ }
-    requires { ⌜ Sized (rowCount (now landmarks) * n) (now ahead) (now back) ⌝ }
-    requires { ⌜ Indexed n count (now firsts1) (now heads) (now weights) (edges (now tails) (now heads) (now weights) count) ⌝ }
-    requires { ⌜ Indexed n count (now rfirsts1) (now rheads1) (now rweights1) (edges (now heads) (now tails) (now weights) count) ⌝ }
+    requires { ⌜ Sides n (now landmarks) (network (now tails) (now heads) (now weights) (now forward) (now backward) count) count2 (now tails2) (now heads2) (now weights2) (now removed) nremoved (now added) nadded (now ahead) (now back) ⌝ }
+    requires { ⌜ Indices n count (now tails) (now heads) (now weights) (now firsts1) (now rfirsts1) (now rheads1) (now rweights1) ⌝ }
     ensures { λ r. ⌜ SidesDone n (now (landmarks .entry)) (network (now (tails .entry)) (now (heads .entry)) (now (weights .entry)) (now (forward .entry)) (now (backward .entry)) count) (edges (now (tails2 .entry)) (now (heads2 .entry)) (now (weights2 .entry)) count2) (now (ahead .exit)) (now (back .exit)) r ⌝ }
 {
     let mut free = [0u32; graph::INDEX_WORDS];
@@ -214,11 +201,7 @@ fn index_old_then_run(
     ahead: &mut [u32],
     back: &mut [u32],
 ) -> Rowed
-    requires { ⌜ Fair n (now landmarks) (network (now tails) (now heads) (now weights) (now forward) (now backward) count) ⌝ }
-    requires { ⌜ Tabled n count2 (now tails2) (now heads2) (now weights2) ⌝ }
-    requires { ⌜ Compared n count (now tails) (now heads) (now weights) (now removed) nremoved (edges (now tails2) (now heads2) (now weights2) count2) ⌝ }
-    requires { ⌜ Compared n count2 (now tails2) (now heads2) (now weights2) (now added) nadded (edges (now tails) (now heads) (now weights) count) ⌝ }
-    requires { ⌜ Sized (rowCount (now landmarks) * n) (now ahead) (now back) ⌝ }
+    requires { ⌜ Sides n (now landmarks) (network (now tails) (now heads) (now weights) (now forward) (now backward) count) count2 (now tails2) (now heads2) (now weights2) (now removed) nremoved (now added) nadded (now ahead) (now back) ⌝ }
     ensures { λ r. ⌜ SidesDone n (now (landmarks .entry)) (network (now (tails .entry)) (now (heads .entry)) (now (weights .entry)) (now (forward .entry)) (now (backward .entry)) count) (edges (now (tails2 .entry)) (now (heads2 .entry)) (now (weights2 .entry)) count2) (now (ahead .exit)) (now (back .exit)) r ⌝ }
 {
     let mut free = [0u32; graph::INDEX_WORDS];

@@ -23,7 +23,7 @@ spread-requires : tie.Need-spread-requires
 spread-requires c κs =
     let r = c .before .before in
     let s = r .before .before .before .before .before .before .before .before .before .before .before .before .before .before in
-    (s .pre .0 .words, s .pre .1 .0, r .mark-removed-heads .ensures .going)
+    (s .pre .0 .words, s .pre .1 .fit, r .mark-removed-heads .ensures .going)
 
 returns : tie.Need-returns
 returns c =
@@ -34,7 +34,7 @@ returns c =
     let a = s .args in
     let w = c .spread .ensures in (
       marks-found (property (a .p)) (a .n) (a .s) (a .count) (a .tails .now) (a .heads .now) (a .weights .now) (a .removed .now) (a .nremoved) (a .words .now) (s .pre .0)
-          _ _ _ _ _ _ (k .clear .ensures) (e .empty .ensures) (r .mark-removed-heads .ensures) (w .0 (edges (a .tails .now) (a .heads .now) (a .weights .now) (a .count)) (s .pre .1 .1)) (w .1 .0) (w .1 .1),
+          _ _ _ _ _ _ (k .clear .ensures) (e .empty .ensures) (r .mark-removed-heads .ensures) (w .0 (edges (a .tails .now) (a .heads .now) (a .weights .now) (a .count)) (s .pre .1 .own)) (w .1 .0) (w .1 .1),
       w .1 .0 .marks,
     )
 

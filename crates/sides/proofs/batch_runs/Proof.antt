@@ -36,7 +36,13 @@ index-old-then-run-requires c κs =
     let s = start (g .before) in
     let few = s .pre .0 .few in
     let z = s .pre .1 .1 in
-    (s .pre .0, (s .pre .1 .0, (compared-made _ _ _ _ _ _ _ _ few (s .pre .0 .table) (g .find-missing .ensures), (compared-made _ _ _ _ _ _ _ _ few (s .pre .1 .0) (f .find-missing2 .ensures), z .rows))))
+    record {
+      fair = s .pre .0;
+      table = s .pre .1 .0;
+      removed = compared-made _ _ _ _ _ _ _ _ few (s .pre .0 .table) (g .find-missing .ensures);
+      added = compared-made _ _ _ _ _ _ _ _ few (s .pre .1 .0) (f .find-missing2 .ensures);
+      rows = z .rows;
+    }
 
 same-length : tie.Need-same-length
 same-length c = search needs

@@ -30,8 +30,8 @@ start c = c .before .before .before .before .before .before .before .before .bef
 index-table-requires : tie.Need-index-table-requires
 index-table-requires c κs =
     let s = start c in
-    let t = s .pre .1 .0 in
-    let few : s .args .n ≤ maxVertices = s .pre .0 .few in
+    let t = s .pre .0 .table in
+    let few : s .args .n ≤ maxVertices = s .pre .0 .fair .few in
     ((few, t), (omega arith, omega arith, omega arith, record { tails = t .few; heads = t .few; weights = t .few }))
 
 slice-aggregate-batch-sides : tie.Need-slice-aggregate-batch-sides
@@ -50,7 +50,7 @@ batch-sides-requires : tie.Need-batch-sides-requires
 batch-sides-requires c κs =
     let v = c .before .before .before .before .before .before .before .before .before .before .before .before in
     let s = start (v .before) in
-    (s .pre .0, (s .pre .1 .0, (s .pre .1 .1 .0, (s .pre .1 .1 .1 .0, (s .pre .1 .1 .1 .1 .0, (s .pre .1 .1 .1 .1 .1 .0, (s .pre .1 .1 .1 .1 .1 .1, (v .index-table .ensures .0, v .index-table .ensures .1))))))))
+    (s .pre .0, (s .pre .1, v .index-table .ensures))
 
 same-length : tie.Need-same-length
 same-length c = search needs

@@ -30,8 +30,8 @@ start c = c .before .before .before .before .before .before .before .before .bef
 index-table-requires : tie.Need-index-table-requires
 index-table-requires c κs =
     let s = start c in
-    let t = s .pre .0 .table in
-    let few : s .args .n ≤ maxVertices = s .pre .0 .few in
+    let t = s .pre .fair .table in
+    let few : s .args .n ≤ maxVertices = s .pre .fair .few in
     ((few, t), (omega arith, omega arith, omega arith, record { tails = t .few; heads = t .few; weights = t .few }))
 
 slice-aggregate-index-new-then-run : tie.Need-slice-aggregate-index-new-then-run
@@ -50,7 +50,7 @@ index-new-then-run-requires : tie.Need-index-new-then-run-requires
 index-new-then-run-requires c κs =
     let v = c .before .before .before .before .before .before .before .before .before .before .before .before in
     let s = start (v .before) in
-    (s .pre .0, (s .pre .1 .0, (s .pre .1 .1 .0, (s .pre .1 .1 .1 .0, (s .pre .1 .1 .1 .1, (v .index-table .ensures .0, v .index-table .ensures .1))))))
+    (s .pre, v .index-table .ensures)
 
 same-length : tie.Need-same-length
 same-length c = search needs
