@@ -70,14 +70,14 @@ fn apply_in(
     heads2: &[u32],
     weights2: &[u32],
     count2: usize,
-    gone: &mut [u32],
-    fresh: &mut [u32],
+    removed: &mut [u32],
+    added: &mut [u32],
     ahead: &mut [u32],
     back: &mut [u32],
 ) -> Applied
     requires { ⌜ Fair n (now landmarks) (network (now tails) (now heads) (now weights) (now forward) (now backward) count) ⌝ }
     requires { ⌜ Tabled n count2 (now tails2) (now heads2) (now weights2) ⌝ }
-    requires { ⌜ Scratch (rowCount (now landmarks) * n) (now gone) (now fresh) (now ahead) (now back) ⌝ }
+    requires { ⌜ Scratch (rowCount (now landmarks) * n) (now removed) (now added) (now ahead) (now back) ⌝ }
     ensures { λ r. ⌜ batchOutcome r (now (tails .exit)) (now (heads .exit)) (now (weights .exit)) (now (forward .exit)) (now (backward .exit)) ≡ applyCall n (now (landmarks .entry)) (network (now (tails .entry)) (now (heads .entry)) (now (weights .entry)) (now (forward .entry)) (now (backward .entry)) count) (edges (now (tails2 .entry)) (now (heads2 .entry)) (now (weights2 .entry)) count2) ⌝ }
 {
     let rows = sides::batch_runs(
@@ -93,8 +93,8 @@ fn apply_in(
         heads2,
         weights2,
         count2,
-        gone,
-        fresh,
+        removed,
+        added,
         ahead,
         back,
     );
@@ -132,8 +132,8 @@ pub fn apply(
     ensures { λ r. ⌜ batchOutcome r (now (tails .exit)) (now (heads .exit)) (now (weights .exit)) (now (forward .exit)) (now (backward .exit)) ≡ applyCall n (now (landmarks .entry)) (network (now (tails .entry)) (now (heads .entry)) (now (weights .entry)) (now (forward .entry)) (now (backward .entry)) count) (edges (now (tails2 .entry)) (now (heads2 .entry)) (now (weights2 .entry)) count2) ⌝ }
 {
     let k = landmarks.len() * 5 * (n as usize);
-    let mut gone = [0u32; graph::MAX_EDGES];
-    let mut fresh = [0u32; graph::MAX_EDGES];
+    let mut removed = [0u32; graph::MAX_EDGES];
+    let mut added = [0u32; graph::MAX_EDGES];
     let mut ahead = [0u32; graph::ROW_WORDS];
     let mut back = [0u32; graph::ROW_WORDS];
     apply_in(
@@ -149,8 +149,8 @@ pub fn apply(
         heads2,
         weights2,
         count2,
-        &mut gone,
-        &mut fresh,
+        &mut removed,
+        &mut added,
         &mut ahead[..k],
         &mut back[..k],
     )

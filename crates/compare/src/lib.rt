@@ -1,4 +1,5 @@
-// Two tables compared: what a batch took and what it added, found by one walk along both.
+// Two tables compared: the edges that are removed and those that are added, net: one that a batch takes and adds again is neither. One
+// walk along both tables finds each of the two lists.
 use graph::rules;
 ghost use mathlib.Core.Path.{_≡_};
 ghost use mathlib.Core.Bool.{true, false, cond};
@@ -12,7 +13,7 @@ ghost use Rattle.graph.specs.Code.{Room, edgeAt};
 ghost use Rattle.compare.specs.Code.{Missing, Passed};
 
 // How many edges of a table precede a pair, where the first `from` do: those that follow are gone over until one does not.
-pub fn skip(
+fn skip(
     t: u32,
     h: u32,
     from: usize,
@@ -36,7 +37,7 @@ pub fn skip(
 }
 
 // Whether an edge stands in a table, by its three words, where `j` edges precede its pair.
-pub fn stands(
+fn stands(
     n: u32,
     t: u32,
     h: u32,
@@ -60,15 +61,16 @@ pub fn stands(
 }
 
 // From where the search for the next edge goes on: past the one that was found.
-pub fn past(there: bool, j: usize) -> usize
+fn past(there: bool, j: usize) -> usize
     requires { ⌜ j ≤ maxEdges ⌝ }
     ensures { λ r. ⌜ r ≡ cond there (j + 1) j ⌝ }
 {
     if there { j + 1 } else { j }
 }
 
-// The edge of index `k` is listed where it is missing. Answers how many the list has.
-pub fn note(there: bool, k: usize, list: &mut [u32], size: usize) -> usize
+// Index `k` is stored after the `size` that are listed, and counts where its edge is missing; where it is there the next store goes over
+// it. Answers how many are listed.
+fn note(there: bool, k: usize, list: &mut [u32], size: usize) -> usize
     requires { ⌜ (size < length (now list)) × (k < maxEdges) ⌝ }
     ensures { λ r. ⌜ (now (list .exit) ≡ set (now (list .entry)) size k) × (r ≡ cond there size (size + 1)) ⌝ }
 {
@@ -78,7 +80,7 @@ pub fn note(there: bool, k: usize, list: &mut [u32], size: usize) -> usize
 
 // The indices of the edges of a table, that of lists 1, which are missing from the table of lists 2: both keep the rules, so that one
 // walk along both finds them. Answers how many they are.
-pub fn missing(
+pub fn find_missing(
     n: u32,
     count1: usize,
     tails1: &[u32],

@@ -27,7 +27,7 @@ use Rattle.run.specs.Code.{bits, Marks}
 use Rattle.run.proofs.States.{marks-set, marks-clear}
 use Rattle.affected.specs.Affected.{removed, Named, held, marked, affected}
 use Rattle.compare.specs.Code.{Missing, Ends}
-use Rattle.prepare.specs.Code.{holds, Before, Going, Grown, strikes, Struck, Along, Covered, Spreads}
+use Rattle.prepare.specs.Code.{holds, Before, Going, Grown, marksHead, HeadsMarked, Along, Covered, Spreads}
 use Rattle.prepare.proofs.Bits.{raise-keeps, raise-only, bits-all, bits-length, marks-if}
 use Rattle.affected.proofs.Closure.{touches-named}
 use Rattle.affected.proofs.Sweeps.{closed-exact}
@@ -59,10 +59,10 @@ grown-then p q = record {
 
 -- the edge e, whose head is h, is gone along
 module _ (P : Property) (n s : ℕ) (vs : List ℕ) (e : Edge) (head : e .head < n) (bs ds bs′ ds′ : List ℕ) (at : Going n bs ds)
-    (p : waitingOf bs′ ≡ cond (strikes P s vs (waitingOf bs) e) (set (waitingOf bs) (e .head) true) (waitingOf bs))
-    (q : waitingOf ds′ ≡ cond (strikes P s vs (waitingOf bs) e) (set (waitingOf ds) (e .head) true) (waitingOf ds)) where
+    (p : waitingOf bs′ ≡ cond (marksHead P s vs (waitingOf bs) e) (set (waitingOf bs) (e .head) true) (waitingOf bs))
+    (q : waitingOf ds′ ≡ cond (marksHead P s vs (waitingOf bs) e) (set (waitingOf ds) (e .head) true) (waitingOf ds)) where
   abbrev hit : Bool
-  hit = strikes P s vs (waitingOf bs) e
+  hit = marksHead P s vs (waitingOf bs) e
 
   head-bit : e .head < length (waitingOf bs)
   head-bit = omega (arith, at .marks .bits, at .marks .few)
@@ -70,11 +70,11 @@ module _ (P : Property) (n s : ℕ) (vs : List ℕ) (e : Edge) (head : e .head <
   head-due : e .head < length (waitingOf ds)
   head-due = omega (arith, at .todo .bits, at .todo .few)
 
-  struck-keeps : (t : ℕ) → marked (waitingOf bs) t ≡ true → marked (waitingOf bs′) t ≡ true
-  struck-keeps t k = rw p (raise-keeps (waitingOf bs) (e .head) hit head-bit t k)
+  mark-keeps : (t : ℕ) → marked (waitingOf bs) t ≡ true → marked (waitingOf bs′) t ≡ true
+  mark-keeps t k = rw p (raise-keeps (waitingOf bs) (e .head) hit head-bit t k)
 
-  struck-due : (t : ℕ) → marked (waitingOf ds) t ≡ true → marked (waitingOf ds′) t ≡ true
-  struck-due t k = rw q (raise-keeps (waitingOf ds) (e .head) hit head-due t k)
+  mark-due : (t : ℕ) → marked (waitingOf ds) t ≡ true → marked (waitingOf ds′) t ≡ true
+  mark-due t k = rw q (raise-keeps (waitingOf ds) (e .head) hit head-due t k)
 
   hit-bit : hit ≡ true → marked (waitingOf bs′) (e .head) ≡ true
   hit-bit h = rw (p, h) (getD-set-same (waitingOf bs) (e .head) true false head-bit)
@@ -82,11 +82,11 @@ module _ (P : Property) (n s : ℕ) (vs : List ℕ) (e : Edge) (head : e .head <
   hit-due : hit ≡ true → marked (waitingOf ds′) (e .head) ≡ true
   hit-due h = rw (q, h) (getD-set-same (waitingOf ds) (e .head) true false head-due)
 
-  pub strike-going : Going n bs′ ds′
-  strike-going = record {
+  pub mark-going : Going n bs′ ds′
+  mark-going = record {
     marks = marks-if n bs bs′ (e .head) hit head p (at .marks);
     todo = marks-if n ds ds′ (e .head) hit head q (at .todo);
-    among = λ t k. ⊎-elim (λ j. struck-keeps t (at .among t j)) (λ j. rw (j .1) (hit-bit (j .0))) (raise-only (waitingOf ds) (e .head) hit t (rw q at k));
+    among = λ t k. ⊎-elim (λ j. mark-keeps t (at .among t j)) (λ j. rw (j .1) (hit-bit (j .0))) (raise-only (waitingOf ds) (e .head) hit t (rw q at k));
   }
 
   counted : (b : Bool) → hit ≡ b → Grown (waitingOf bs) (waitingOf ds) (waitingOf bs′) (waitingOf ds′)
@@ -100,8 +100,8 @@ module _ (P : Property) (n s : ℕ) (vs : List ℕ) (e : Edge) (head : e .head <
       let off : marked (waitingOf bs) (e .head) ≡ false = not-true _ (both (not (marked (waitingOf bs) (e .head))) _ h .0) in
       let c = ap countOf x ∙ count-insert (waitingOf bs) (e .head) head-bit off in
       let d = ap countOf y ∙ count-insert (waitingOf ds) (e .head) head-due (idle (marked (waitingOf ds) (e .head)) refl off) in record {
-        keeps = struck-keeps;
-        due = struck-due;
+        keeps = mark-keeps;
+        due = mark-due;
         new = λ t k. ⊎-elim inl (λ j. inr (rw (j .1) (hit-due h))) (raise-only (waitingOf bs) (e .head) hit t (rw p at k));
         count = omega arith;
         more = omega arith;
@@ -111,23 +111,23 @@ module _ (P : Property) (n s : ℕ) (vs : List ℕ) (e : Edge) (head : e .head <
       idle true k off = absurd (true≢false (sym (at .among (e .head) k) ∙ off))
       idle false k off = k
 
-  pub strike-grown : Grown (waitingOf bs) (waitingOf ds) (waitingOf bs′) (waitingOf ds′)
-  strike-grown = counted hit refl
+  pub mark-grown : Grown (waitingOf bs) (waitingOf ds) (waitingOf bs′) (waitingOf ds′)
+  mark-grown = counted hit refl
 
   -- a removed edge, or one from a marked vertex, marks an affected vertex
-  pub strike-named : (es fs : List Edge) → List·Memᴰ e es → (removed fs e || marked (waitingOf bs) (e .tail)) ≡ true → Named P es fs s vs (waitingOf bs)
+  pub mark-named : (es fs : List Edge) → List·Memᴰ e es → (removed fs e || marked (waitingOf bs) (e .tail)) ≡ true → Named P es fs s vs (waitingOf bs)
       → Named P es fs s vs (waitingOf bs′)
-  strike-named es fs m r g t k =
+  mark-named es fs m r g t k =
       ⊎-elim (g t)
       (λ j. rw (j .1) (touches-named P es fs s vs (waitingOf bs) e g m (and-true (both (not (marked (waitingOf bs) (e .head))) (held P s vs e) (j .0) .1) r)))
       (raise-only (waitingOf bs) (e .head) hit t (rw p at k))
 
   -- a held edge leaves its head marked
-  pub strike-done : held P s vs e ≡ true → marked (waitingOf bs′) (e .head) ≡ true
-  strike-done h = pick (marked (waitingOf bs) (e .head)) refl
+  pub mark-done : held P s vs e ≡ true → marked (waitingOf bs′) (e .head) ≡ true
+  mark-done h = pick (marked (waitingOf bs) (e .head)) refl
     where
       pick : (b : Bool) → marked (waitingOf bs) (e .head) ≡ b → marked (waitingOf bs′) (e .head) ≡ true
-      pick true k = struck-keeps (e .head) k
+      pick true k = mark-keeps (e .head) k
       pick false k = hit-bit (and-true (ap not k) h)
 
 -- ---- the listed edges
@@ -155,39 +155,39 @@ edge-head n ts hs ws m r k e i =
     rw (← x) (k .into (z .0) (z .1))
 
 module _ {P : Property} {n s m : ℕ} {ts hs ws gs vs bs ds : List ℕ} where
-  pub struck-start : Going n bs ds → Struck P n s m ts hs ws gs 0 vs bs ds bs ds
-  struck-start h = record { going = h; grown = grown-none (waitingOf bs) (waitingOf ds); named = λ fs k l q d. d; struck = λ j l. absurd (omega arith) }
+  pub heads-start : Going n bs ds → HeadsMarked P n s m ts hs ws gs 0 vs bs ds bs ds
+  heads-start h = record { going = h; grown = grown-none (waitingOf bs) (waitingOf ds); named = λ fs k l q d. d; heads = λ j l. absurd (omega arith) }
 
-  pub struck-as : {cs es : List ℕ} {i g : ℕ} → Struck P n s m ts hs ws gs i vs bs ds cs es → i ≡ g → Struck P n s m ts hs ws gs g vs bs ds cs es
-  struck-as at e = rw e at at
+  pub heads-as : {cs es : List ℕ} {i g : ℕ} → HeadsMarked P n s m ts hs ws gs i vs bs ds cs es → i ≡ g → HeadsMarked P n s m ts hs ws gs g vs bs ds cs es
+  heads-as at e = rw e at at
 
-  module _ {g : ℕ} (fit : Before n m ts hs ws gs g vs) {cs es : List ℕ} {i : ℕ} (at : Struck P n s m ts hs ws gs i vs bs ds cs es) (inside : i < g) where
+  module _ {g : ℕ} (fit : Before n m ts hs ws gs g vs) {cs es : List ℕ} {i : ℕ} (at : HeadsMarked P n s m ts hs ws gs i vs bs ds cs es) (inside : i < g) where
     abbrev x : Edge
     x = edgeAt ts hs ws (getD gs i 0)
 
-    pub struck-turn : (cs′ es′ : List ℕ) → waitingOf cs′ ≡ cond (strikes P s vs (waitingOf cs) x) (set (waitingOf cs) (x .head) true) (waitingOf cs)
-        → waitingOf es′ ≡ cond (strikes P s vs (waitingOf cs) x) (set (waitingOf es) (x .head) true) (waitingOf es)
-        → Struck P n s m ts hs ws gs (i + 1) vs bs ds cs′ es′
-    struck-turn cs′ es′ p q =
+    pub heads-turn : (cs′ es′ : List ℕ) → waitingOf cs′ ≡ cond (marksHead P s vs (waitingOf cs) x) (set (waitingOf cs) (x .head) true) (waitingOf cs)
+        → waitingOf es′ ≡ cond (marksHead P s vs (waitingOf cs) x) (set (waitingOf es) (x .head) true) (waitingOf es)
+        → HeadsMarked P n s m ts hs ws gs (i + 1) vs bs ds cs′ es′
+    heads-turn cs′ es′ p q =
         let k = fit .below i inside in
         let h : x .head < n = fit .ends .into (getD gs i 0) k in
-        let y = strike-grown P n s vs x h cs es cs′ es′ (at .going) p q in record {
-          going = strike-going P n s vs x h cs es cs′ es′ (at .going) p q;
+        let y = mark-grown P n s vs x h cs es cs′ es′ (at .going) p q in record {
+          going = mark-going P n s vs x h cs es cs′ es′ (at .going) p q;
           grown = grown-then (at .grown) y;
           named = λ fs o l d f.
-              strike-named P n s vs x h cs es cs′ es′ (at .going) p q (edges ts hs ws m) fs (edge-mem ts hs ws m (fit .room) (getD gs i 0) k)
+              mark-named P n s vs x h cs es cs′ es′ (at .going) p q (edges ts hs ws m) fs (edge-mem ts hs ws m (fit .room) (getD gs i 0) k)
               (rw (d .lacks i (omega arith))) (at .named fs o (omega arith) d f);
-          struck = λ j l u. pick j u (ℕ-discrete j i) (λ z. at .struck j (omega arith) u);
+          heads = λ j l u. pick j u (ℕ-discrete j i) (λ z. at .heads j (omega arith) u);
         }
       where
         pick : (j : ℕ) → held P s vs (edgeAt ts hs ws (getD gs j 0)) ≡ true → Dec (j ≡ i)
             → ((j ≡ i → ⊥) → marked (waitingOf cs) (getD hs (getD gs j 0) 0) ≡ true) → marked (waitingOf cs′) (getD hs (getD gs j 0) 0) ≡ true
         pick j u (yes e) f =
             let h : x .head < n = fit .ends .into (getD gs i 0) (fit .below i inside) in
-            rw e (strike-done P n s vs x h cs es cs′ es′ (at .going) p q (rw e at u))
+            rw e (mark-done P n s vs x h cs es cs′ es′ (at .going) p q (rw e at u))
         pick j u (no d) f =
             let h : x .head < n = fit .ends .into (getD gs i 0) (fit .below i inside) in
-            strike-grown P n s vs x h cs es cs′ es′ (at .going) p q .keeps _ (f d)
+            mark-grown P n s vs x h cs es cs′ es′ (at .going) p q .keeps _ (f d)
 
 -- ---- the edges of one vertex
 
@@ -202,15 +202,15 @@ module _ {P : Property} {n s : ℕ} {hs ws : List ℕ} {u j : ℕ} {vs bs ds : L
     abbrev y : Edge
     y = edge u (getD hs k 0) (getD ws k 0)
 
-    pub along-turn : (cs′ es′ : List ℕ) → waitingOf cs′ ≡ cond (strikes P s vs (waitingOf cs) y) (set (waitingOf cs) (y .head) true) (waitingOf cs)
-        → waitingOf es′ ≡ cond (strikes P s vs (waitingOf cs) y) (set (waitingOf es) (y .head) true) (waitingOf es)
+    pub along-turn : (cs′ es′ : List ℕ) → waitingOf cs′ ≡ cond (marksHead P s vs (waitingOf cs) y) (set (waitingOf cs) (y .head) true) (waitingOf cs)
+        → waitingOf es′ ≡ cond (marksHead P s vs (waitingOf cs) y) (set (waitingOf es) (y .head) true) (waitingOf es)
         → Along P n s hs ws u j (k + 1) vs bs ds cs′ es′
     along-turn cs′ es′ p q =
-        let z = strike-grown P n s vs y head cs es cs′ es′ (at .going) p q in record {
-          going = strike-going P n s vs y head cs es cs′ es′ (at .going) p q;
+        let z = mark-grown P n s vs y head cs es cs′ es′ (at .going) p q in record {
+          going = mark-going P n s vs y head cs es cs′ es′ (at .going) p q;
           grown = grown-then (at .grown) z;
           named = λ xs fs i d.
-              strike-named P n s vs y head cs es cs′ es′ (at .going) p q xs fs (i k low (omega arith)) (or-on (removed fs y) (at .grown .keeps u on))
+              mark-named P n s vs y head cs es cs′ es′ (at .going) p q xs fs (i k low (omega arith)) (or-on (removed fs y) (at .grown .keeps u on))
               (at .named xs fs (λ o a b. i o a (omega arith)) d);
           along = λ i a b c. pick i c (ℕ-discrete i k) (λ e. at .along i a (omega arith) c);
         }
@@ -221,8 +221,8 @@ module _ {P : Property} {n s : ℕ} {hs ws : List ℕ} {u j : ℕ} {vs bs ds : L
 
         pick : (i : ℕ) → held P s vs (edge u (getD hs i 0) (getD ws i 0)) ≡ true → Dec (i ≡ k)
             → ((i ≡ k → ⊥) → marked (waitingOf cs) (getD hs i 0) ≡ true) → marked (waitingOf cs′) (getD hs i 0) ≡ true
-        pick i c (yes e) f = rw e (strike-done P n s vs y head cs es cs′ es′ (at .going) p q (rw e at c))
-        pick i c (no d) f = strike-grown P n s vs y head cs es cs′ es′ (at .going) p q .keeps _ (f d)
+        pick i c (yes e) f = rw e (mark-done P n s vs y head cs es cs′ es′ (at .going) p q (rw e at c))
+        pick i c (no d) f = mark-grown P n s vs y head cs es cs′ es′ (at .going) p q .keeps _ (f d)
 
 -- ---- an index has the edges of a vertex
 
@@ -314,7 +314,7 @@ spreads-then p q = record { keeps = λ t k. q .keeps t (p .keeps t k); named = �
 -- the marks are closed, and are exactly the affected vertices.
 module _ (P : Property) (n s m : ℕ) (ts hs ws gs : List ℕ) (g : ℕ) (vs : List ℕ) (fit : Before n m ts hs ws gs g vs)
     (bs ds bs′ ds′ bs″ ds″ : List ℕ) (p : waitingOf bs ≡ replicate capacity false) (q : waitingOf ds ≡ replicate capacity false)
-    (k : Struck P n s m ts hs ws gs g vs bs ds bs′ ds′) (sp : Spreads P n s (edges ts hs ws m) vs bs′ ds′ bs″ ds″)
+    (k : HeadsMarked P n s m ts hs ws gs g vs bs ds bs′ ds′) (sp : Spreads P n s (edges ts hs ws m) vs bs′ ds′ bs″ ds″)
     (go : Going n bs″ ds″) (idle : (t : ℕ) → getD (waitingOf ds″) t false ≡ false) where
   unmarked : (t : ℕ) → marked (waitingOf bs) t ≡ false
   unmarked t = ap (λ (l : List Bool). getD l t false) p ∙ replicate-at capacity t false
@@ -338,7 +338,7 @@ module _ (P : Property) (n s m : ℕ) (ts hs ws gs : List ℕ) (g : ℕ) (vs : L
           let y = d .all (z .0) (z .1) (ap (removed fs) x ∙ r) in
           let o : edgeAt ts hs ws (getD gs (y .0) 0) ≡ e = ap (λ (j : ℕ). edgeAt ts hs ws j) (y .2) ∙ x in
           ap (λ (j : Edge). marked (waitingOf bs″) (j .head)) (sym o)
-          ∙ sp .keeps _ (k .struck (y .0) (y .1) (ap (λ (j : Edge). held P s vs j) o ∙ h))
+          ∙ sp .keeps _ (k .heads (y .0) (y .1) (ap (λ (j : Edge). held P s vs j) o ∙ h))
 
 -- nothing is marked and nothing to do
 pub going-clear : (n : ℕ) (bs ds : List ℕ) → n ≤ maxVertices → waitingOf bs ≡ replicate capacity false → waitingOf ds ≡ replicate capacity false → Going n bs ds

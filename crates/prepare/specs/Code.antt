@@ -5,11 +5,16 @@
 --                                   by which their tails are read
 --   Into n m is xs               == an index of m edges by their heads, below n: where those into each vertex start in xs, which has their tails
 --   Inward n is xs fs            == that index has the edges fs
+--   Compared n m ts hs ws gs g fs == m edges between n vertices, and the g indices of those that are absent from fs
+--   Indexed n m is hs ws es      == an index by which the edges es are read, tail by tail
+--   Entered n m is xs es         == an index by which the tails of those of m edges es that lead into a vertex are read
+--   Batched .. m′ ..             == a table of m edges, with those that a batch removed and its index, beside the table of m′ edges after the
+--                                   batch, with those that it added and the index of the edges into each vertex
 --   Going n bs ds                == marks bs, and ds, the marked vertices from which marks are still to go on
 --   Grown ms ds ms′ ds′          == marks ms with the vertices ds to do became ms′ and ds′: none was taken away, and each new mark is to do
 --   holds P s v w h x            == an edge's words as a test, as `held`: v at its tail, weight w, head h with x
---   strikes P s ws ms e          == e marks its head: it holds it up, and the head has no mark yet
---   Struck .. i vs bs ds bs′ ds′ == the first i of the listed edges marked their heads
+--   marksHead P s ws ms e        == e marks its head: it holds it up, and the head has no mark yet
+--   HeadsMarked .. i vs bs ds bs′ ds′ == the first i of the listed edges marked their heads
 --   Along .. u j k vs bs ds bs′ ds′ == marks went on from u along its edges of index j to k - 1
 --   Covered P es s ws ms ds      == a held edge from a marked vertex that is not to do has its head marked
 --   Spreads P n s es vs bs ds bs′ ds′ == marks went on along edges of es
@@ -26,6 +31,7 @@ use Rattle.frontier.specs.Waiting.{waitingOf, countOf}
 use Rattle.graph.specs.Limits.{maxVertices}
 use Rattle.graph.specs.Edge.{Edge, edge, edges}
 use Rattle.graph.specs.Code.{Room, edgeAt}
+use Rattle.graph.specs.Own.{Fit, Own}
 use Rattle.run.specs.Code.{Marks}
 use Rattle.affected.specs.Affected.{Named, held, marked}
 use Rattle.compare.specs.Code.{Missing, Ends}
@@ -41,7 +47,7 @@ pub record Before (n m : ℕ) (ts hs ws gs : List ℕ) (g : ℕ) (vs : List ℕ)
 
 pub record Into (n m : ℕ) (is xs : List ℕ) : Type 0 where
   pub firsts : n < length is
-  pub ends : m ≤ length xs
+  pub heads : m ≤ length xs
   pub rising : (v : ℕ) → v < n → getD is v 0 ≤ getD is (v + 1) 0
   pub within : (v : ℕ) → v < n → getD is (v + 1) 0 ≤ m
   pub inside : (k : ℕ) → k < m → getD xs k 0 < n
@@ -57,6 +63,25 @@ pub record After (n m : ℕ) (ts gs : List ℕ) (g : ℕ) (is xs : List ℕ) : T
 pub record Inward (n : ℕ) (is xs : List ℕ) (fs : List Edge) : Type 0 where
   pub reads : (v k : ℕ) → v < n → getD is v 0 ≤ k → k < getD is (v + 1) 0 → (w : ℕ) × List·Memᴰ (edge (getD xs k 0) v w) fs
   pub whole : (e : Edge) → List·Memᴰ e fs → (k : ℕ) × (getD is (e .head) 0 ≤ k) × (k < getD is (e .head + 1) 0) × (getD xs k 0 ≡ e .tail)
+
+pub record Compared (n m : ℕ) (ts hs ws gs : List ℕ) (g : ℕ) (fs : List Edge) : Type 0 where
+  pub room : Room m ts hs ws
+  pub ends : Ends n m ts hs
+  pub missing : Missing m ts hs ws fs gs g
+
+pub record Indexed (n m : ℕ) (is hs ws : List ℕ) (es : List Edge) : Type 0 where
+  pub fit : Fit n m is hs ws
+  pub own : Own n is hs ws es
+
+pub record Entered (n m : ℕ) (is xs : List ℕ) (es : List Edge) : Type 0 where
+  pub index : Into n m is xs
+  pub inward : Inward n is xs es
+
+pub record Batched (n m : ℕ) (ts hs ws gs : List ℕ) (g : ℕ) (is xs vs : List ℕ) (m′ : ℕ) (ts′ hs′ ws′ gs′ : List ℕ) (g′ : ℕ) (is′ xs′ : List ℕ) : Type 0 where
+  pub removed : Compared n m ts hs ws gs g (edges ts′ hs′ ws′ m′)
+  pub added : Compared n m′ ts′ hs′ ws′ gs′ g′ (edges ts hs ws m)
+  pub index : Indexed n m is xs vs (edges ts hs ws m)
+  pub into : Entered n m′ is′ xs′ (edges ts′ hs′ ws′ m′)
 
 -- ---- how marks go on
 
@@ -75,15 +100,15 @@ pub record Grown (ms ds ms′ ds′ : List Bool) : Type 0 where
   pub count : countOf ms′ + countOf ds ≡ countOf ms + countOf ds′
   pub more : countOf ms ≤ countOf ms′
 
-abbrev pub strikes : Property → ℕ → List ℕ → List Bool → Edge → Bool
-strikes P s ws ms e = not (marked ms (e .head)) && held P s ws e
+abbrev pub marksHead : Property → ℕ → List ℕ → List Bool → Edge → Bool
+marksHead P s ws ms e = not (marked ms (e .head)) && held P s ws e
 
-pub record Struck (P : Property) (n s m : ℕ) (ts hs ws gs : List ℕ) (i : ℕ) (vs bs ds bs′ ds′ : List ℕ) : Type 0 where
+pub record HeadsMarked (P : Property) (n s m : ℕ) (ts hs ws gs : List ℕ) (i : ℕ) (vs bs ds bs′ ds′ : List ℕ) : Type 0 where
   pub going : Going n bs′ ds′
   pub grown : Grown (waitingOf bs) (waitingOf ds) (waitingOf bs′) (waitingOf ds′)
   pub named : (fs : List Edge) (g : ℕ) → i ≤ g → Missing m ts hs ws fs gs g → Named P (edges ts hs ws m) fs s vs (waitingOf bs)
       → Named P (edges ts hs ws m) fs s vs (waitingOf bs′)
-  pub struck : (j : ℕ) → j < i → held P s vs (edgeAt ts hs ws (getD gs j 0)) ≡ true → marked (waitingOf bs′) (getD hs (getD gs j 0) 0) ≡ true
+  pub heads : (j : ℕ) → j < i → held P s vs (edgeAt ts hs ws (getD gs j 0)) ≡ true → marked (waitingOf bs′) (getD hs (getD gs j 0) 0) ≡ true
 
 pub record Along (P : Property) (n s : ℕ) (hs ws : List ℕ) (u j k : ℕ) (vs bs ds bs′ ds′ : List ℕ) : Type 0 where
   pub going : Going n bs′ ds′

@@ -12,10 +12,11 @@ use Rattle.graph.proofs.Records.{room-less}
 use Rattle.graph.proofs.Own.{own-table, fit-table, keyed-tails, keyed-heads, own-reversed, fit-reversed}
 use Rattle.compare.specs.Code.{Missing, Ends}
 use Rattle.compare.proofs.Reversed.{ends-rules, ends-reverse, edges-reverse, missing-reverse}
+use Rattle.prepare.specs.Code.{Compared, Indexed, Entered}
 use Rattle.prepare.proofs.Spreading.{edge-head, own-reads, own-whole}
 use Rattle.rows.specs.declared.Rowed.{Rowed}
 use Rattle.calls.specs.Code.{Tabled}
-use Rattle.rows.specs.Code.{Compared, Indexed, Entered, RowsDone}
+use Rattle.rows.specs.Code.{RowsDone}
 
 -- ---- a table beside another
 
@@ -66,7 +67,7 @@ compared-reversed n m ts hs ws gs g m′ ts′ hs′ ws′ c = record {
 pub entered-reversed : (n m : ℕ) (is xs vs ts hs ws : List ℕ) → Room m ts hs ws → Ends n m ts hs → Indexed n m is xs vs (edges hs ts ws m)
     → Entered n m is xs (edges ts hs ws m)
 entered-reversed n m is xs vs ts hs ws r k i = record {
-  index = record { firsts = i .fit .firsts; ends = i .fit .heads; rising = i .fit .rising; within = i .fit .within; inside = i .fit .inside };
+  index = record { firsts = i .fit .firsts; heads = i .fit .heads; rising = i .fit .rising; within = i .fit .within; inside = i .fit .inside };
   inward = record {
     reads = λ v j h a b.
         let z = mem-reverse (own-reads n is xs vs (edges hs ts ws m) (i .own) v j h a b) in

@@ -1,9 +1,10 @@
 -- What the functions on the rows of one side of a batch hold and answer: es are the edges before the batch, fs those after it. Assumes
 -- nothing.
 --
---   Compared n m ts hs ws gs g fs == m edges between n vertices, and the g indices of those that are absent from fs
---   Indexed n m is hs ws es      == an index by which a run reads the edges es
---   Entered n m is xs es         == an index by which the tails of those of m edges es that lead into a vertex are read
+--   Lined .. m′ ..               == what the rows of a side are run on: `Batched`, by which a row is prepared, and the index of the table after the
+--                                   batch, by which it is settled
+--   Indices n m ts hs ws is rs rhs rws == the indices of a table, for forward rows by its own heads and weights, for backward rows by those of the
+--                                   reversed table
 --   RowDone n ls es fs vs r xs a == the run of row r left the words xs, and its answer is a
 --   RowsDone n ls es fs xs ys a  == the runs of all rows of the list xs left the words ys, and their answer is a
 use mathlib.Core.Path.{_≡_}
@@ -12,27 +13,19 @@ use Prim.Native.Nat.{ℕ, _*_, _≤_}
 use Rattle.property.specs.Property.{properties}
 use Rattle.frontier.specs.Waiting.{anyOf, countOf}
 use Rattle.graph.specs.Limits.{maxVertices, maxEdges, maxLandmarks}
-use Rattle.graph.specs.Edge.{Edge}
-use Rattle.graph.specs.Code.{Room}
-use Rattle.graph.specs.Own.{Fit, Own}
-use Rattle.compare.specs.Code.{Missing, Ends}
-use Rattle.prepare.specs.Code.{Into, Inward}
+use Rattle.graph.specs.Edge.{Edge, edges}
+use Rattle.prepare.specs.Code.{Indexed, Batched}
 use Rattle.rows.specs.declared.Rowed.{Rowed}
 use Rattle.network.specs.Network.{flat, unsettled, storesOf}
 use Rattle.network.specs.Batch.{rowAffected, rowEnd, batchRows, affectedOf}
 
-pub record Compared (n m : ℕ) (ts hs ws gs : List ℕ) (g : ℕ) (fs : List Edge) : Type 0 where
-  pub room : Room m ts hs ws
-  pub ends : Ends n m ts hs
-  pub missing : Missing m ts hs ws fs gs g
+pub record Lined (n m : ℕ) (ts hs ws gs : List ℕ) (g : ℕ) (is xs vs : List ℕ) (m′ : ℕ) (ts′ hs′ ws′ gs′ : List ℕ) (g′ : ℕ) (is′ xs′ vs′ rs ys : List ℕ) : Type 0 where
+  pub batch : Batched n m ts hs ws gs g is xs vs m′ ts′ hs′ ws′ gs′ g′ rs ys
+  pub index : Indexed n m′ is′ xs′ vs′ (edges ts′ hs′ ws′ m′)
 
-pub record Indexed (n m : ℕ) (is hs ws : List ℕ) (es : List Edge) : Type 0 where
-  pub fit : Fit n m is hs ws
-  pub own : Own n is hs ws es
-
-pub record Entered (n m : ℕ) (is xs : List ℕ) (es : List Edge) : Type 0 where
-  pub index : Into n m is xs
-  pub inward : Inward n is xs es
+pub record Indices (n m : ℕ) (ts hs ws is rs rhs rws : List ℕ) : Type 0 where
+  pub forward : Indexed n m is hs ws (edges ts hs ws m)
+  pub backward : Indexed n m rs rhs rws (edges hs ts ws m)
 
 pub record RowDone (n : ℕ) (ls : List ℕ) (es fs : List Edge) (vs : List ℕ) (r : ℕ) (xs : List ℕ) (a : Rowed) : Type 0 where
   pub words : xs ≡ (rowEnd n ls es fs vs r) .words

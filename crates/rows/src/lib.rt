@@ -1,6 +1,7 @@
 // The rows of one side of a batch: each is prepared for the new edges and settled. The lists of 1 are the table before the batch, those
-// of 2 the one after it, each with its index, and `firsts3` and `ends3` are the index of the new edges into a vertex. A row costs what it
-// changes: no row goes over all edges.
+// of 2 the one after it, each with its index: where the edges of each tail start, `firsts`, and their heads and weights in that order,
+// `iheads` and `iweights`. `rfirsts2` and `rheads2` are the reversed index of the new table. A row costs a copy of its n words, a look at
+// each removed and each added edge, and what it changes: no row goes over all edges.
 use graph::index;
 ghost use mathlib.Core.Path.{_≡_};
 ghost use Prim.Native.Nat.{_*_, _<_, _≤_};
@@ -10,7 +11,7 @@ ghost use Rattle.graph.specs.Edge.{edges};
 ghost use Rattle.graph.specs.Code.{Room};
 ghost use Rattle.network.specs.Network.{rowCount};
 ghost use Rattle.calls.specs.Code.{Placed, Tabled};
-ghost use Rattle.rows.specs.Code.{Compared, Indexed, Entered, RowDone, RowsDone};
+ghost use Rattle.rows.specs.Code.{Lined, Indices, RowDone, RowsDone};
 
 // What runs of rows come to: whether some vertex still waits, how many vertices are affected, how many stores there were.
 pub struct Rowed {
@@ -28,31 +29,27 @@ fn batch_row(
     tails1: &[u32],
     heads1: &[u32],
     weights1: &[u32],
-    size1: usize,
-    gone: &[u32],
+    nremoved: usize,
+    removed: &[u32],
     firsts1: &[u32],
-    ends1: &[u32],
-    lengths1: &[u32],
+    iheads1: &[u32],
+    iweights1: &[u32],
     count2: usize,
     tails2: &[u32],
     heads2: &[u32],
     weights2: &[u32],
-    size2: usize,
-    fresh: &[u32],
+    nadded: usize,
+    added: &[u32],
     firsts2: &[u32],
-    ends2: &[u32],
-    lengths2: &[u32],
-    firsts3: &[u32],
-    ends3: &[u32],
+    iheads2: &[u32],
+    iweights2: &[u32],
+    rfirsts2: &[u32],
+    rheads2: &[u32],
     words: &[u32],
     out: &mut [u32],
 ) -> Rowed
     requires { ⌜ (r < rowCount (now landmarks)) × Placed n (now landmarks) × (length (now words) ≡ n) × (length (now out) ≡ n) ⌝ }
-    requires { ⌜ Compared n count1 (now tails1) (now heads1) (now weights1) (now gone) size1 (edges (now tails2) (now heads2) (now weights2) count2) ⌝ }
-    requires { ⌜ Compared n count2 (now tails2) (now heads2) (now weights2) (now fresh) size2 (edges (now tails1) (now heads1) (now weights1) count1) ⌝ }
-    requires { ⌜ Indexed n count1 (now firsts1) (now ends1) (now lengths1) (edges (now tails1) (now heads1) (now weights1) count1) ⌝ }
-    requires { ⌜ Indexed n count2 (now firsts2) (now ends2) (now lengths2) (edges (now tails2) (now heads2) (now weights2) count2) ⌝ }
-    requires { ⌜ Entered n count2 (now firsts3) (now ends3) (edges (now tails2) (now heads2) (now weights2) count2) ⌝ }
+    requires { ⌜ Lined n count1 (now tails1) (now heads1) (now weights1) (now removed) nremoved (now firsts1) (now iheads1) (now iweights1) count2 (now tails2) (now heads2) (now weights2) (now added) nadded (now firsts2) (now iheads2) (now iweights2) (now rfirsts2) (now rheads2) ⌝ }
     ensures { λ a. ⌜ RowDone n (now (landmarks .entry)) (edges (now (tails1 .entry)) (now (heads1 .entry)) (now (weights1 .entry)) count1) (edges (now (tails2 .entry)) (now (heads2 .entry)) (now (weights2 .entry)) count2) (now (words .entry)) r (now (out .exit)) a ⌝ }
 {
     let p = (r % 5) as u32 + 1;
@@ -66,24 +63,24 @@ fn batch_row(
         tails1,
         heads1,
         weights1,
-        size1,
-        gone,
+        nremoved,
+        removed,
         firsts1,
-        ends1,
-        lengths1,
+        iheads1,
+        iweights1,
         count2,
         tails2,
         heads2,
         weights2,
-        size2,
-        fresh,
-        firsts3,
-        ends3,
+        nadded,
+        added,
+        rfirsts2,
+        rheads2,
         words,
         out,
         &mut waiting,
     );
-    let t = run::run_unscheduled(p, n, count2, firsts2, ends2, lengths2, out, &mut waiting);
+    let t = run::run_unscheduled(p, n, count2, firsts2, iheads2, iweights2, out, &mut waiting);
     Rowed {
         unsettled: frontier::any(&waiting),
         affected,
@@ -99,31 +96,27 @@ pub fn batch_rows(
     tails1: &[u32],
     heads1: &[u32],
     weights1: &[u32],
-    size1: usize,
-    gone: &[u32],
+    nremoved: usize,
+    removed: &[u32],
     firsts1: &[u32],
-    ends1: &[u32],
-    lengths1: &[u32],
+    iheads1: &[u32],
+    iweights1: &[u32],
     count2: usize,
     tails2: &[u32],
     heads2: &[u32],
     weights2: &[u32],
-    size2: usize,
-    fresh: &[u32],
+    nadded: usize,
+    added: &[u32],
     firsts2: &[u32],
-    ends2: &[u32],
-    lengths2: &[u32],
-    firsts3: &[u32],
-    ends3: &[u32],
+    iheads2: &[u32],
+    iweights2: &[u32],
+    rfirsts2: &[u32],
+    rheads2: &[u32],
     rows: &[u32],
     out: &mut [u32],
 ) -> Rowed
     requires { ⌜ Placed n (now landmarks) × (rowCount (now landmarks) * n ≤ length (now rows)) × (length (now out) ≡ rowCount (now landmarks) * n) ⌝ }
-    requires { ⌜ Compared n count1 (now tails1) (now heads1) (now weights1) (now gone) size1 (edges (now tails2) (now heads2) (now weights2) count2) ⌝ }
-    requires { ⌜ Compared n count2 (now tails2) (now heads2) (now weights2) (now fresh) size2 (edges (now tails1) (now heads1) (now weights1) count1) ⌝ }
-    requires { ⌜ Indexed n count1 (now firsts1) (now ends1) (now lengths1) (edges (now tails1) (now heads1) (now weights1) count1) ⌝ }
-    requires { ⌜ Indexed n count2 (now firsts2) (now ends2) (now lengths2) (edges (now tails2) (now heads2) (now weights2) count2) ⌝ }
-    requires { ⌜ Entered n count2 (now firsts3) (now ends3) (edges (now tails2) (now heads2) (now weights2) count2) ⌝ }
+    requires { ⌜ Lined n count1 (now tails1) (now heads1) (now weights1) (now removed) nremoved (now firsts1) (now iheads1) (now iweights1) count2 (now tails2) (now heads2) (now weights2) (now added) nadded (now firsts2) (now iheads2) (now iweights2) (now rfirsts2) (now rheads2) ⌝ }
     ensures { λ a. ⌜ RowsDone n (now (landmarks .entry)) (edges (now (tails1 .entry)) (now (heads1 .entry)) (now (weights1 .entry)) count1) (edges (now (tails2 .entry)) (now (heads2 .entry)) (now (weights2 .entry)) count2) (now (rows .entry)) (now (out .exit)) a ⌝ }
 {
     let size = landmarks.len() * 5;
@@ -142,22 +135,22 @@ pub fn batch_rows(
             tails1,
             heads1,
             weights1,
-            size1,
-            gone,
+            nremoved,
+            removed,
             firsts1,
-            ends1,
-            lengths1,
+            iheads1,
+            iweights1,
             count2,
             tails2,
             heads2,
             weights2,
-            size2,
-            fresh,
+            nadded,
+            added,
             firsts2,
-            ends2,
-            lengths2,
-            firsts3,
-            ends3,
+            iheads2,
+            iweights2,
+            rfirsts2,
+            rheads2,
             &rows[start..end],
             &mut out[start..end],
         );
@@ -189,8 +182,7 @@ pub fn index_table(
 )
     requires { ⌜ (n ≤ maxVertices) × Tabled n count (now tails) (now heads) (now weights) ⌝ }
     requires { ⌜ (n < length (now firsts)) × (n < length (now free)) × (n < length (now rfirsts)) × Room count (now rtails) (now rheads) (now rweights) ⌝ }
-    ensures { λ _. ⌜ Indexed n count (now (firsts .exit)) (now (heads .entry)) (now (weights .entry)) (edges (now (tails .entry)) (now (heads .entry)) (now (weights .entry)) count) ⌝ }
-    ensures { λ _. ⌜ Indexed n count (now (rfirsts .exit)) (now (rheads .exit)) (now (rweights .exit)) (edges (now (heads .entry)) (now (tails .entry)) (now (weights .entry)) count) ⌝ }
+    ensures { λ _. ⌜ Indices n count (now (tails .entry)) (now (heads .entry)) (now (weights .entry)) (now (firsts .exit)) (now (rfirsts .exit)) (now (rheads .exit)) (now (rweights .exit)) ⌝ }
 {
     index::index(n, count, tails, firsts);
     index::reverse_table(

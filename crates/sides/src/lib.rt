@@ -1,17 +1,15 @@
 // The rows of both sides of a batch: the two tables are compared and indexed once, then each side's rows are run, all in scratch lists.
-// Lists 2 are the new table.
+// Lists 2 are the new table, and an `r` stands before the lists of a reversed table and its index.
 use rows::Rowed;
-ghost use mathlib.Core.Path.{_≡_};
 ghost use Prim.Native.Nat.{_*_};
-ghost use lib.ListN.{length};
 ghost use Rattle.graph.specs.Edge.{edges};
 ghost use Rattle.network.specs.Network.{rowCount};
 ghost use Rattle.calls.specs.Code.{network, Tabled};
-ghost use Rattle.rows.specs.Code.{Compared, Indexed};
-ghost use Rattle.sides.specs.Code.{Fair, Sized, Scratch, SidesDone};
+ghost use Rattle.rows.specs.Code.{Indices};
+ghost use Rattle.sides.specs.Code.{Fair, Sides, Scratch, SidesDone};
 
-// All rows of both lists, by the new table, of lists 2: the new rows go to `ahead` and `back`. Each table comes with its index and the
-// reversed table; the index of the edges into a vertex is that of the other side.
+// All rows of both lists, with both tables compared and indexed: the new rows go to `ahead` and `back`. Backward rows read the lists with
+// tails and heads changed over, and the index of the reversed table; the index of the edges into a vertex is that of the other side.
 fn batch_sides(
     n: usize,
     landmarks: &[u32],
@@ -21,8 +19,8 @@ fn batch_sides(
     count: usize,
     forward: &[u32],
     backward: &[u32],
-    size1: usize,
-    gone: &[u32],
+    nremoved: usize,
+    removed: &[u32],
     firsts1: &[u32],
     rfirsts1: &[u32],
     rheads1: &[u32],
@@ -31,8 +29,8 @@ fn batch_sides(
     heads2: &[u32],
     weights2: &[u32],
     count2: usize,
-    size2: usize,
-    fresh: &[u32],
+    nadded: usize,
+    added: &[u32],
     firsts2: &[u32],
     rfirsts2: &[u32],
     rheads2: &[u32],
@@ -40,15 +38,9 @@ fn batch_sides(
     ahead: &mut [u32],
     back: &mut [u32],
 ) -> Rowed
-    requires { ⌜ Fair n (now landmarks) (network (now tails) (now heads) (now weights) (now forward) (now backward) count) ⌝ }
-    requires { ⌜ Tabled n count2 (now tails2) (now heads2) (now weights2) ⌝ }
-    requires { ⌜ Compared n count (now tails) (now heads) (now weights) (now gone) size1 (edges (now tails2) (now heads2) (now weights2) count2) ⌝ }
-    requires { ⌜ Compared n count2 (now tails2) (now heads2) (now weights2) (now fresh) size2 (edges (now tails) (now heads) (now weights) count) ⌝ }
-    requires { ⌜ Sized (rowCount (now landmarks) * n) (now ahead) (now back) ⌝ }
-    requires { ⌜ Indexed n count (now firsts1) (now heads) (now weights) (edges (now tails) (now heads) (now weights) count) ⌝ }
-    requires { ⌜ Indexed n count (now rfirsts1) (now rheads1) (now rweights1) (edges (now heads) (now tails) (now weights) count) ⌝ }
-    requires { ⌜ Indexed n count2 (now firsts2) (now heads2) (now weights2) (edges (now tails2) (now heads2) (now weights2) count2) ⌝ }
-    requires { ⌜ Indexed n count2 (now rfirsts2) (now rheads2) (now rweights2) (edges (now heads2) (now tails2) (now weights2) count2) ⌝ }
+    requires { ⌜ Sides n (now landmarks) (network (now tails) (now heads) (now weights) (now forward) (now backward) count) count2 (now tails2) (now heads2) (now weights2) (now removed) nremoved (now added) nadded (now ahead) (now back) ⌝ }
+    requires { ⌜ Indices n count (now tails) (now heads) (now weights) (now firsts1) (now rfirsts1) (now rheads1) (now rweights1) ⌝ }
+    requires { ⌜ Indices n count2 (now tails2) (now heads2) (now weights2) (now firsts2) (now rfirsts2) (now rheads2) (now rweights2) ⌝ }
     ensures { λ r. ⌜ SidesDone n (now (landmarks .entry)) (network (now (tails .entry)) (now (heads .entry)) (now (weights .entry)) (now (forward .entry)) (now (backward .entry)) count) (edges (now (tails2 .entry)) (now (heads2 .entry)) (now (weights2 .entry)) count2) (now (ahead .exit)) (now (back .exit)) r ⌝ }
 {
     let f = rows::batch_rows(
@@ -58,8 +50,8 @@ fn batch_sides(
         tails,
         heads,
         weights,
-        size1,
-        gone,
+        nremoved,
+        removed,
         firsts1,
         heads,
         weights,
@@ -67,8 +59,8 @@ fn batch_sides(
         tails2,
         heads2,
         weights2,
-        size2,
-        fresh,
+        nadded,
+        added,
         firsts2,
         heads2,
         weights2,
@@ -84,8 +76,8 @@ fn batch_sides(
         heads,
         tails,
         weights,
-        size1,
-        gone,
+        nremoved,
+        removed,
         rfirsts1,
         rheads1,
         rweights1,
@@ -93,8 +85,8 @@ fn batch_sides(
         heads2,
         tails2,
         weights2,
-        size2,
-        fresh,
+        nadded,
+        added,
         rfirsts2,
         rheads2,
         rweights2,
@@ -110,8 +102,8 @@ fn batch_sides(
     }
 }
 
-// The same where the new table has no index yet.
-fn batch_indexed(
+// The new table is indexed, once for the rows of both sides, and then they are run.
+fn index_new_then_run(
     n: usize,
     landmarks: &[u32],
     tails: &[u32],
@@ -120,8 +112,8 @@ fn batch_indexed(
     count: usize,
     forward: &[u32],
     backward: &[u32],
-    size1: usize,
-    gone: &[u32],
+    nremoved: usize,
+    removed: &[u32],
     firsts1: &[u32],
     rfirsts1: &[u32],
     rheads1: &[u32],
@@ -130,18 +122,13 @@ fn batch_indexed(
     heads2: &[u32],
     weights2: &[u32],
     count2: usize,
-    size2: usize,
-    fresh: &[u32],
+    nadded: usize,
+    added: &[u32],
     ahead: &mut [u32],
     back: &mut [u32],
 ) -> Rowed
-    requires { ⌜ Fair n (now landmarks) (network (now tails) (now heads) (now weights) (now forward) (now backward) count) ⌝ }
-    requires { ⌜ Tabled n count2 (now tails2) (now heads2) (now weights2) ⌝ }
-    requires { ⌜ Compared n count (now tails) (now heads) (now weights) (now gone) size1 (edges (now tails2) (now heads2) (now weights2) count2) ⌝ }
-    requires { ⌜ Compared n count2 (now tails2) (now heads2) (now weights2) (now fresh) size2 (edges (now tails) (now heads) (now weights) count) ⌝ }
-    requires { ⌜ Sized (rowCount (now landmarks) * n) (now ahead) (now back) ⌝ }
-    requires { ⌜ Indexed n count (now firsts1) (now heads) (now weights) (edges (now tails) (now heads) (now weights) count) ⌝ }
-    requires { ⌜ Indexed n count (now rfirsts1) (now rheads1) (now rweights1) (edges (now heads) (now tails) (now weights) count) ⌝ }
+    requires { ⌜ Sides n (now landmarks) (network (now tails) (now heads) (now weights) (now forward) (now backward) count) count2 (now tails2) (now heads2) (now weights2) (now removed) nremoved (now added) nadded (now ahead) (now back) ⌝ }
+    requires { ⌜ Indices n count (now tails) (now heads) (now weights) (now firsts1) (now rfirsts1) (now rheads1) (now rweights1) ⌝ }
     ensures { λ r. ⌜ SidesDone n (now (landmarks .entry)) (network (now (tails .entry)) (now (heads .entry)) (now (weights .entry)) (now (forward .entry)) (now (backward .entry)) count) (edges (now (tails2 .entry)) (now (heads2 .entry)) (now (weights2 .entry)) count2) (now (ahead .exit)) (now (back .exit)) r ⌝ }
 {
     let mut free = [0u32; graph::INDEX_WORDS];
@@ -172,8 +159,8 @@ fn batch_indexed(
         count,
         forward,
         backward,
-        size1,
-        gone,
+        nremoved,
+        removed,
         firsts1,
         rfirsts1,
         rheads1,
@@ -182,8 +169,8 @@ fn batch_indexed(
         heads2,
         weights2,
         count2,
-        size2,
-        fresh,
+        nadded,
+        added,
         &firsts2,
         &rfirsts2,
         &rheads2,
@@ -193,8 +180,8 @@ fn batch_indexed(
     )
 }
 
-// The same where neither table has an index yet.
-fn batch_tables(
+// The old table is indexed, and then the new one, before the rows of both sides are run.
+fn index_old_then_run(
     n: usize,
     landmarks: &[u32],
     tails: &[u32],
@@ -203,22 +190,18 @@ fn batch_tables(
     count: usize,
     forward: &[u32],
     backward: &[u32],
-    size1: usize,
-    gone: &[u32],
+    nremoved: usize,
+    removed: &[u32],
     tails2: &[u32],
     heads2: &[u32],
     weights2: &[u32],
     count2: usize,
-    size2: usize,
-    fresh: &[u32],
+    nadded: usize,
+    added: &[u32],
     ahead: &mut [u32],
     back: &mut [u32],
 ) -> Rowed
-    requires { ⌜ Fair n (now landmarks) (network (now tails) (now heads) (now weights) (now forward) (now backward) count) ⌝ }
-    requires { ⌜ Tabled n count2 (now tails2) (now heads2) (now weights2) ⌝ }
-    requires { ⌜ Compared n count (now tails) (now heads) (now weights) (now gone) size1 (edges (now tails2) (now heads2) (now weights2) count2) ⌝ }
-    requires { ⌜ Compared n count2 (now tails2) (now heads2) (now weights2) (now fresh) size2 (edges (now tails) (now heads) (now weights) count) ⌝ }
-    requires { ⌜ Sized (rowCount (now landmarks) * n) (now ahead) (now back) ⌝ }
+    requires { ⌜ Sides n (now landmarks) (network (now tails) (now heads) (now weights) (now forward) (now backward) count) count2 (now tails2) (now heads2) (now weights2) (now removed) nremoved (now added) nadded (now ahead) (now back) ⌝ }
     ensures { λ r. ⌜ SidesDone n (now (landmarks .entry)) (network (now (tails .entry)) (now (heads .entry)) (now (weights .entry)) (now (forward .entry)) (now (backward .entry)) count) (edges (now (tails2 .entry)) (now (heads2 .entry)) (now (weights2 .entry)) count2) (now (ahead .exit)) (now (back .exit)) r ⌝ }
 {
     let mut free = [0u32; graph::INDEX_WORDS];
@@ -240,7 +223,7 @@ fn batch_tables(
         &mut rheads1,
         &mut rweights1,
     );
-    batch_indexed(
+    index_new_then_run(
         n,
         landmarks,
         tails,
@@ -249,8 +232,8 @@ fn batch_tables(
         count,
         forward,
         backward,
-        size1,
-        gone,
+        nremoved,
+        removed,
         &firsts1,
         &rfirsts1,
         &rheads1,
@@ -259,14 +242,15 @@ fn batch_tables(
         heads2,
         weights2,
         count2,
-        size2,
-        fresh,
+        nadded,
+        added,
         ahead,
         back,
     )
 }
 
-// The same with scratch lists: the tables are compared first, once for all rows.
+// A batch's rows from the two tables alone: they are compared, which lists the removed and the added edges by their indices in `removed`
+// and `added`, and then indexed, once for all rows.
 pub fn batch_runs(
     n: u32,
     landmarks: &[u32],
@@ -280,17 +264,17 @@ pub fn batch_runs(
     heads2: &[u32],
     weights2: &[u32],
     count2: usize,
-    gone: &mut [u32],
-    fresh: &mut [u32],
+    removed: &mut [u32],
+    added: &mut [u32],
     ahead: &mut [u32],
     back: &mut [u32],
 ) -> Rowed
     requires { ⌜ Fair n (now landmarks) (network (now tails) (now heads) (now weights) (now forward) (now backward) count) ⌝ }
     requires { ⌜ Tabled n count2 (now tails2) (now heads2) (now weights2) ⌝ }
-    requires { ⌜ Scratch (rowCount (now landmarks) * n) (now gone) (now fresh) (now ahead) (now back) ⌝ }
+    requires { ⌜ Scratch (rowCount (now landmarks) * n) (now removed) (now added) (now ahead) (now back) ⌝ }
     ensures { λ r. ⌜ SidesDone n (now (landmarks .entry)) (network (now (tails .entry)) (now (heads .entry)) (now (weights .entry)) (now (forward .entry)) (now (backward .entry)) count) (edges (now (tails2 .entry)) (now (heads2 .entry)) (now (weights2 .entry)) count2) (now (ahead .exit)) (now (back .exit)) r ⌝ }
 {
-    let size1 = compare::missing(
+    let nremoved = compare::find_missing(
         n,
         count,
         tails,
@@ -300,9 +284,9 @@ pub fn batch_runs(
         tails2,
         heads2,
         weights2,
-        gone,
+        removed,
     );
-    let size2 = compare::missing(
+    let nadded = compare::find_missing(
         n,
         count2,
         tails2,
@@ -312,9 +296,9 @@ pub fn batch_runs(
         tails,
         heads,
         weights,
-        fresh,
+        added,
     );
-    batch_tables(
+    index_old_then_run(
         n as usize,
         landmarks,
         tails,
@@ -323,14 +307,14 @@ pub fn batch_runs(
         count,
         forward,
         backward,
-        size1,
-        gone,
+        nremoved,
+        removed,
         tails2,
         heads2,
         weights2,
         count2,
-        size2,
-        fresh,
+        nadded,
+        added,
         ahead,
         back,
     )

@@ -10,10 +10,10 @@ use Rattle.apply.proofs.Applying.{rows-room}
 use Rattle.apply.proofs.apply.Statement.{statement}
 use Rattle.apply.proofs.apply.Tie as tie
 
-abbrev start : tie.After-fresh → tie.Start
+abbrev start : tie.After-added → tie.Start
 start c = c .before .before .before .before .before .before .before .before .before .before .before .before .before .before .before .before
 
-few : (c : tie.After-fresh) → let g = start c .args in rowCount (g .landmarks .now) * g .n ≤ 5120
+few : (c : tie.After-added) → let g = start c .args in rowCount (g .landmarks .now) * g .n ≤ 5120
 few c = rows-room (start c .pre .0 .few) (start c .pre .0 .landmarks)
 
 mul-k : tie.Need-mul-k
@@ -49,7 +49,7 @@ apply-in-requires c κs =
     let d = c .before .before in
     let s = start d in
     let e = length-take-le {A = ℕ} (rowCount (s .args .landmarks .now) * s .args .n) (replicate 5120 0) (few d) in
-    (s .pre .0, (s .pre .1, record { gone = omega arith; fresh = omega arith; rows = record { ahead = e; back = e } }))
+    (s .pre .0, (s .pre .1, record { removed = omega arith; added = omega arith; rows = record { ahead = e; back = e } }))
 
 same-length : tie.Need-same-length
 same-length c = search needs

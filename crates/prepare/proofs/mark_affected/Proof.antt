@@ -12,8 +12,8 @@ clear-requires c κs = search needs
 empty-requires : tie.Need-empty-requires
 empty-requires c κs = search needs
 
-strike-removed-requires : tie.Need-strike-removed-requires
-strike-removed-requires c κs =
+mark-removed-heads-requires : tie.Need-mark-removed-heads-requires
+mark-removed-heads-requires c κs =
     let e = c .before .before in
     let k = e .before in
     let s = k .before .before .before .before .before .before .before .before .before .before in
@@ -23,7 +23,7 @@ spread-requires : tie.Need-spread-requires
 spread-requires c κs =
     let r = c .before .before in
     let s = r .before .before .before .before .before .before .before .before .before .before .before .before .before .before in
-    (s .pre .0 .words, s .pre .1 .0, r .strike-removed .ensures .going)
+    (s .pre .0 .words, s .pre .1 .fit, r .mark-removed-heads .ensures .going)
 
 returns : tie.Need-returns
 returns c =
@@ -33,12 +33,12 @@ returns c =
     let s = k .before .before .before .before .before .before .before .before .before .before in
     let a = s .args in
     let w = c .spread .ensures in (
-      marks-found (property (a .p)) (a .n) (a .s) (a .count) (a .tails .now) (a .heads .now) (a .weights .now) (a .gone .now) (a .size) (a .words .now) (s .pre .0)
-          _ _ _ _ _ _ (k .clear .ensures) (e .empty .ensures) (r .strike-removed .ensures) (w .0 (edges (a .tails .now) (a .heads .now) (a .weights .now) (a .count)) (s .pre .1 .1)) (w .1 .0) (w .1 .1),
+      marks-found (property (a .p)) (a .n) (a .s) (a .count) (a .tails .now) (a .heads .now) (a .weights .now) (a .removed .now) (a .nremoved) (a .words .now) (s .pre .0)
+          _ _ _ _ _ _ (k .clear .ensures) (e .empty .ensures) (r .mark-removed-heads .ensures) (w .0 (edges (a .tails .now) (a .heads .now) (a .weights .now) (a .count)) (s .pre .1 .own)) (w .1 .0) (w .1 .1),
       w .1 .0 .marks,
     )
 
 pub mark-affected-spec : {M : Type 1} → statement M
 mark-affected-spec =
     tie.close
-    (tie.spec clear-requires empty-requires strike-removed-requires spread-requires returns)
+    (tie.spec clear-requires empty-requires mark-removed-heads-requires spread-requires returns)

@@ -17,19 +17,30 @@ empty-requires c κs = search needs
 mark-affected-requires : tie.Need-mark-affected-requires
 mark-affected-requires c κs =
     let s = c .before .before .before .before .before .before .before .before .before .before .before .before .before .before .before .before .before in
-    (s .pre .0, s .pre .1 .0)
+    let o = s .pre .0 .removed in
+    (record { room = o .room; ends = o .ends; listed = o .missing .listed; below = o .missing .below; words = s .pre .1 .0 }, s .pre .0 .index)
 
-cleared-requires : tie.Need-cleared-requires
-cleared-requires c κs =
+copy-cleared-requires : tie.Need-copy-cleared-requires
+copy-cleared-requires c κs =
     let m = c .before .before in
     let s = m .before .before .before .before .before .before .before .before .before .before .before .before .before .before .before .before .before .before in
-    (m .mark-affected .ensures .1, s .pre .0 .words, s .pre .1 .1 .1 .0 .1)
+    (m .mark-affected .ensures .1, s .pre .1 .0, s .pre .1 .1)
 
 reopen-requires : tie.Need-reopen-requires
 reopen-requires c κs =
     let m = c .before .before .before .before .before .before .before in
     let s = m .before .before .before .before .before .before .before .before .before .before .before .before .before .before .before .before .before .before in
-    (s .pre .1 .1 .0 .0, m .mark-affected .ensures .1)
+    let w = s .pre .0 .added in (
+      record {
+        few = w .ends .few;
+        tails = w .room .tails;
+        from = w .ends .from;
+        listed = w .missing .listed;
+        below = w .missing .below;
+        index = s .pre .0 .into .index;
+      },
+      m .mark-affected .ensures .1,
+    )
 
 count-requires : tie.Need-count-requires
 count-requires c κs = search needs
@@ -47,10 +58,10 @@ returns c =
     let es = edges (a .tails1 .now) (a .heads1 .now) (a .weights1 .now) (a .count1) in
     let fs = edges (a .tails2 .now) (a .heads2 .now) (a .weights2 .now) (a .count2) in
     let ms = m .mark-affected .last .1 .1 .1 .1 .1 .1 .1 .1 .1 .1 .1 .1 .1 .0 in
-    let p = s .pre .1 .1 .1 in
-    let e : bits (a .n) ms ≡ affected (property (a .p)) es fs (a .s) (a .words .now) (a .n) = m .mark-affected .ensures .0 fs (p .1 .0) in (
-      prepared-made (property (a .p)) es fs (a .s) (a .n) (a .words .now) e (w .cleared .ensures)
-          (o .reopen .ensures .0 (a .heads2 .now) (a .weights2 .now) es (p .0 .0) (p .1 .1) (s .pre .1 .1 .0 .1)),
+    let p = s .pre .0 in
+    let e : bits (a .n) ms ≡ affected (property (a .p)) es fs (a .s) (a .words .now) (a .n) = m .mark-affected .ensures .0 fs (p .removed .missing) in (
+      prepared-made (property (a .p)) es fs (a .s) (a .n) (a .words .now) e (w .copy-cleared .ensures)
+          (o .reopen .ensures .0 (a .heads2 .now) (a .weights2 .now) es (p .added .room) (p .added .missing) (p .into .inward)),
       (c .count .ensures ∙ bits-count (a .n) ms (m .mark-affected .ensures .1) ∙ ap countOf e, o .reopen .ensures .1),
     )
 
@@ -60,7 +71,7 @@ prepare-spec =
     (tie.spec
     empty-requires
     mark-affected-requires
-    cleared-requires
+    copy-cleared-requires
     reopen-requires
     count-requires
     same-length

@@ -9,8 +9,8 @@ use Rattle.prepare.proofs.reopen.Tie as tie
 clear-requires : tie.Need-clear-requires
 clear-requires c κs = search needs
 
-wake-fresh-requires : tie.Need-wake-fresh-requires
-wake-fresh-requires c κs =
+wake-added-requires : tie.Need-wake-added-requires
+wake-added-requires c κs =
     let k = c .before in
     let s = k .before .before .before .before .before .before in
     let f = s .pre .0 in
@@ -21,7 +21,7 @@ wake-marked-requires c κs =
     let w = c .before in
     let s = w .before .before .before .before .before .before .before .before in
     let f = s .pre .0 in
-    (f .index, s .pre .1, w .wake-fresh .ensures .1)
+    (f .index, s .pre .1, w .wake-added .ensures .1)
 
 returns : tie.Need-returns
 returns c =
@@ -30,10 +30,10 @@ returns c =
     let s = k .before .before .before .before .before .before in
     let a = s .args in (
       λ hs ws es r q o.
-          reopen-done (a .n) (a .count) (a .tails .now) (a .fresh .now) (a .size) (a .firsts .now) (a .ends .now) (a .marks .now) (s .pre .1) _ _ _ (k .clear .ensures)
-          (w .wake-fresh .ensures .0) (c .wake-marked .ensures .0) (c .wake-marked .ensures .1) (λ v on. marks-within (a .n) (a .marks .now) v (s .pre .1) on) hs ws es r q o,
+          reopen-done (a .n) (a .count) (a .tails .now) (a .added .now) (a .nadded) (a .rfirsts .now) (a .rheads .now) (a .marks .now) (s .pre .1) _ _ _ (k .clear .ensures)
+          (w .wake-added .ensures .0) (c .wake-marked .ensures .0) (c .wake-marked .ensures .1) (λ v on. marks-within (a .n) (a .marks .now) v (s .pre .1) on) hs ws es r q o,
       c .wake-marked .ensures .1,
     )
 
 pub reopen-spec : {M : Type 1} → statement M
-reopen-spec = tie.close (tie.spec clear-requires wake-fresh-requires wake-marked-requires returns)
+reopen-spec = tie.close (tie.spec clear-requires wake-added-requires wake-marked-requires returns)

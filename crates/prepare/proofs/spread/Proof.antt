@@ -17,10 +17,10 @@ use Rattle.prepare.proofs.spread.Statement.{statement}
 use Rattle.prepare.proofs.spread.Tie as tie
 
 abbrev Inv-loop : tie.InvT-loop
-Inv-loop p n s count firsts ends lengths words marks₀ todo₀ marks todo = ((es : List Edge) → Own n firsts ends lengths es → Spreads (property p) n s es words marks₀ todo₀ marks todo) × Going n marks todo
+Inv-loop p n s count firsts iheads iweights words marks₀ todo₀ marks todo = ((es : List Edge) → Own n firsts iheads iweights es → Spreads (property p) n s es words marks₀ todo₀ marks todo) × Going n marks todo
 
 abbrev μ-loop : tie.MeasureT-loop
-μ-loop p n s count firsts ends lengths words marks₀ todo₀ marks todo = 2 * (capacity - countOf (waitingOf marks)) + countOf (waitingOf todo)
+μ-loop p n s count firsts iheads iweights words marks₀ todo₀ marks todo = 2 * (capacity - countOf (waitingOf marks)) + countOf (waitingOf todo)
 
 -- what was found
 found : (c : tie.After-next Inv-loop μ-loop) → First (waitingOf (c .before .before .before .before .loop .todo)) 0 (c .next .given .0 .0)

@@ -9,10 +9,10 @@ use Rattle.prepare.proofs.spread_from.Statement.{statement}
 use Rattle.prepare.proofs.spread_from.Tie as tie
 
 abbrev Inv-loop : tie.InvT-loop
-Inv-loop p n s count u firsts ends lengths words marks₀ todo₀ hi j₀ marks todo j = Along (property p) n s ends lengths u j₀ j words marks₀ todo₀ marks todo × (j₀ ≤ j) × (j ≤ hi) × (hi ≤ count)
+Inv-loop p n s count u firsts iheads iweights words marks₀ todo₀ hi j₀ marks todo j = Along (property p) n s iheads iweights u j₀ j words marks₀ todo₀ marks todo × (j₀ ≤ j) × (j ≤ hi) × (hi ≤ count)
 
 abbrev μ-loop : tie.MeasureT-loop
-μ-loop p n s count u firsts ends lengths words marks₀ todo₀ hi j₀ marks todo j = hi - j
+μ-loop p n s count u firsts iheads iweights words marks₀ todo₀ hi j₀ marks todo j = hi - j
 
 add-hi : tie.Need-add-hi Inv-loop μ-loop
 add-hi c = search needs
@@ -41,23 +41,23 @@ loop-holds c =
     let a = s .args in
     (along-start (s .pre .1 .0), omega arith, s .pre .0 .2 .rising (a .u) (s .pre .0 .0), s .pre .0 .2 .within (a .u) (s .pre .0 .0))
 
-cast-strike : tie.Need-cast-strike Inv-loop μ-loop
-cast-strike c = search needs
+cast-mark-head : tie.Need-cast-mark-head Inv-loop μ-loop
+cast-mark-head c = search needs
 
-mul-strike : tie.Need-mul-strike Inv-loop μ-loop
-mul-strike c = search needs
+mul-mark-head : tie.Need-mul-mark-head Inv-loop μ-loop
+mul-mark-head c = search needs
 
-shared-slice-read-strike : tie.Need-shared-slice-read-strike Inv-loop μ-loop
-shared-slice-read-strike c = search needs
+shared-slice-read-mark-head : tie.Need-shared-slice-read-mark-head Inv-loop μ-loop
+shared-slice-read-mark-head c = search needs
 
-mul-strike-2 : tie.Need-mul-strike-2 Inv-loop μ-loop
-mul-strike-2 c = search needs
+mul-mark-head-2 : tie.Need-mul-mark-head-2 Inv-loop μ-loop
+mul-mark-head-2 c = search needs
 
-shared-slice-read-strike-2 : tie.Need-shared-slice-read-strike-2 Inv-loop μ-loop
-shared-slice-read-strike-2 c = search needs
+shared-slice-read-mark-head-2 : tie.Need-shared-slice-read-mark-head-2 Inv-loop μ-loop
+shared-slice-read-mark-head-2 c = search needs
 
-strike-requires : tie.Need-strike-requires Inv-loop μ-loop
-strike-requires c κs =
+mark-head-requires : tie.Need-mark-head-requires Inv-loop μ-loop
+mark-head-requires c κs =
     let t = c .before .before .before .before in
     let l = t .before in
     let s = l .before .before .before .before .before .before .before in
@@ -75,7 +75,7 @@ loop-again c =
     let l = t .before in
     let s = l .before .before .before .before .before .before .before in
     let h = s .pre .0 .2 .inside (l .loop .j) (omega arith) in
-    (along-turn (l .loop .inv .0) (s .pre .1 .1) (l .loop .inv .1) h _ _ (c .strike .ensures .0) (c .strike .ensures .1), omega arith, omega arith, omega arith)
+    (along-turn (l .loop .inv .0) (s .pre .1 .1) (l .loop .inv .1) h _ _ (c .mark-head .ensures .0) (c .mark-head .ensures .1), omega arith, omega arith, omega arith)
 
 returns : tie.Need-returns Inv-loop μ-loop
 returns c =
@@ -96,12 +96,12 @@ spread-from-spec =
     shared-slice-read-j
     cast-j
     loop-holds
-    cast-strike
-    mul-strike
-    shared-slice-read-strike
-    mul-strike-2
-    shared-slice-read-strike-2
-    strike-requires
+    cast-mark-head
+    mul-mark-head
+    shared-slice-read-mark-head
+    mul-mark-head-2
+    shared-slice-read-mark-head-2
+    mark-head-requires
     add-j
     loop-less
     loop-again

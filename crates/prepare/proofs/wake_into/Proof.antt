@@ -13,10 +13,10 @@ use Rattle.prepare.proofs.wake_into.Statement.{statement}
 use Rattle.prepare.proofs.wake_into.Tie as tie
 
 abbrev Inv-loop : tie.InvT-loop
-Inv-loop n count v firsts ends waiting₀ hi j₀ waiting j = Raised (waitingOf waiting₀) (waitingOf waiting) (λ t. (k : ℕ) × (j₀ ≤ k) × (k < j) × (getD ends k 0 ≡ t)) × Marks n waiting × (j₀ ≤ j) × (hi ≤ count) × (j ≤ hi)
+Inv-loop n count v rfirsts rheads waiting₀ hi j₀ waiting j = Raised (waitingOf waiting₀) (waitingOf waiting) (λ t. (k : ℕ) × (j₀ ≤ k) × (k < j) × (getD rheads k 0 ≡ t)) × Marks n waiting × (j₀ ≤ j) × (hi ≤ count) × (j ≤ hi)
 
 abbrev μ-loop : tie.MeasureT-loop
-μ-loop n count v firsts ends waiting₀ hi j₀ waiting j = hi - j
+μ-loop n count v rfirsts rheads waiting₀ hi j₀ waiting j = hi - j
 
 add-hi : tie.Need-add-hi Inv-loop μ-loop
 add-hi c = search needs
@@ -40,7 +40,7 @@ cast-j : tie.Need-cast-j Inv-loop μ-loop
 cast-j c = omega (arith, c .shared-slice-known4 .given (c .before .before .before .before .args .v))
 
 -- the tail at hand is a vertex
-inside : (c : tie.In-loop Inv-loop μ-loop) → let g = c .before .before .before .before .before .before .args in getD (g .ends .now) (c .before .loop .j) 0 < g .n
+inside : (c : tie.In-loop Inv-loop μ-loop) → let g = c .before .before .before .before .before .before .args in getD (g .rheads .now) (c .before .loop .j) 0 < g .n
 inside c = c .before .before .before .before .before .before .pre .1 .inside (c .before .loop .j) (omega (arith, c .loop-test .taken, c .before .loop .inv .3))
 
 loop-holds : tie.Need-loop-holds Inv-loop μ-loop
@@ -72,13 +72,13 @@ loop-again c =
     let l = t .before in
     let at = l .loop .inv in
     let g = l .before .before .before .before .before .args in
-    (raised-part _ (waitingOf (l .loop .waiting)) _ (g .ends .now) _ _ (at .0) (omega (arith, inside t, at .1 .few, at .1 .bits)) (c .insert .ensures) (at .2), marks-set _ _ _ _ _ (inside t) (c .insert .ensures) (at .1), omega arith, omega arith, omega arith)
+    (raised-part _ (waitingOf (l .loop .waiting)) _ (g .rheads .now) _ _ (at .0) (omega (arith, inside t, at .1 .few, at .1 .bits)) (c .insert .ensures) (at .2), marks-set _ _ _ _ _ (inside t) (c .insert .ensures) (at .1), omega arith, omega arith, omega arith)
 
 returns : tie.Need-returns Inv-loop μ-loop
 returns c =
     let l = c .before in
     let g = l .before .before .before .before .before .args in
-    (raised-whole _ _ (g .ends .now) _ _ _ (omega (arith, c .loop-test .left, l .loop .inv .4)) (l .loop .inv .0), l .loop .inv .1)
+    (raised-whole _ _ (g .rheads .now) _ _ _ (omega (arith, c .loop-test .left, l .loop .inv .4)) (l .loop .inv .0), l .loop .inv .1)
 
 pub wake-into-spec : {M : Type 1} → statement M
 wake-into-spec =

@@ -26,37 +26,15 @@ shared-slice-read-prepare c = search needs
 prepare-requires : tie.Need-prepare-requires
 prepare-requires c κs =
     let s = start (c .before .before .before) in
-    let o = s .pre .1 .0 in
-    let w = s .pre .1 .1 .0 in
-    let i = s .pre .1 .1 .1 .0 in
-    let t = s .pre .1 .1 .1 .1 .1 in (
-      record { room = o .room; ends = o .ends; listed = o .missing .listed; below = o .missing .below; words = s .pre .0 .2 },
-      (
-        (i .fit, i .own),
-        (
-          (
-            record {
-              few = w .ends .few;
-              tails = w .room .tails;
-              from = w .ends .from;
-              listed = w .missing .listed;
-              below = w .missing .below;
-              index = t .index;
-            },
-            t .inward,
-          ),
-          ((w .room, s .pre .0 .3), (o .missing, w .missing)),
-        ),
-      ),
-    )
+    (s .pre .1 .batch, (s .pre .0 .2, s .pre .0 .3))
 
 run-unscheduled-requires : tie.Need-run-unscheduled-requires
 run-unscheduled-requires c κs =
     let p = c .before .before .before .before in
     let s = start (p .before .before .before .before) in
     let m = p .prepare .ensures .1 .1 in (
-      s .pre .1 .1 .1 .1 .0 .fit,
-      record { words = p .prepare .kept .1 .1 .1 .1 .1 .1 .1 .1 .1 .1 .1 .1 .1 .1 .1 .1 .1 .1 .1 .1 .1 .0 ∙ s .pre .0 .3; waiting = record { few = s .pre .1 .1 .1 .1 .0 .fit .few; bits = m .bits; idle = m .idle } },
+      s .pre .1 .index .fit,
+      record { words = p .prepare .kept .1 .1 .1 .1 .1 .1 .1 .1 .1 .1 .1 .1 .1 .1 .1 .1 .1 .1 .1 .1 .1 .0 ∙ s .pre .0 .3; waiting = record { few = s .pre .1 .index .fit .few; bits = m .bits; idle = m .idle } },
     )
 
 any-requires : tie.Need-any-requires
@@ -70,8 +48,8 @@ returns c =
     let q = c .before .before .before .before in
     let p = q .before .before .before .before .before in
     let s = start (p .before .before .before .before) in
-    row-done (s .args .n) (s .args .r) (s .args .landmarks .now) _ _ _ _ _ _ _ (q .run-unscheduled .result) (p .prepare .ensures .0) (q .run-unscheduled .ensures .0 _ (s .pre .1 .1 .1 .1 .0 .own))
-    _ (s .pre .1 .1 .1 .1 .0 .fit .few) (q .run-unscheduled .ensures .1) (c .any .ensures) (p .prepare .ensures .1 .0) refl
+    row-done (s .args .n) (s .args .r) (s .args .landmarks .now) _ _ _ _ _ _ _ (q .run-unscheduled .result) (p .prepare .ensures .0) (q .run-unscheduled .ensures .0 _ (s .pre .1 .index .own))
+    _ (s .pre .1 .index .fit .few) (q .run-unscheduled .ensures .1) (c .any .ensures) (p .prepare .ensures .1 .0) refl
 
 pub batch-row-spec : {M : Type 1} → statement M
 batch-row-spec =

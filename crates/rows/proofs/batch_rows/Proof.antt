@@ -12,11 +12,11 @@ use Rattle.rows.proofs.batch_rows.Statement.{statement}
 use Rattle.rows.proofs.batch_rows.Tie as tie
 
 abbrev Inv-loop : tie.InvT-loop
-Inv-loop n landmarks count1 tails1 heads1 weights1 size1 gone firsts1 ends1 lengths1 count2 tails2 heads2 weights2 size2 fresh firsts2 ends2 lengths2 firsts3 ends3 rows out₀ size unsettled₀ affected₀ stores₀ r₀ out unsettled affected stores r =
+Inv-loop n landmarks count1 tails1 heads1 weights1 nremoved removed firsts1 iheads1 iweights1 count2 tails2 heads2 weights2 nadded added firsts2 iheads2 iweights2 rfirsts2 rheads2 rows out₀ size unsettled₀ affected₀ stores₀ r₀ out unsettled affected stores r =
     Rowing n landmarks (edges tails1 heads1 weights1 count1) (edges tails2 heads2 weights2 count2) rows out unsettled affected stores r size
 
 abbrev μ-loop : tie.MeasureT-loop
-μ-loop n landmarks count1 tails1 heads1 weights1 size1 gone firsts1 ends1 lengths1 count2 tails2 heads2 weights2 size2 fresh firsts2 ends2 lengths2 firsts3 ends3 rows out₀ size unsettled₀ affected₀ stores₀ r₀ out unsettled affected stores r =
+μ-loop n landmarks count1 tails1 heads1 weights1 nremoved removed firsts1 iheads1 iweights1 count2 tails2 heads2 weights2 nadded added firsts2 iheads2 iweights2 rfirsts2 rheads2 rows out₀ size unsettled₀ affected₀ stores₀ r₀ out unsettled affected stores r =
     size - r
 
 abbrev start : tie.At-loop Inv-loop μ-loop → tie.Start Inv-loop μ-loop

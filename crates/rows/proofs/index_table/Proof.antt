@@ -54,10 +54,10 @@ returns c =
     let d = y .1 .1 .1 .1 .1 .1 .1 .1 .1 .0 in
     let m = s .pre .1 .3 in
     let room : Room (s .args .count) (v .reverse-table .last .1 .1 .1 .1 .1 .1 .1 .0) (v .reverse-table .last .1 .1 .1 .1 .1 .1 .1 .1 .0) (v .reverse-table .last .1 .1 .1 .1 .1 .1 .1 .1 .1 .0) =
-    record { tails = omega (arith, m .tails); heads = omega (arith, m .heads); weights = omega (arith, m .weights) } in (
-      indexed-table _ _ _ _ _ _ few t (omega (arith, s .pre .1 .0)) (i .index .ensures),
-      indexed-reversed _ _ _ _ _ _ few t (omega (arith, s .pre .1 .2)) _ _ _ room (v .reverse-table .ensures .0) (v .reverse-table .ensures .1),
-    )
+    record { tails = omega (arith, m .tails); heads = omega (arith, m .heads); weights = omega (arith, m .weights) } in record {
+      forward = indexed-table _ _ _ _ _ _ few t (omega (arith, s .pre .1 .0)) (i .index .ensures);
+      backward = indexed-reversed _ _ _ _ _ _ few t (omega (arith, s .pre .1 .2)) _ _ _ room (v .reverse-table .ensures .0) (v .reverse-table .ensures .1);
+    }
 
 pub index-table-spec : {M : Type 1} → statement M
 index-table-spec =

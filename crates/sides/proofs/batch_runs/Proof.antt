@@ -8,35 +8,41 @@ use borrow.Author.Needs.{needs}
 use Rattle.sides.proofs.batch_runs.Statement.{statement}
 use Rattle.sides.proofs.batch_runs.Tie as tie
 
-abbrev start : tie.After-missing-arg → tie.Start
+abbrev start : tie.After-find-missing-arg → tie.Start
 start c = c .before .before .before .before .before .before .before .before .before .before .before .before .before .before
 
-missing-requires : tie.Need-missing-requires
-missing-requires c κs =
+find-missing-requires : tie.Need-find-missing-requires
+find-missing-requires c κs =
     let s = start c in
     let t = s .pre .0 .table in
     let u = s .pre .1 .0 in
     let l : s .args .count ≤ maxEdges = t .few in
-    let z = s .pre .1 .1 .gone in
+    let z = s .pre .1 .1 .removed in
     ((room-less l (t .room), omega arith, l), (t .rules, ((room-less (u .few) (u .room), u .few), u .rules)))
 
-missing-requires-2 : tie.Need-missing-requires-2
-missing-requires-2 c κs =
+find-missing-requires-2 : tie.Need-find-missing-requires-2
+find-missing-requires-2 c κs =
     let s = start (c .before .before .before .before) in
     let t = s .pre .0 .table in
     let u = s .pre .1 .0 in
     let l : s .args .count2 ≤ maxEdges = u .few in
-    let z = s .pre .1 .1 .fresh in
+    let z = s .pre .1 .1 .added in
     ((room-less l (u .room), omega arith, l), (u .rules, ((room-less (t .few) (t .room), t .few), t .rules)))
 
-batch-tables-requires : tie.Need-batch-tables-requires
-batch-tables-requires c κs =
+index-old-then-run-requires : tie.Need-index-old-then-run-requires
+index-old-then-run-requires c κs =
     let f = c .before .before .before .before .before .before in
     let g = f .before .before .before .before in
     let s = start (g .before) in
     let few = s .pre .0 .few in
     let z = s .pre .1 .1 in
-    (s .pre .0, (s .pre .1 .0, (compared-made _ _ _ _ _ _ _ _ few (s .pre .0 .table) (g .missing .ensures), (compared-made _ _ _ _ _ _ _ _ few (s .pre .1 .0) (f .missing2 .ensures), z .rows))))
+    record {
+      fair = s .pre .0;
+      table = s .pre .1 .0;
+      removed = compared-made _ _ _ _ _ _ _ _ few (s .pre .0 .table) (g .find-missing .ensures);
+      added = compared-made _ _ _ _ _ _ _ _ few (s .pre .1 .0) (f .find-missing2 .ensures);
+      rows = z .rows;
+    }
 
 same-length : tie.Need-same-length
 same-length c = search needs
@@ -57,9 +63,9 @@ pub batch-runs-spec : {M : Type 1} → statement M
 batch-runs-spec =
     tie.close
     (tie.spec
-    missing-requires
-    missing-requires-2
-    batch-tables-requires
+    find-missing-requires
+    find-missing-requires-2
+    index-old-then-run-requires
     same-length
     same-length-2
     same-length-3

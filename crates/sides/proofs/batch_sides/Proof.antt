@@ -12,18 +12,38 @@ start c = c .before .before .before .before .before .before .before .before .bef
 batch-rows-requires : tie.Need-batch-rows-requires
 batch-rows-requires c κs =
     let s = start (c .before) in
-    let w = s .pre .1 .1 .1 .0 in (
-      (s .pre .0 .landmarks, s .pre .0 .forward, s .pre .1 .1 .1 .1 .0 .ahead),
-      (s .pre .1 .1 .0, (w, (s .pre .1 .1 .1 .1 .1 .0, (s .pre .1 .1 .1 .1 .1 .1 .1 .0, entered-reversed _ _ _ _ _ _ _ _ (w .room) (w .ends) (s .pre .1 .1 .1 .1 .1 .1 .1 .1))))),
+    let p = s .pre .0 in
+    let old = s .pre .1 .0 in
+    let new = s .pre .1 .1 in (
+      (p .fair .landmarks, p .fair .forward, p .rows .ahead),
+      record {
+        batch = record {
+          removed = p .removed;
+          added = p .added;
+          index = old .forward;
+          into = entered-reversed _ _ _ _ _ _ _ _ (p .added .room) (p .added .ends) (new .backward);
+        };
+        index = new .forward;
+      },
     )
 
 batch-rows-requires-2 : tie.Need-batch-rows-requires-2
 batch-rows-requires-2 c κs =
     let s = start (c .before .before .before .before .before) in
-    let o = compared-reversed _ _ _ _ _ _ _ _ _ _ _ (s .pre .1 .1 .0) in
-    let w = compared-reversed _ _ _ _ _ _ _ _ _ _ _ (s .pre .1 .1 .1 .0) in (
-      (s .pre .0 .landmarks, s .pre .0 .backward, s .pre .1 .1 .1 .1 .0 .back),
-      (o, (w, (s .pre .1 .1 .1 .1 .1 .1 .0, (s .pre .1 .1 .1 .1 .1 .1 .1 .1, entered-reversed _ _ _ _ _ _ _ _ (w .room) (w .ends) (s .pre .1 .1 .1 .1 .1 .1 .1 .0))))),
+    let p = s .pre .0 in
+    let old = s .pre .1 .0 in
+    let new = s .pre .1 .1 in
+    let w = compared-reversed _ _ _ _ _ _ _ _ _ _ _ (p .added) in (
+      (p .fair .landmarks, p .fair .backward, p .rows .back),
+      record {
+        batch = record {
+          removed = compared-reversed _ _ _ _ _ _ _ _ _ _ _ (p .removed);
+          added = w;
+          index = old .backward;
+          into = entered-reversed _ _ _ _ _ _ _ _ (w .room) (w .ends) (new .forward);
+        };
+        index = new .backward;
+      },
     )
 
 add-t34 : tie.Need-add-t34

@@ -1,10 +1,10 @@
--- `sides::batch_indexed` meets its contract. Assumes nothing.
+-- `sides::index_new_then_run` meets its contract. Assumes nothing.
 use native.Mathlib.Omega.{arith}
 use Prim.Native.Nat.{_≤_}
 use Rattle.graph.specs.Limits.{maxVertices}
 use borrow.Author.Needs.{needs}
-use Rattle.sides.proofs.batch_indexed.Statement.{statement}
-use Rattle.sides.proofs.batch_indexed.Tie as tie
+use Rattle.sides.proofs.index_new_then_run.Statement.{statement}
+use Rattle.sides.proofs.index_new_then_run.Tie as tie
 
 slice-aggregate-index-table : tie.Need-slice-aggregate-index-table
 slice-aggregate-index-table c = search needs
@@ -30,8 +30,8 @@ start c = c .before .before .before .before .before .before .before .before .bef
 index-table-requires : tie.Need-index-table-requires
 index-table-requires c κs =
     let s = start c in
-    let t = s .pre .1 .0 in
-    let few : s .args .n ≤ maxVertices = s .pre .0 .few in
+    let t = s .pre .0 .table in
+    let few : s .args .n ≤ maxVertices = s .pre .0 .fair .few in
     ((few, t), (omega arith, omega arith, omega arith, record { tails = t .few; heads = t .few; weights = t .few }))
 
 slice-aggregate-batch-sides : tie.Need-slice-aggregate-batch-sides
@@ -50,7 +50,7 @@ batch-sides-requires : tie.Need-batch-sides-requires
 batch-sides-requires c κs =
     let v = c .before .before .before .before .before .before .before .before .before .before .before .before in
     let s = start (v .before) in
-    (s .pre .0, (s .pre .1 .0, (s .pre .1 .1 .0, (s .pre .1 .1 .1 .0, (s .pre .1 .1 .1 .1 .0, (s .pre .1 .1 .1 .1 .1 .0, (s .pre .1 .1 .1 .1 .1 .1, (v .index-table .ensures .0, v .index-table .ensures .1))))))))
+    (s .pre .0, (s .pre .1, v .index-table .ensures))
 
 same-length : tie.Need-same-length
 same-length c = search needs
@@ -61,8 +61,8 @@ same-length-2 c = search needs
 returns : tie.Need-returns
 returns c = search needs
 
-pub batch-indexed-spec : {M : Type 1} → statement M
-batch-indexed-spec =
+pub index-new-then-run-spec : {M : Type 1} → statement M
+index-new-then-run-spec =
     tie.close
     (tie.spec
     slice-aggregate-index-table

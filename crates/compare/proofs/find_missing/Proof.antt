@@ -1,4 +1,4 @@
--- `compare::missing` meets its contract. The loop's invariant: the edges so far are judged, and those of the other table so far precede
+-- `compare::find_missing` meets its contract. The loop's invariant: the edges so far are judged, and those of the other table so far precede
 -- the edge at hand. Assumes nothing.
 use mathlib.Core.Path.{_≡_, refl, ap, _∙_}
 use Prim.Native.Nat.{_-_, _<_}
@@ -8,8 +8,8 @@ use Rattle.graph.specs.Edge.{edges}
 use Rattle.compare.specs.Code.{Passed}
 use Rattle.compare.proofs.Listing.{Finding, find-start, find-turn, find-done, passed-none, passed-next}
 use borrow.Author.Needs.{needs}
-use Rattle.compare.proofs.missing.Statement.{statement}
-use Rattle.compare.proofs.missing.Tie as tie
+use Rattle.compare.proofs.find_missing.Statement.{statement}
+use Rattle.compare.proofs.find_missing.Tie as tie
 
 abbrev Inv-loop : tie.InvT-loop
 Inv-loop n count1 tails1 heads1 weights1 count2 tails2 heads2 weights2 list₀ size₀ from₀ k₀ list size from k =
@@ -90,8 +90,8 @@ returns c =
     let l = c .before in
     find-done (l .loop .inv .0) (c .loop-test .left)
 
-pub missing-spec : {M : Type 1} → statement M
-missing-spec =
+pub find-missing-spec : {M : Type 1} → statement M
+find-missing-spec =
     tie.close
     (tie.spec
     Inv-loop

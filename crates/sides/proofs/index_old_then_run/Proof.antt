@@ -1,10 +1,10 @@
--- `sides::batch_tables` meets its contract. Assumes nothing.
+-- `sides::index_old_then_run` meets its contract. Assumes nothing.
 use native.Mathlib.Omega.{arith}
 use Prim.Native.Nat.{_≤_}
 use Rattle.graph.specs.Limits.{maxVertices}
 use borrow.Author.Needs.{needs}
-use Rattle.sides.proofs.batch_tables.Statement.{statement}
-use Rattle.sides.proofs.batch_tables.Tie as tie
+use Rattle.sides.proofs.index_old_then_run.Statement.{statement}
+use Rattle.sides.proofs.index_old_then_run.Tie as tie
 
 slice-aggregate-index-table : tie.Need-slice-aggregate-index-table
 slice-aggregate-index-table c = search needs
@@ -30,27 +30,27 @@ start c = c .before .before .before .before .before .before .before .before .bef
 index-table-requires : tie.Need-index-table-requires
 index-table-requires c κs =
     let s = start c in
-    let t = s .pre .0 .table in
-    let few : s .args .n ≤ maxVertices = s .pre .0 .few in
+    let t = s .pre .fair .table in
+    let few : s .args .n ≤ maxVertices = s .pre .fair .few in
     ((few, t), (omega arith, omega arith, omega arith, record { tails = t .few; heads = t .few; weights = t .few }))
 
-slice-aggregate-batch-indexed : tie.Need-slice-aggregate-batch-indexed
-slice-aggregate-batch-indexed c = search needs
+slice-aggregate-index-new-then-run : tie.Need-slice-aggregate-index-new-then-run
+slice-aggregate-index-new-then-run c = search needs
 
-slice-aggregate-batch-indexed-2 : tie.Need-slice-aggregate-batch-indexed-2
-slice-aggregate-batch-indexed-2 c = search needs
+slice-aggregate-index-new-then-run-2 : tie.Need-slice-aggregate-index-new-then-run-2
+slice-aggregate-index-new-then-run-2 c = search needs
 
-slice-aggregate-batch-indexed-3 : tie.Need-slice-aggregate-batch-indexed-3
-slice-aggregate-batch-indexed-3 c = search needs
+slice-aggregate-index-new-then-run-3 : tie.Need-slice-aggregate-index-new-then-run-3
+slice-aggregate-index-new-then-run-3 c = search needs
 
-slice-aggregate-batch-indexed-4 : tie.Need-slice-aggregate-batch-indexed-4
-slice-aggregate-batch-indexed-4 c = search needs
+slice-aggregate-index-new-then-run-4 : tie.Need-slice-aggregate-index-new-then-run-4
+slice-aggregate-index-new-then-run-4 c = search needs
 
-batch-indexed-requires : tie.Need-batch-indexed-requires
-batch-indexed-requires c κs =
+index-new-then-run-requires : tie.Need-index-new-then-run-requires
+index-new-then-run-requires c κs =
     let v = c .before .before .before .before .before .before .before .before .before .before .before .before in
     let s = start (v .before) in
-    (s .pre .0, (s .pre .1 .0, (s .pre .1 .1 .0, (s .pre .1 .1 .1 .0, (s .pre .1 .1 .1 .1, (v .index-table .ensures .0, v .index-table .ensures .1))))))
+    (s .pre, v .index-table .ensures)
 
 same-length : tie.Need-same-length
 same-length c = search needs
@@ -61,8 +61,8 @@ same-length-2 c = search needs
 returns : tie.Need-returns
 returns c = search needs
 
-pub batch-tables-spec : {M : Type 1} → statement M
-batch-tables-spec =
+pub index-old-then-run-spec : {M : Type 1} → statement M
+index-old-then-run-spec =
     tie.close
     (tie.spec
     slice-aggregate-index-table
@@ -72,11 +72,11 @@ batch-tables-spec =
     slice-aggregate-index-table-5
     slice-aggregate-index-table-6
     index-table-requires
-    slice-aggregate-batch-indexed
-    slice-aggregate-batch-indexed-2
-    slice-aggregate-batch-indexed-3
-    slice-aggregate-batch-indexed-4
-    batch-indexed-requires
+    slice-aggregate-index-new-then-run
+    slice-aggregate-index-new-then-run-2
+    slice-aggregate-index-new-then-run-3
+    slice-aggregate-index-new-then-run-4
+    index-new-then-run-requires
     same-length
     same-length-2
     returns)

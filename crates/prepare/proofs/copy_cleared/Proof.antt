@@ -1,4 +1,4 @@
--- `prepare::cleared` meets its contract. Assumes nothing.
+-- `prepare::copy_cleared` meets its contract. Assumes nothing.
 use mathlib.Core.Path.{ap, _∙_}
 use Prim.Native.Nat.{ℕ}
 use mathlib.Core.List.{List}
@@ -7,8 +7,8 @@ use Rattle.run.specs.Code.{bits}
 use Rattle.affected.specs.Prepared as start
 use Rattle.prepare.proofs.Starts.{copy-whole}
 use borrow.Author.Needs.{needs}
-use Rattle.prepare.proofs.cleared.Statement.{statement}
-use Rattle.prepare.proofs.cleared.Tie as tie
+use Rattle.prepare.proofs.copy_cleared.Statement.{statement}
+use Rattle.prepare.proofs.copy_cleared.Tie as tie
 
 copy-requires : tie.Need-copy-requires
 copy-requires c κs = search needs
@@ -28,5 +28,5 @@ returns c =
     m .clear-marked .ensures
     ∙ ap (λ (l : List ℕ). start.cleared (property (a .p)) (bits (a .n) (a .marks .now)) l (a .n)) (y .copy .ensures ∙ copy-whole (a .n) (a .out .now) (a .words .now) (s .pre .2) (s .pre .1))
 
-pub cleared-spec : {M : Type 1} → statement M
-cleared-spec = tie.close (tie.spec copy-requires clear-marked-requires same-length returns)
+pub copy-cleared-spec : {M : Type 1} → statement M
+copy-cleared-spec = tie.close (tie.spec copy-requires clear-marked-requires same-length returns)
