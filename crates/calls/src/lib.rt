@@ -30,7 +30,7 @@ pub fn is_in(v: u32, vertices: &[u32], from: usize) -> bool
 }
 
 // Whether the vertices are below `n` and different.
-pub fn are_landmarks(n: u32, vertices: &[u32]) -> bool
+fn are_landmarks(n: u32, vertices: &[u32]) -> bool
     ensures { λ r. ⌜ r ≡ areLandmarks n (now (vertices .entry)) ⌝ }
 {
     let mut i = 0;
@@ -61,7 +61,7 @@ pub fn judge_landmarks(n: u32, landmarks: &[u32]) -> Judged
 }
 
 // Whether a list has fewer words than five rows of `n` words for each landmark. The quotient is compared: the product may not fit.
-pub fn is_short(words: usize, landmarks: usize, n: u32) -> bool
+fn is_short(words: usize, landmarks: usize, n: u32) -> bool
     ensures { λ r. ⌜ r ≡ ltb words (landmarks * 5 * n) ⌝ }
 {
     if n == 0 {

@@ -7,21 +7,21 @@ ghost use Rattle.property.specs.Property.{plus, property};
 pub const GREATEST: u32 = 0xffff_ffff;
 
 // The sum of two words, or the greatest word where it is no less than that.
-pub fn sum(a: u32, b: u32) -> u32
+fn sum(a: u32, b: u32) -> u32
     ensures { λ r. ⌜ r ≡ plus a b ⌝ }
 {
     if b < GREATEST - a { a + b } else { GREATEST }
 }
 
 // The lesser of two words.
-pub fn lesser(a: u32, b: u32) -> u32
+fn lesser(a: u32, b: u32) -> u32
     ensures { λ r. ⌜ r ≡ min a b ⌝ }
 {
     if a < b { a } else { b }
 }
 
 // The greater of two words.
-pub fn greater(a: u32, b: u32) -> u32
+fn greater(a: u32, b: u32) -> u32
     ensures { λ r. ⌜ r ≡ max a b ⌝ }
 {
     if a < b { b } else { a }

@@ -22,7 +22,7 @@ pub struct Tally {
 }
 
 // The value `a` reaches vertex `h`: stored, set waiting and counted where it is better.
-pub fn relax(
+fn relax(
     p: u32,
     n: usize,
     h: usize,
@@ -80,7 +80,7 @@ pub fn handle(
 }
 
 // One round: each waiting vertex is handled when its turn comes, ascending.
-pub fn round(
+fn round(
     p: u32,
     n: usize,
     count: usize,
@@ -141,7 +141,7 @@ pub fn settle(
 }
 
 // One entry of the schedule: handled and counted if it waits, else skipped.
-pub fn take(
+fn take(
     p: u32,
     n: usize,
     count: usize,
@@ -171,7 +171,7 @@ pub fn take(
 }
 
 // The schedule is gone through.
-pub fn pass(
+fn pass(
     p: u32,
     n: usize,
     count: usize,
@@ -199,7 +199,7 @@ pub fn pass(
 }
 
 // A run on a tally by value: the schedule, then rounds.
-pub fn run_from(
+fn run_from(
     p: u32,
     n: usize,
     count: usize,
