@@ -15,6 +15,8 @@ ghost use Rattle.run.specs.Run as spec;
 ghost use Rattle.run.specs.Start.{opened};
 ghost use Rattle.run.specs.Code.{bits, noCounts, state, Marks, Sized, Low, Ready, Ran, Scheduled};
 
+// A count has 64 bits. A run asks for counts below 2 ^ 31, and each step within it for a bit or more above its caller's (`Ready` 32, 38 and 39,
+// `Low` 40): all that the loops of a run add to a count is less than 2 ^ 31, so no count wraps.
 pub struct Tally {
     pub taken: u64,
     pub rounds: u64,
