@@ -4,6 +4,9 @@ pub mod index;
 pub mod rules;
 pub mod words;
 
+ghost use mathlib.Core.Path.{_≡_};
+ghost use Prim.Native.Nat.{min};
+
 // The limits of a network, each named once.
 pub const MAX_VERTICES: u32 = 256;
 
@@ -34,4 +37,11 @@ pub enum Judged {
 pub enum Found {
     At(usize),
     Absent,
+}
+
+// The lesser of two counts.
+pub fn lesser(a: usize, b: usize) -> usize
+    ensures { λ r. ⌜ r ≡ min a b ⌝ }
+{
+    if a < b { a } else { b }
 }
