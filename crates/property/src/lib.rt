@@ -3,6 +3,9 @@ ghost use mathlib.Core.Path.{_≡_};
 ghost use Prim.Native.Nat.{min, max};
 ghost use Rattle.property.specs.Property.{plus, property};
 
+// How many properties there are: `properties` of specs/Property.antt is the same number. Their numbers are 1 to this.
+pub const PROPERTIES: usize = 5;
+
 // The greatest word, 4,294,967,295, at which sums stop.
 pub const GREATEST: u32 = 0xffff_ffff;
 
