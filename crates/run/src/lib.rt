@@ -309,7 +309,7 @@ pub fn run_unscheduled(
 ) -> Tally
     requires { ⌜ Fit n count (now firsts) (now heads) (now weights) × Sized n (now words) (now waiting) ⌝ }
     ensures { λ r. ⌜ ((es : List Edge) → Own n (now (firsts .entry)) (now (heads .entry)) (now (weights .entry)) es → state n (now (words .exit)) (now (waiting .exit)) r ≡ spec.settle (property p) es n n (state n (now (words .entry)) (now (waiting .entry)) noCounts)) ⌝ }
-    ensures { λ r. ⌜ Ran n (now (words .exit)) (now (waiting .exit)) noCounts r 0 n 134217728 ⌝ }
+    ensures { λ r. ⌜ Ran n (now (words .exit)) (now (waiting .exit)) noCounts r 0 n (maxVertices * maxVertices * maxEdges) ⌝ }
 {
     let schedule = [0u32; 0];
     run_counted(
