@@ -104,7 +104,7 @@ pub fn batch(
     let mut lists = [0u32; BATCH_WORDS];
     copy_changes(
         changes,
-        plain_batch::lesser(changes.len(), graph::MAX_BATCH),
+        graph::lesser(changes.len(), graph::MAX_BATCH),
         &mut lists,
     );
     batch_copied(

@@ -1,8 +1,9 @@
-// Refusals 2 and 3 of a network, the chains of refusals that its calls share, and where a row starts.
+// Refusals 2 and 3 of a network, the chains of refusals that its calls share, and the rows: where one starts, its property, its landmark.
 use graph::Judged;
 use graph::rules;
+use property::PROPERTIES;
 ghost use mathlib.Core.Path.{_≡_};
-ghost use Prim.Native.Nat.{_*_, _<_, _≤_};
+ghost use Prim.Native.Nat.{suc, _*_, _/_, _%_, _<_, _≤_};
 ghost use lib.ListN.{drop};
 ghost use lib.Dec.{ltb};
 ghost use Rattle.property.specs.Property.{properties, isProperty};
@@ -30,7 +31,7 @@ pub fn is_in(v: u32, vertices: &[u32], from: usize) -> bool
 }
 
 // Whether the vertices are below `n` and different.
-pub fn are_landmarks(n: u32, vertices: &[u32]) -> bool
+fn are_landmarks(n: u32, vertices: &[u32]) -> bool
     ensures { λ r. ⌜ r ≡ areLandmarks n (now (vertices .entry)) ⌝ }
 {
     let mut i = 0;
@@ -60,17 +61,17 @@ pub fn judge_landmarks(n: u32, landmarks: &[u32]) -> Judged
     )
 }
 
-// Whether a list has fewer words than five rows of `n` words for each landmark. The quotient is compared: the product may not fit.
-pub fn is_short(words: usize, landmarks: usize, n: u32) -> bool
-    ensures { λ r. ⌜ r ≡ ltb words (landmarks * 5 * n) ⌝ }
+// Whether a list has fewer words than a row of `n` words for each landmark and property. The quotient is compared: the product may not fit.
+fn is_short(words: usize, landmarks: usize, n: u32) -> bool
+    ensures { λ r. ⌜ r ≡ ltb words (landmarks * properties * n) ⌝ }
 {
     if n == 0 {
         return false;
     }
-    words / (5 * (n as usize)) < landmarks
+    words / (PROPERTIES * (n as usize)) < landmarks
 }
 
-// Number 2: a row list has fewer than landmarks × 5 × n words.
+// Number 2: a row list has fewer than landmarks × properties × n words.
 pub fn judge_rows(n: u32, landmarks: &[u32], forward: &[u32], backward: &[u32]) -> Judged
     ensures { λ r. ⌜ told r ≡ shortRows n (now (landmarks .entry)) (rowLists (now (forward .entry)) (now (backward .entry))) ⌝ }
 {
@@ -148,7 +149,7 @@ pub fn judge_all(
 pub fn is_property(p: u32) -> bool
     ensures { λ r. ⌜ r ≡ isProperty p ⌝ }
 {
-    0 < p && p <= 5
+    0 < p && p as usize <= PROPERTIES
 }
 
 // Where the row of landmark `i` of the list for property `p` starts in a row list.
@@ -156,5 +157,19 @@ pub fn row_start(p: u32, n: usize, i: usize) -> usize
     requires { ⌜ (0 < p) × (p ≤ properties) × (n ≤ maxVertices) × (i < maxLandmarks) ⌝ }
     ensures { λ r. ⌜ r ≡ rowAt i p * n ⌝ }
 {
-    (i * 5 + (p as usize - 1)) * n
+    (i * PROPERTIES + (p as usize - 1)) * n
+}
+
+// The number of the property of row `r` of a row list: `propertyOf r` is the property of that number.
+pub fn row_property(r: usize) -> u32
+    ensures { λ p. ⌜ p ≡ suc (r % properties) ⌝ }
+{
+    (r % PROPERTIES) as u32 + 1
+}
+
+// The place, among the landmarks, of the landmark of row `r` of a row list.
+pub fn row_landmark(r: usize) -> usize
+    ensures { λ i. ⌜ i ≡ r / properties ⌝ }
+{
+    r / PROPERTIES
 }

@@ -1,5 +1,6 @@
 // A frontier: one waiting bit for each vertex, in words of 64 bits. Each contract is an equation over `waitingOf`, the list of the bits,
-// so that a caller reasons about a list of Bool alone.
+// so that a caller reasons about a list of Bool alone. Each operation stands twice: a body that indexes a `&mut Words` lacks the fact that
+// there are `WORDS` words behind it, so it calls the form on slices, which serves any number of words.
 pub mod slices;
 
 ghost use mathlib.Core.Path.{_≡_};
@@ -8,7 +9,7 @@ ghost use Prim.Native.Nat.{_<_};
 ghost use lib.ListN.{length, getD, set, replicate};
 ghost use Rattle.frontier.specs.Waiting.{waitingOf, capacity, nextFrom, anyOf, countOf};
 
-// How many words a frontier has: `wordCount` of specs/Waiting.antt is the same number.
+// How many words a frontier has, a bit for each of 256 vertices: `wordCount` of specs/Waiting.antt is the same number.
 pub const WORDS: usize = 4;
 
 pub type Words = [u64; WORDS];

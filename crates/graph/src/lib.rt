@@ -4,6 +4,9 @@ pub mod index;
 pub mod rules;
 pub mod words;
 
+ghost use mathlib.Core.Path.{_≡_};
+ghost use Prim.Native.Nat.{min};
+
 // The limits of a network, each named once.
 pub const MAX_VERTICES: u32 = 256;
 
@@ -17,12 +20,12 @@ pub const MAX_BATCH: usize = 1024;
 
 pub const MAX_SCHEDULE: usize = 4096;
 
-// Words of scratch lists: a word for each vertex, and one more for an index; five rows for each landmark.
-pub const VERTEX_WORDS: usize = 256;
+// Words of scratch lists: a word for each vertex, and one more for an index; a row for each landmark and property.
+pub const VERTEX_WORDS: usize = MAX_VERTICES as usize;
 
-pub const INDEX_WORDS: usize = 257;
+pub const INDEX_WORDS: usize = VERTEX_WORDS + 1;
 
-pub const ROW_WORDS: usize = 5120;
+pub const ROW_WORDS: usize = MAX_LANDMARKS * property::PROPERTIES * VERTEX_WORDS;
 
 // A refusal with its number and place, or none.
 pub enum Judged {
@@ -34,4 +37,11 @@ pub enum Judged {
 pub enum Found {
     At(usize),
     Absent,
+}
+
+// The lesser of two counts.
+pub fn lesser(a: usize, b: usize) -> usize
+    ensures { λ r. ⌜ r ≡ min a b ⌝ }
+{
+    if a < b { a } else { b }
 }

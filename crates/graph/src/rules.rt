@@ -79,7 +79,7 @@ fn follows(n: u32, tails: &[u32], heads: &[u32], weights: &[u32], k: usize) -> b
 }
 
 // The table's rules: number 4 at the first record below the count that breaks them.
-pub fn judge_rules(n: u32, tails: &[u32], heads: &[u32], weights: &[u32], count: usize) -> Judged
+fn judge_rules(n: u32, tails: &[u32], heads: &[u32], weights: &[u32], count: usize) -> Judged
     requires { ⌜ Room count (now tails) (now heads) (now weights) ⌝ }
     ensures { λ r. ⌜ told r ≡ rules n (edges (now (tails .entry)) (now (heads .entry)) (now (weights .entry)) count) ⌝ }
 {

@@ -8,7 +8,7 @@ use native.Mathlib.Omega.{arith}
 use lib.ListN.{length, getD, drop}
 use lib.Dec.{eqb}
 use borrow.Author.Tests.{eq-eqb, ne-eqb}
-use Rattle.property.specs.Property.{Property, property}
+use Rattle.property.specs.Property.{Property, property, properties}
 use Rattle.graph.specs.declared.Judged.{Judged}
 use Rattle.graph.specs.declared.Judged.the-variants.{Fine, Refused}
 use Rattle.graph.specs.Refusal.{Verdict, Reply, accepted, replied}
@@ -25,15 +25,15 @@ use Rattle.calls.proofs.Rows.{row-word}
 
 -- ---- one record against one row
 
-pub relaxable-told : (n r t h w : ℕ) (ws : List ℕ) (v : ℕ) (b : Bool) → t < n → h < n → r * n + n ≤ length ws
-    → v ≡ property (r % 5 + 1) .along (getD ws (r * n + t) 0) w → b ≡ property (r % 5 + 1) .better v (getD ws (r * n + h) 0)
+pub relaxable-told : (n r : ℕ) {p : ℕ} (t h w : ℕ) (ws : List ℕ) (v : ℕ) (b : Bool) → p ≡ suc (r % properties) → t < n → h < n → r * n + n ≤ length ws
+    → v ≡ property p .along (getD ws (r * n + t) 0) w → b ≡ property p .better v (getD ws (r * n + h) 0)
     → b ≡ relaxable (propertyOf r) (row n r ws) (edge t h w)
-relaxable-told n r t h w ws v b ht hh f ev eb =
+relaxable-told n r {p} t h w ws v b e ht hh f ev eb =
     let P = propertyOf r in
-    let p : property (r % 5 + 1) ≡ P = ap property (add-one (r % 5)) in
+    let q : property p ≡ P = ap property e in
     let x = row-word P n r t ws ht (omega arith) in
     let y = row-word P n r h ws hh (omega arith) in
-    eb ∙ (rw (ev, p, x, y))
+    eb ∙ (rw (ev, q, x, y))
 
 -- ---- sides: forward rows go by the edges, backward rows by the reversed edges
 

@@ -10,10 +10,10 @@ pub enum Checked {
     Refused(u32, usize),
 }
 
-// The vertices of a landmark choice: how many, and four places of which the unused are 0.
+// The vertices of a landmark choice: how many, and a place for each landmark that there may be, of which the unused are 0.
 pub struct Choice {
     pub count: usize,
-    pub vertices: [u32; 4],
+    pub vertices: [u32; graph::MAX_LANDMARKS],
 }
 
 // The reply to a landmark choice. The vertices stand beside it.

@@ -20,7 +20,7 @@ fn is_relaxable(n: u32, words: &[u32], r: usize, t: u32, h: u32, w: u32) -> bool
     requires { ⌜ (t < n) × (h < n) × (r * n + n ≤ length (now words)) ⌝ }
     ensures { λ b. ⌜ b ≡ relaxable (propertyOf r) (row n r (now (words .entry))) (edge t h w) ⌝ }
 {
-    let p = (r % 5) as u32 + 1;
+    let p = calls::row_property(r);
     let start = r * (n as usize);
     let i = start + t as usize;
     let j = start + h as usize;
@@ -68,7 +68,7 @@ fn first_spot(
     requires { ⌜ faults n (now landmarks) (network (now tails) (now heads) (now weights) (now forward) (now backward) count) ≡ accept ⌝ }
     ensures { λ r. ⌜ checking r ≡ accepted (check n (now (landmarks .entry)) (network (now (tails .entry)) (now (heads .entry)) (now (weights .entry)) (now (forward .entry)) (now (backward .entry)) count)) ⌝ }
 {
-    let rows = landmarks.len() * 5;
+    let rows = landmarks.len() * property::PROPERTIES;
     let records = count as usize;
     let mut found = Checked::Settled;
     let mut side: u32 = 0;

@@ -2,16 +2,16 @@
 use mathlib.Core.Path.{_≡_, sym, ap, ap₂, _∙_}
 use mathlib.Core.Bool.{Bool, true, false, _||_}
 use mathlib.Core.List.{List, map}
-use Prim.Native.Nat.{ℕ, _+_, _*_, _/_, _%_, _≤_}
+use Prim.Native.Nat.{ℕ, suc, _*_, _/_, _%_, _≤_}
 use native.Mathlib.Nat.{mul-le-mul}
-use native.Mathlib.Numerals.{add-one}
 use native.Mathlib.Omega.{arith}
 use lib.ListN.{length, getD}
 use lib.Seq.{paste}
-use Rattle.property.specs.Property.{property}
+use Rattle.property.specs.Property.{property, properties}
 use Rattle.frontier.specs.Waiting.{waitingOf, anyOf}
 use Rattle.graph.specs.declared.Judged.{Judged}
 use Rattle.graph.specs.declared.Judged.the-variants as judged
+use Rattle.graph.specs.Limits.{maxVertices, maxLandmarks}
 use Rattle.graph.specs.Refusal.{accept, refuse, refuseIf, replied, choose}
 use Rattle.graph.specs.Edge.{Edge, reverse}
 use Rattle.graph.specs.Table.{size, shortTable, table}
@@ -35,12 +35,12 @@ use Rattle.calls.proofs.Judging.{rows-accept, landmarks-accept}
 
 -- ---- a row
 
--- row r is opened, and then settled
-module _ (n r : ℕ) (ls : List ℕ) (es : List Edge) (ws bs ws′ bs′ : List ℕ) (t : Tally)
-    (start : state n ws bs noCounts ≡ opened (property (r % 5 + 1)) n (getD ls (r / 5) 0))
-    (run : state n ws′ bs′ t ≡ settle (property (r % 5 + 1)) es n n (state n ws bs noCounts)) where
+-- row r, of property number p and the landmark at place i, is opened, and then settled
+module _ (n r : ℕ) {p i : ℕ} (ls : List ℕ) (es : List Edge) (ws bs ws′ bs′ : List ℕ) (t : Tally) (ep : p ≡ suc (r % properties)) (ei : i ≡ r / properties)
+    (start : state n ws bs noCounts ≡ opened (property p) n (getD ls i 0))
+    (run : state n ws′ bs′ t ≡ settle (property p) es n n (state n ws bs noCounts)) where
   row-run : state n ws′ bs′ t ≡ openRow n ls es r
-  row-run = run ∙ rw (start, add-one)
+  row-run = run ∙ rw (start, ep, ei)
 
   pub row-settled : (b : Bool) → Marks n bs′ → b ≡ anyOf (waitingOf bs′) → IsRow (openRow n ls es r) ws′ b
   row-settled b h e = record {
@@ -69,9 +69,9 @@ open-accept n ls ts hs ws f b m e =
     } in
     (o, x .0, x .1)
 
--- .. so that scratch lists of 5,120 words have room for the rows
-pub rows-few : {n m : ℕ} {ls ts hs ws : List ℕ} → Openable n m ls ts hs ws → rowCount ls * n ≤ 5120
-rows-few {n} {m} {ls} o = mul-le-mul {n₁ = rowCount ls} {m₁ = n} {n₂ = 20} {m₂ = 256} (omega (arith, o .landmarks .few)) (o .few)
+-- .. so that scratch lists for the rows of the most landmarks and vertices have room for the rows
+pub rows-few : {n m : ℕ} {ls ts hs ws : List ℕ} → Openable n m ls ts hs ws → rowCount ls * n ≤ maxLandmarks * properties * maxVertices
+rows-few {n} {m} {ls} o = mul-le-mul {n₁ = rowCount ls} {m₁ = n} {n₂ = maxLandmarks * properties} {m₂ = maxVertices} (omega (arith, o .landmarks .few)) (o .few)
 
 -- ---- the outcome: numbers 1 to 4, then 13
 

@@ -37,8 +37,8 @@ fn open_row(
     requires { ⌜ (r < rowCount (now landmarks)) × (length (now part) ≡ n) ⌝ }
     ensures { λ b. ⌜ ((es : List Edge) → Own n (now (firsts .entry)) (now (heads .entry)) (now (weights .entry)) es → IsRow (openRow n (now (landmarks .entry)) es r) (now (part .exit)) b) ⌝ }
 {
-    let p = (r % 5) as u32 + 1;
-    let i = r / 5;
+    let p = calls::row_property(r);
+    let i = calls::row_landmark(r);
     let s = landmarks[i] as usize;
     run::open_row(p, n, s, part, waiting);
     run::run_unscheduled(p, n, count, firsts, heads, weights, part, waiting);
@@ -59,7 +59,7 @@ fn open_rows(
     requires { ⌜ length (now out) ≡ rowCount (now landmarks) * n ⌝ }
     ensures { λ b. ⌜ ((es : List Edge) → Own n (now (firsts .entry)) (now (heads .entry)) (now (weights .entry)) es → AreRows (openRows n (now (landmarks .entry)) es) (now (out .exit)) b) ⌝ }
 {
-    let rows = landmarks.len() * 5;
+    let rows = landmarks.len() * property::PROPERTIES;
     let mut waiting = frontier::empty();
     let mut waits = false;
     let mut r = 0;
@@ -191,7 +191,7 @@ pub fn open(
         return Opened::Refused(number, place);
     }
     let size = n as usize;
-    let k = landmarks.len() * 5 * size;
+    let k = landmarks.len() * property::PROPERTIES * size;
     let mut fwd = [0u32; graph::ROW_WORDS];
     let mut bwd = [0u32; graph::ROW_WORDS];
     open_in(

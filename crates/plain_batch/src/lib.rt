@@ -5,7 +5,6 @@ use graph::Judged;
 use graph::words;
 use items::Edited;
 ghost use mathlib.Core.Path.{_≡_};
-ghost use Prim.Native.Nat.{min};
 ghost use lib.ListN.{length};
 ghost use Rattle.graph.specs.Limits.{maxEdges};
 ghost use Rattle.graph.specs.Refusal.{accept};
@@ -15,20 +14,13 @@ ghost use Rattle.calls.specs.Code.{network};
 ghost use Rattle.items.specs.Code.{changes};
 ghost use Rattle.apply.specs.Code.{batchOutcome};
 
-// The lesser of two numbers.
-pub fn lesser(a: usize, b: usize) -> usize
-    ensures { λ r. ⌜ r ≡ min a b ⌝ }
-{
-    if a < b { a } else { b }
-}
-
 // How many changes four lists hold side by side: as many as the shortest has words.
 fn count_changes(kinds: &[u32], froms: &[u32], tos: &[u32], values: &[u32]) -> usize
     ensures { λ r. ⌜ r ≡ length (changes (now (kinds .entry)) (now (froms .entry)) (now (tos .entry)) (now (values .entry))) ⌝ }
 {
-    lesser(
-        lesser(kinds.len(), froms.len()),
-        lesser(tos.len(), values.len()),
+    graph::lesser(
+        graph::lesser(kinds.len(), froms.len()),
+        graph::lesser(tos.len(), values.len()),
     )
 }
 

@@ -3,25 +3,28 @@ ghost use mathlib.Core.Path.{_≡_};
 ghost use Prim.Native.Nat.{min, max};
 ghost use Rattle.property.specs.Property.{plus, property};
 
+// How many properties there are: `properties` of specs/Property.antt is the same number. Their numbers are 1 to this.
+pub const PROPERTIES: usize = 5;
+
 // The greatest word, 4,294,967,295, at which sums stop.
 pub const GREATEST: u32 = 0xffff_ffff;
 
 // The sum of two words, or the greatest word where it is no less than that.
-pub fn sum(a: u32, b: u32) -> u32
+fn sum(a: u32, b: u32) -> u32
     ensures { λ r. ⌜ r ≡ plus a b ⌝ }
 {
     if b < GREATEST - a { a + b } else { GREATEST }
 }
 
 // The lesser of two words.
-pub fn lesser(a: u32, b: u32) -> u32
+fn lesser(a: u32, b: u32) -> u32
     ensures { λ r. ⌜ r ≡ min a b ⌝ }
 {
     if a < b { a } else { b }
 }
 
 // The greater of two words.
-pub fn greater(a: u32, b: u32) -> u32
+fn greater(a: u32, b: u32) -> u32
     ensures { λ r. ⌜ r ≡ max a b ⌝ }
 {
     if a < b { b } else { a }

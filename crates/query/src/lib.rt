@@ -112,7 +112,8 @@ fn finer(p: u32, a: u32, b: u32) -> u32
     if property::better(p, a, b) { a } else { b }
 }
 
-// The best, over the landmarks, of the backward word of the source joined with the forward word of `t`.
+// The best, over the landmarks, of the backward word of the source joined with the forward word of `t`. It goes from the last landmark down
+// because the definition folds from the right.
 fn bound(
     p: u32,
     n: usize,

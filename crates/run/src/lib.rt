@@ -15,6 +15,8 @@ ghost use Rattle.run.specs.Run as spec;
 ghost use Rattle.run.specs.Start.{opened};
 ghost use Rattle.run.specs.Code.{bits, noCounts, state, Marks, Sized, Low, Ready, Ran, Scheduled};
 
+// A count has 64 bits. A run asks for counts below 2 ^ 31, and each step within it for a bit or more above its caller's (`Ready` 32, 38 and 39,
+// `Low` 40): all that the loops of a run add to a count is less than 2 ^ 31, so no count wraps.
 pub struct Tally {
     pub taken: u64,
     pub rounds: u64,
@@ -22,7 +24,7 @@ pub struct Tally {
 }
 
 // The value `a` reaches vertex `h`: stored, set waiting and counted where it is better.
-pub fn relax(
+fn relax(
     p: u32,
     n: usize,
     h: usize,
@@ -80,7 +82,7 @@ pub fn handle(
 }
 
 // One round: each waiting vertex is handled when its turn comes, ascending.
-pub fn round(
+fn round(
     p: u32,
     n: usize,
     count: usize,
@@ -141,7 +143,7 @@ pub fn settle(
 }
 
 // One entry of the schedule: handled and counted if it waits, else skipped.
-pub fn take(
+fn take(
     p: u32,
     n: usize,
     count: usize,
@@ -171,7 +173,7 @@ pub fn take(
 }
 
 // The schedule is gone through.
-pub fn pass(
+fn pass(
     p: u32,
     n: usize,
     count: usize,
@@ -199,7 +201,7 @@ pub fn pass(
 }
 
 // A run on a tally by value: the schedule, then rounds.
-pub fn run_from(
+fn run_from(
     p: u32,
     n: usize,
     count: usize,
@@ -307,7 +309,7 @@ pub fn run_unscheduled(
 ) -> Tally
     requires { ⌜ Fit n count (now firsts) (now heads) (now weights) × Sized n (now words) (now waiting) ⌝ }
     ensures { λ r. ⌜ ((es : List Edge) → Own n (now (firsts .entry)) (now (heads .entry)) (now (weights .entry)) es → state n (now (words .exit)) (now (waiting .exit)) r ≡ spec.settle (property p) es n n (state n (now (words .entry)) (now (waiting .entry)) noCounts)) ⌝ }
-    ensures { λ r. ⌜ Ran n (now (words .exit)) (now (waiting .exit)) noCounts r 0 n 134217728 ⌝ }
+    ensures { λ r. ⌜ Ran n (now (words .exit)) (now (waiting .exit)) noCounts r 0 n (maxVertices * maxVertices * maxEdges) ⌝ }
 {
     let schedule = [0u32; 0];
     run_counted(

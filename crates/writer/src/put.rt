@@ -8,7 +8,7 @@ ghost use Rattle.dimacs.specs.Lines.{fieldsOf};
 ghost use Rattle.writer.specs.Code.{Fits, Wrote};
 
 // How many digits a number has in base ten.
-pub fn width(v: usize) -> usize
+fn width(v: usize) -> usize
     ensures { λ r. ⌜ r ≡ length (digits v) ⌝ }
 {
     let mut n: usize = 1;
@@ -21,7 +21,7 @@ pub fn width(v: usize) -> usize
 }
 
 // One byte.
-pub fn put_byte(b: u8, at: usize, out: &mut [u8]) -> usize
+fn put_byte(b: u8, at: usize, out: &mut [u8]) -> usize
     requires { ⌜ Fits (b ∷ []) at (now out) ⌝ }
     ensures { λ r. ⌜ Wrote (b ∷ []) at (now (out .entry)) r (now (out .exit)) ⌝ }
 {
@@ -43,7 +43,7 @@ pub fn put_word(word: &[u8], at: usize, out: &mut [u8]) -> usize
 }
 
 // A number in base ten, its last digit first.
-pub fn put_number(v: usize, at: usize, out: &mut [u8]) -> usize
+fn put_number(v: usize, at: usize, out: &mut [u8]) -> usize
     requires { ⌜ Fits (digits v) at (now out) ⌝ }
     ensures { λ r. ⌜ Wrote (digits v) at (now (out .entry)) r (now (out .exit)) ⌝ }
 {
@@ -59,7 +59,7 @@ pub fn put_number(v: usize, at: usize, out: &mut [u8]) -> usize
 }
 
 // A single space and a number.
-pub fn put_field(v: usize, at: usize, out: &mut [u8]) -> usize
+fn put_field(v: usize, at: usize, out: &mut [u8]) -> usize
     requires { ⌜ Fits (32 ∷ digits v) at (now out) ⌝ }
     ensures { λ r. ⌜ Wrote (32 ∷ digits v) at (now (out .entry)) r (now (out .exit)) ⌝ }
 {
@@ -68,7 +68,7 @@ pub fn put_field(v: usize, at: usize, out: &mut [u8]) -> usize
 }
 
 // Numbers, each after a single space.
-pub fn put_fields(values: &[usize], at: usize, out: &mut [u8]) -> usize
+fn put_fields(values: &[usize], at: usize, out: &mut [u8]) -> usize
     requires { ⌜ Fits (fieldsOf (now values)) at (now out) ⌝ }
     ensures { λ r. ⌜ Wrote (fieldsOf (now (values .entry))) at (now (out .entry)) r (now (out .exit)) ⌝ }
 {
@@ -82,7 +82,7 @@ pub fn put_fields(values: &[usize], at: usize, out: &mut [u8]) -> usize
 }
 
 // The end of a line: numbers, each after a single space, and the line feed.
-pub fn end_line(values: &[usize], at: usize, out: &mut [u8]) -> usize
+fn end_line(values: &[usize], at: usize, out: &mut [u8]) -> usize
     requires { ⌜ Fits (fieldsOf (now values) ++ (10 ∷ [])) at (now out) ⌝ }
     ensures { λ r. ⌜ Wrote (fieldsOf (now (values .entry)) ++ (10 ∷ [])) at (now (out .entry)) r (now (out .exit)) ⌝ }
 {

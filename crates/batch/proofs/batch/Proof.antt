@@ -55,10 +55,10 @@ use Rattle.batch.proofs.Scratch.{zeros, zeros-val, words-ty, is-zeros, 
 use Rattle.batch.proofs.Change as T
 use Rattle.apply.proofs.Applied as S
 use Rattle.apply.proofs.Applied.Laws as S′
-use Rattle.plain_batch.proofs.lesser as lesser
-use Rattle.plain_batch.proofs.lesser.Symbol as lesser-def
-use Rattle.plain_batch.proofs.lesser.Symbol.{name as #plain-batch·lesser}
-use Rattle.plain_batch.proofs.lesser.Met as lesser-thm
+use Rattle.graph.proofs.lesser as lesser
+use Rattle.graph.proofs.lesser.Symbol as lesser-def
+use Rattle.graph.proofs.lesser.Symbol.{name as #graph·lesser}
+use Rattle.graph.proofs.lesser.Met as lesser-thm
 use Rattle.batch.proofs.copy_changes as copy
 use Rattle.batch.proofs.copy_changes.Symbol as copy-def
 use Rattle.batch.proofs.copy_changes.Symbol.{name as #batch·copy-changes}
@@ -214,7 +214,7 @@ module _ {M : Type 1} (𝓤 : URA M) (H : Heap 𝓤) (A : Atoms 𝓤) (W : Given
       -- [the reply's; the last words of the five lists]
       nothing ! $ nothing ! $ fjoin ! $ move ! (2 ∷ 0 ∷ []) $ fjoin ! $ move ! (2 ∷ 0 ∷ []) $ fjoin ! $ nothing ! $ fjoin ! $ move ! (2 ∷ 0 ∷ []) $ fjoin ! $ move ! (2 ∷ 0 ∷ []) $ fjoin ! $ move ! (2 ∷ 0 ∷ []) $ fjoin ! $ nothing ! $ fjoin ! $ nothing ! $ fjoin ! $ done !
 
-  module _ (C : Calls 𝓤 H) (Λ : Loops 𝓤 H) (fm : FmC 𝓤 H (W .laws) C) (known-l : Triple 𝓤 (C #plain-batch·lesser) (Lesser 𝓤 H A at-mem run)) (known-c : Triple 𝓤 (C #batch·copy-changes) (Copy 𝓤 H A at-mem run)) (known-b : Triple 𝓤 (C #batch·batch-copied) (Core 𝓤 H A at-mem run)) where
+  module _ (C : Calls 𝓤 H) (Λ : Loops 𝓤 H) (fm : FmC 𝓤 H (W .laws) C) (known-l : Triple 𝓤 (C #graph·lesser) (Lesser 𝓤 H A at-mem run)) (known-c : Triple 𝓤 (C #batch·copy-changes) (Copy 𝓤 H A at-mem run)) (known-b : Triple 𝓤 (C #batch·batch-copied) (Core 𝓤 H A at-mem run)) where
     walk : ent 𝓤 (onEntry 𝓤 H A batch′.signature κs qs a vals) (WpFn 𝓤 H C Λ code.function (vint w32 n ∷ s ls ∷ s ts ∷ s hs ∷ s vs ∷ vint w32 m ∷ s fs ∷ s bs ∷ s ys ∷ []) Post)
     walk =
         qed W ((‵ (flft κ₀ q₀) ⊛ ‵ (flft κ₁ q₁) ⊛ ‵ (flft κ₂ q₂) ⊛ ‵ (flft κ₃ q₃) ⊛ ‵ (flft κ₄ q₄) ⊛ ‵ (flft κ₅ q₅) ⊛ ‵ (flft κ₆ q₆) ⊛ ‵ ftrue)
@@ -287,7 +287,7 @@ module _ {M : Type 1} (𝓤 : URA M) (H : Heap 𝓤) (A : Atoms 𝓤) (W : Given
         by ! (exits r (xs .1 .1 .0) (xs .1 .1 .1 .0) (xs .1 .1 .1 .1 .0) (xs .1 .1 .1 .1 .1 .1 .0) (xs .1 .1 .1 .1 .1 .1 .1 .0) w₂ (e (map recorded (ys .now)) (copied-laid (ys .now) (zeros 4096) (us .1 .1 .0) k ek ec (length-replicate {A = ℕ} 4096 0))) lt lh lv lf lb)))))))))))))))))))))))))))))))))))))))))))))))))))))
 
 module _ {M : Type 1} (𝓤 : URA M) (H : Heap 𝓤) (A : Atoms 𝓤) (W : Given 𝓤 H A) (at-mem : Memory → SProp 𝓤) (run : Routine → Fun 𝓤) (𝓣 : Tables 𝓤 H)
-    (known-l : Triple 𝓤 (𝓣 .C #plain-batch·lesser) (Lesser 𝓤 H A at-mem run)) (known-c : Triple 𝓤 (𝓣 .C #batch·copy-changes) (Copy 𝓤 H A at-mem run)) (known-b : Triple 𝓤 (𝓣 .C #batch·batch-copied) (Core 𝓤 H A at-mem run)) where
+    (known-l : Triple 𝓤 (𝓣 .C #graph·lesser) (Lesser 𝓤 H A at-mem run)) (known-c : Triple 𝓤 (𝓣 .C #batch·copy-changes) (Copy 𝓤 H A at-mem run)) (known-b : Triple 𝓤 (𝓣 .C #batch·batch-copied) (Core 𝓤 H A at-mem run)) where
   batch-walks : Walks 𝓤 H A batch′.ended stayed (WpFn 𝓤 H (𝓣 .C) (𝓣 .Λ) code.function) (batch′.clauses 𝓤 H A at-mem run)
   batch-walks = walked 𝓤 H A batch′.ended stayed (batch′.clauses 𝓤 H A at-mem run) (WpFn 𝓤 H (𝓣 .C) (𝓣 .Λ) code.function) (λ κs. (uint-vals w32, (slice-vals, (slice-vals, (slice-vals, (slice-vals, (uint-vals w32, (slice-vals, (slice-vals, (slice-vals, tt))))))))))
       (λ κs. (
@@ -339,6 +339,6 @@ batch-spec 𝓤 H 𝓜 𝓖 𝓡 =
     entered 𝓤 H (tripleOf 𝓤 H (𝓖 .A) batch′.signature (batch′.spec 𝓤 H (𝓖 .A) (𝓜 .mem) (𝓡 .run)))
     (tables 𝓤 H 𝓜 𝓡 code.env .C) (tables 𝓤 H 𝓜 𝓡 code.env .Λ) #batch·batch code.function (code.unfolded 𝓤 H 𝓜 𝓡)
     (batch-meets 𝓤 H (𝓖 .A) (givenOf 𝓤 H 𝓜 𝓖) (𝓜 .mem) (𝓡 .run) (tablesOf 𝓤 H 𝓜 (tables 𝓤 H 𝓜 𝓡 code.env))
-    (cited 𝓤 H (Lesser 𝓤 H (𝓖 .A) (𝓜 .mem) (𝓡 .run)) 𝓜 𝓡 code.env #plain-batch·lesser lesser-def.routine code.calls-plain-batch·lesser (lesser-thm.met 𝓤 H 𝓜 𝓖 𝓡))
+    (cited 𝓤 H (Lesser 𝓤 H (𝓖 .A) (𝓜 .mem) (𝓡 .run)) 𝓜 𝓡 code.env #graph·lesser lesser-def.routine code.calls-graph·lesser (lesser-thm.met 𝓤 H 𝓜 𝓖 𝓡))
     (cited 𝓤 H (Copy 𝓤 H (𝓖 .A) (𝓜 .mem) (𝓡 .run)) 𝓜 𝓡 code.env #batch·copy-changes copy-def.routine code.calls-batch·copy-changes (copy-thm.met 𝓤 H 𝓜 𝓖 𝓡))
     (cited 𝓤 H (Core 𝓤 H (𝓖 .A) (𝓜 .mem) (𝓡 .run)) 𝓜 𝓡 code.env #batch·batch-copied core-def.routine code.calls-batch·batch-copied (core-thm.met 𝓤 H 𝓜 𝓖 𝓡)))

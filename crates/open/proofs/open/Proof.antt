@@ -5,7 +5,9 @@ use native.Mathlib.Omega.{arith}
 use lib.ListN.{replicate}
 use lib.Seq.{length-take-le}
 use borrow.Author.Needs.{needs}
+use Rattle.property.specs.Property.{properties}
 use Rattle.graph.proofs.Judging.{fine-accept}
+use Rattle.graph.specs.Limits.{maxVertices, maxLandmarks}
 use Rattle.graph.specs.Refusal.{accept}
 use Rattle.network.specs.Network.{rowCount}
 use Rattle.network.specs.Network.{faults}
@@ -23,7 +25,7 @@ fine : (c : tie.After-enum-told) → let g = begin (c .before .before) .args in
 fine c = fine-accept _ _ (c .before .before .judge-all .ensures) (c .enum-told .given .1)
 
 -- .. so that the rows fit the scratch lists
-few : (c : tie.After-enum-told) → let g = begin (c .before .before) .args in rowCount (g .landmarks .now) * g .n ≤ 5120
+few : (c : tie.After-enum-told) → let g = begin (c .before .before) .args in rowCount (g .landmarks .now) * g .n ≤ maxLandmarks * properties * maxVertices
 few c =
     let g = begin (c .before .before) .args in
     rows-few (open-accept (g .n) (g .landmarks .now) (g .tails .now) (g .heads .now) (g .weights .now) (g .forward .now) (g .backward .now) (g .count) (fine c) .0)
@@ -62,7 +64,7 @@ array-borrow-prefix-fwd c = few c
 slice-aggregate-open-in : tie.Need-slice-aggregate-open-in
 slice-aggregate-open-in c =
     let g = begin (c .before .before .before) .args in
-    sym (length-take-le (rowCount (g .landmarks .now) * g .n) (replicate 5120 0) (few (c .before)))
+    sym (length-take-le (rowCount (g .landmarks .now) * g .n) (replicate (maxLandmarks * properties * maxVertices) 0) (few (c .before)))
 
 array-borrow-prefix-bwd : tie.Need-array-borrow-prefix-bwd
 array-borrow-prefix-bwd c = few (c .before)
@@ -70,13 +72,13 @@ array-borrow-prefix-bwd c = few (c .before)
 slice-aggregate-open-in-2 : tie.Need-slice-aggregate-open-in-2
 slice-aggregate-open-in-2 c =
     let g = begin (c .before .before .before .before) .args in
-    sym (length-take-le (rowCount (g .landmarks .now) * g .n) (replicate 5120 0) (few (c .before .before)))
+    sym (length-take-le (rowCount (g .landmarks .now) * g .n) (replicate (maxLandmarks * properties * maxVertices) 0) (few (c .before .before)))
 
 open-in-requires : tie.Need-open-in-requires
 open-in-requires c κs =
     let d = c .before .before .before .before in
     let g = begin (d .before .before) .args in
-    let e = length-take-le {A = ℕ} (rowCount (g .landmarks .now) * g .n) (replicate 5120 0) (few d) in
+    let e = length-take-le {A = ℕ} (rowCount (g .landmarks .now) * g .n) (replicate (maxLandmarks * properties * maxVertices) 0) (few d) in
     (fine d, (e, e))
 
 same-length-3 : tie.Need-same-length-3

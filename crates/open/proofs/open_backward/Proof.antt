@@ -1,8 +1,9 @@
 -- `open::open_backward` meets its contract. Assumes nothing.
-use Prim.Native.Nat.{_<_}
+use Prim.Native.Nat.{_+_, _<_}
 use native.Mathlib.Omega.{arith}
 use lib.ListN.{length, replicate}
 use borrow.Author.Needs.{needs}
+use Rattle.graph.specs.Limits.{maxVertices, maxEdges}
 use Rattle.graph.specs.Code.{Room}
 use Rattle.graph.proofs.Own.{keyed-heads, fit-reversed, own-reversed}
 use Rattle.open.proofs.open_backward.Statement.{statement}
@@ -28,8 +29,8 @@ reverse-table-requires c κs =
     let s = c .before .before .before .before .before .before .before .before .before .before in
     let g = s .args in
     let o = s .pre .0 in
-    let room : Room (g .count) (replicate 2048 0) (replicate 2048 0) (replicate 2048 0) = record { tails = o .records; heads = o .records; weights = o .records } in
-    let keyed = keyed-heads (g .n) (g .count) (g .tails .now) (g .heads .now) (g .weights .now) (o .room) (o .rules) (replicate 257 0) (o .few) (o .records) (omega (arith, o .few)) in
+    let room : Room (g .count) (replicate maxEdges 0) (replicate maxEdges 0) (replicate maxEdges 0) = record { tails = o .records; heads = o .records; weights = o .records } in
+    let keyed = keyed-heads (g .n) (g .count) (g .tails .now) (g .heads .now) (g .weights .now) (o .room) (o .rules) (replicate (maxVertices + 1) 0) (o .few) (o .records) (omega (arith, o .few)) in
     ((keyed, omega (arith, o .few)), (o .room, room))
 
 -- the lists of the reversed table have room for it

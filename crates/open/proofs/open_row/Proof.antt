@@ -1,16 +1,15 @@
 -- `open::open_row` meets its contract. Assumes nothing.
-use Prim.Native.Nat.{_/_}
 use native.Mathlib.Omega.{arith}
 use borrow.Author.Needs.{needs}
 use Rattle.open.proofs.Opening.{row-settled}
 use Rattle.open.proofs.open_row.Statement.{statement}
 use Rattle.open.proofs.open_row.Tie as tie
 
-cast-p : tie.Need-cast-p
-cast-p c = search needs
+row-property-requires : tie.Need-row-property-requires
+row-property-requires c κs = search needs
 
-add-p : tie.Need-add-p
-add-p c = search needs
+row-landmark-requires : tie.Need-row-landmark-requires
+row-landmark-requires c κs = search needs
 
 mul-s : tie.Need-mul-s
 mul-s c = search needs
@@ -19,14 +18,13 @@ shared-slice-read-s : tie.Need-shared-slice-read-s
 shared-slice-read-s c = search needs
 
 cast-s : tie.Need-cast-s
-cast-s c =
-    let s = c .before .before .before .before .before .before in
-    omega (arith, c .shared-slice-known5 .given (s .args .r / 5))
+cast-s c = omega (arith, c .shared-slice-known5 .given (c .before .row-landmark .result))
 
 open-row-requires : tie.Need-open-row-requires
 open-row-requires c κs =
-    let s = c .before .before .before .before .before .before .before .before in
-    (s .pre .0 .landmarks .vertices (s .args .r / 5) (omega arith), s .pre .0 .index .few, s .pre .1 .1)
+    let i = c .before .before .before in
+    let s = i .before .before .before .before .before .before .before in
+    (s .pre .0 .landmarks .vertices (i .row-landmark .result) (omega (arith, i .row-landmark .ensures)), s .pre .0 .index .few, s .pre .1 .1)
 
 run-unscheduled-requires : tie.Need-run-unscheduled-requires
 run-unscheduled-requires c κs = search needs
@@ -41,16 +39,17 @@ returns : tie.Need-returns
 returns c =
     let q = c .before .before .before .before in
     let o = q .before .before .before .before .before in
-    let s = o .before .before .before .before .before .before .before .before .before in
-    let g = s .args in
-    λ es h. row-settled (g .n) (g .r) (g .landmarks .now) es _ _ _ _ (q .run-unscheduled .result) (o .open-row .ensures .0) (q .run-unscheduled .ensures .0 es h) (c .any .result) (q .run-unscheduled .ensures .1 .sized .waiting) (c .any .ensures)
+    let i = o .before .before .before .before in
+    let p = i .before in
+    let g = p .before .before .before .before .before .before .args in
+    λ es h. row-settled (g .n) (g .r) (g .landmarks .now) es _ _ _ _ (q .run-unscheduled .result) (p .row-property .ensures) (i .row-landmark .ensures) (o .open-row .ensures .0) (q .run-unscheduled .ensures .0 es h) (c .any .result) (q .run-unscheduled .ensures .1 .sized .waiting) (c .any .ensures)
 
 pub open-row-spec : {M : Type 1} → statement M
 open-row-spec =
     tie.close
     (tie.spec
-    cast-p
-    add-p
+    row-property-requires
+    row-landmark-requires
     mul-s
     shared-slice-read-s
     cast-s

@@ -59,18 +59,18 @@ array-borrow-prefix-start : tie.Need-array-borrow-prefix-start
 array-borrow-prefix-start c = few (c .before)
 
 slice-aggregate-query-in-2 : tie.Need-slice-aggregate-query-in-2
-slice-aggregate-query-in-2 c = sym (length-take-le (begin (c .before .before .before .before) .args .n) (replicate 256 0) (few (c .before .before)))
+slice-aggregate-query-in-2 c = sym (length-take-le (begin (c .before .before .before .before) .args .n) (replicate maxVertices 0) (few (c .before .before)))
 
 array-borrow-prefix-row : tie.Need-array-borrow-prefix-row
 array-borrow-prefix-row c = few (c .before .before)
 
 slice-aggregate-query-in-3 : tie.Need-slice-aggregate-query-in-3
-slice-aggregate-query-in-3 c = sym (length-take-le (begin (c .before .before .before .before .before) .args .n) (replicate 256 0) (few (c .before .before .before)))
+slice-aggregate-query-in-3 c = sym (length-take-le (begin (c .before .before .before .before .before) .args .n) (replicate maxVertices 0) (few (c .before .before .before)))
 
 query-in-requires : tie.Need-query-in-requires
 query-in-requires c κs =
     let d = c .before .before .before .before .before in
-    let e = length-take-le {A = ℕ} (begin (d .before .before) .args .n) (replicate 256 0) (few d) in
+    let e = length-take-le {A = ℕ} (begin (d .before .before) .args .n) (replicate maxVertices 0) (few d) in
     let l = few d in
     (fine d, (omega arith, e, e))
 

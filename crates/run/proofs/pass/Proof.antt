@@ -7,6 +7,7 @@ use native.Mathlib.Omega.{arith}
 use borrow.Author.Needs.{needs}
 use lib.ListN.{length, drop, drop-of-length-le}
 use Rattle.property.specs.Property.{property}
+use Rattle.graph.specs.Limits.{maxEdges}
 use Rattle.graph.specs.Edge.{Edge}
 use Rattle.graph.specs.Own.{Own}
 use Rattle.run.specs.Run as spec
@@ -21,7 +22,7 @@ abbrev Inv-loop : tie.InvT-loop
 Inv-loop p n count firsts heads weights schedule words₀ waiting₀ t₀ entry₀ words waiting t entry =
     ((es : List Edge) → Own n firsts heads weights es
     → foldl (spec.take (property p) es) (state n words waiting t) (drop entry schedule) ≡ spec.pass (property p) es schedule (state n words₀ waiting₀ t₀))
-    × (entry ≤ length schedule) × Ran n words waiting t₀ t entry 0 (2048 * entry)
+    × (entry ≤ length schedule) × Ran n words waiting t₀ t entry 0 (maxEdges * entry)
 
 abbrev μ-loop : tie.MeasureT-loop
 μ-loop p n count firsts heads weights schedule words₀ waiting₀ t₀ entry₀ words waiting t entry = length schedule - entry

@@ -9,6 +9,7 @@ use borrow.Author.Needs.{needs}
 use Rattle.property.specs.Property.{property}
 use Rattle.frontier.specs.Waiting.{waitingOf}
 use Rattle.frontier.proofs.Laws.{First, next-first, next-none}
+use Rattle.graph.specs.Limits.{maxEdges}
 use Rattle.graph.specs.Edge.{Edge, range}
 use Rattle.graph.specs.Own.{Own}
 use Rattle.run.specs.Run as spec
@@ -22,7 +23,7 @@ abbrev Inv-loop : tie.InvT-loop
 Inv-loop p n count firsts heads weights words₀ waiting₀ t₀ i₀ words waiting t i =
     ((es : List Edge) → Own n firsts heads weights es
     → foldl (spec.visit (property p) es) (state n words waiting t) (range i (n - i)) ≡ foldl (spec.visit (property p) es) (state n words₀ waiting₀ t₀) (range 0 n))
-    × (i ≤ n) × Ran n words waiting t₀ t 0 0 (2048 * i)
+    × (i ≤ n) × Ran n words waiting t₀ t 0 0 (maxEdges * i)
 
 abbrev μ-loop : tie.MeasureT-loop
 μ-loop p n count firsts heads weights words₀ waiting₀ t₀ i₀ words waiting t i = n - i

@@ -43,6 +43,7 @@ use denote.Triple.Table.{entered, cited}
 use denote.Triple.Walked.{says, needs, Stays, stay-ref, stay-dropped, gave-slice, gave-ref, walkOf, goes-ref, goes-dropped, goes-gave-slice, goes-gave-ref, Walks, ends-at, walked, walk-meets}
 use denote.Exit.{yes}
 use Rattle.property.specs.Property.{property}
+use Rattle.graph.specs.Limits.{maxVertices, maxEdges}
 use Rattle.graph.specs.Edge.{Edge}
 use Rattle.graph.specs.Own.{Own}
 use Rattle.run.specs.Run as spec
@@ -124,7 +125,7 @@ module _ {M : Type 1} (𝓤 : URA M) (H : Heap 𝓤) (A : Atoms 𝓤) (W : Given
   Asked = Ready 31 n m (fs .now) (hs .now) (vs .now) (ws .now) (bs .now) h × Scheduled n (ss .now)
 
   abbrev Told : List ℕ → List ℕ → Tally → Type 0
-  Told us cs r = ((es : List Edge) → Own n (fs .now) (hs .now) (vs .now) es → state n us cs r ≡ spec.settle (property p) es n n (spec.pass (property p) es (ss .now) (state n (ws .now) (bs .now) h))) × Ran n us cs h r (length (ss .now)) n (2048 * length (ss .now) + 134217728)
+  Told us cs r = ((es : List Edge) → Own n (fs .now) (hs .now) (vs .now) es → state n us cs r ≡ spec.settle (property p) es n n (spec.pass (property p) es (ss .now) (state n (ws .now) (bs .now) h))) × Ran n us cs h r (length (ss .now)) n (maxEdges * length (ss .now) + maxVertices * maxVertices * maxEdges)
 
   -- what `run_from` is passed
   abbrev args : ℕ × (ℕ × (ℕ × (RefT (List ℕ) × (RefT (List ℕ) × (RefT (List ℕ) × (RefT (List ℕ) × (RefT (List ℕ) × (RefT (List ℕ) × (Tally × Unit {0})))))))))

@@ -8,6 +8,7 @@ use native.Mathlib.Omega.{arith}
 use borrow.Author.Needs.{needs}
 use borrow.Author.Tests.{not-true, not-false}
 use Rattle.property.specs.Property.{property}
+use Rattle.graph.specs.Limits.{maxVertices, maxEdges}
 use Rattle.graph.specs.Edge.{Edge}
 use Rattle.graph.specs.Own.{Own}
 use Rattle.run.specs.Run as spec
@@ -21,7 +22,7 @@ abbrev Inv-loop : tie.InvT-loop
 Inv-loop p n count firsts heads weights words₀ waiting₀ t₀ k₀ words waiting t k =
     ((es : List Edge) → Own n firsts heads weights es
     → spec.settle (property p) es n (n - k) (state n words waiting t) ≡ spec.settle (property p) es n n (state n words₀ waiting₀ t₀))
-    × (k ≤ n) × Ran n words waiting t₀ t 0 k (524288 * k)
+    × (k ≤ n) × Ran n words waiting t₀ t 0 k (maxVertices * maxEdges * k)
 
 abbrev μ-loop : tie.MeasureT-loop
 μ-loop p n count firsts heads weights words₀ waiting₀ t₀ k₀ words waiting t k = n - k

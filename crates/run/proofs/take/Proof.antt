@@ -3,6 +3,7 @@ use mathlib.Core.Path.{sym, _∙_}
 use native.Mathlib.Omega.{arith}
 use borrow.Author.Needs.{needs}
 use Rattle.property.specs.Property.{property}
+use Rattle.graph.specs.Limits.{maxEdges}
 use Rattle.run.proofs.States.{ran-none, take-waiting, take-idle, ran-taken}
 use Rattle.run.proofs.take.Statement.{statement}
 use Rattle.run.proofs.take.Tie as tie
@@ -41,7 +42,7 @@ returns-2 c =
       λ es o.
           take-idle (property (g .p)) es (g .n) (g .u) (g .words .now) (g .waiting .now) (g .tally) (s .pre .0)
           (sym (c .before .contains .ensures) ∙ c .if1 .left),
-      ran-none (s .pre .1 .sized) (g .tally) 1 0 2048,
+      ran-none (s .pre .1 .sized) (g .tally) 1 0 maxEdges,
     )
 
 pub take-spec : {M : Type 1} → statement M

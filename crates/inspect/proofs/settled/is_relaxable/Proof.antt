@@ -4,11 +4,8 @@ use Rattle.inspect.proofs.Checking.{relaxable-told}
 use Rattle.inspect.proofs.settled.is_relaxable.Statement.{statement}
 use Rattle.inspect.proofs.settled.is_relaxable.Tie as tie
 
-cast-p : tie.Need-cast-p
-cast-p c = search needs
-
-add-p : tie.Need-add-p
-add-p c = search needs
+row-property-requires : tie.Need-row-property-requires
+row-property-requires c κs = search needs
 
 mul-start : tie.Need-mul-start
 mul-start c = search needs
@@ -40,15 +37,15 @@ better-requires c κs = search needs
 returns : tie.Need-returns
 returns c =
     let k = c .before .before in
-    let s = k .before .before .before in
-    relaxable-told (s .args .n) (s .args .r) (s .args .t) (s .args .h) (s .args .w) (s .args .words .now) _ _ (s .pre .0) (s .pre .1) (s .pre .2) (k .along .ensures) (c .better .ensures)
+    let p = k .before .before in
+    let s = p .before .before in
+    relaxable-told (s .args .n) (s .args .r) (s .args .t) (s .args .h) (s .args .w) (s .args .words .now) _ _ (p .row-property .ensures) (s .pre .0) (s .pre .1) (s .pre .2) (k .along .ensures) (c .better .ensures)
 
 pub is-relaxable-spec : {M : Type 1} → statement M
 is-relaxable-spec =
     tie.close
     (tie.spec
-    cast-p
-    add-p
+    row-property-requires
     mul-start
     add-i
     add-j
