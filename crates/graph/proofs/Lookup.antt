@@ -84,7 +84,8 @@ seek-present i e (x ∷ es) = pick (samePair e x) (seek-present (suc i) e es)
     pick true h = refl
     pick false h = h
 
-seek-below : (i k : ℕ) (e : Edge) (es : List Edge) → seek i e es ≡ At k → (i ≤ k) × (k < i + length es)
+-- an index found from i on is i or more, and within the list
+pub seek-below : (i k : ℕ) (e : Edge) (es : List Edge) → seek i e es ≡ At k → (i ≤ k) × (k < i + length es)
 unfolding seek
 seek-below i k e [] h = let z : _≡_ {A = ℕ} 0 1 = cc in absurd (omega arith)
 seek-below i k e (x ∷ es) h = pick (samePair e x) h (seek-below (suc i) k e es)

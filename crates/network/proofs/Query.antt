@@ -3,7 +3,7 @@
 use mathlib.Core.Path.{_≡_, refl, sym, ap, _∙_, subst}
 use mathlib.Core.Logic.{_⊎_, inl, inr, _≢_}
 use mathlib.Core.Bool.{not, false}
-use mathlib.Core.List.{List, map, List·Memᴰ, List·Memᴰ·head, List·Memᴰ·tail, Memᴰ·map, Memᴰ·of-map}
+use mathlib.Core.List.{List, map, List·Memᴰ, Memᴰ·map, Memᴰ·of-map}
 use Prim.Native.Nat.{ℕ, suc, _-_, _/_, _%_, _≤_, _<_}
 use native.Mathlib.Nat.{mul-add-div-right, mul-add-mod-self-right, mod-eq-of-lt, div-eq-of-lt}
 use native.Mathlib.Omega.{arith}
@@ -19,7 +19,7 @@ use Rattle.graph.specs.Edge.{Edge, reverse, range}
 use Rattle.graph.specs.Route.{Route, Best}
 use Rattle.graph.specs.Table.{size, shortTable, table}
 use Rattle.graph.proofs.Tests.{both, neither}
-use Rattle.graph.proofs.Lists.{mem-range-0, range-below, getD-mem}
+use Rattle.graph.proofs.Lists.{mem-range-0, range-below, getD-mem, mem-index}
 use Rattle.graph.proofs.Verdicts.{then-accept, if-accept, reply-accepted, choose-accept}
 use Rattle.graph.proofs.Order.{Within}
 use Rattle.run.specs.Run.{Tally, word, relaxable}
@@ -36,11 +36,6 @@ use Rattle.network.specs.History.{Triangle, QueryHolds}
 use Rattle.network.proofs.Moment.{Good, good-within}
 
 -- ---- lists and rows
-
--- an element and its index
-index-of : {l : ℕ} {ls : List ℕ} → List·Memᴰ l ls → (i : ℕ) × (i < length ls) × (getD ls i 0 ≡ l)
-index-of (List·Memᴰ·head p) = (0, omega arith, sym p)
-index-of (List·Memᴰ·tail m) = let (i, h, e) = index-of m in (suc i, omega arith, e)
 
 -- the row of landmark i for property p is of that property and that landmark
 row-at : (ls : List ℕ) (p i : ℕ) → 0 < p → p ≤ properties → (Q : Property → ℕ → Type 0)
@@ -154,7 +149,7 @@ module _ (n : ℕ) (ls : List ℕ) (w : Network) (g : Good n ls w) (q : Query) w
     triangle : (t : ℕ) → Triangle P es ls s t (top t)
     triangle t = record {
       unbettered = λ l a b m x y.
-          let (i, h, e) = index-of m in
+          let (i, h, e) = mem-index 0 m in
           let x′ = subst (λ z. Best P es s z ((know i) .into)) e (back i h) in
           let y′ = subst (λ z. Best P es z t (word P ((know i) .row) t)) e (ahead i h t) in
           rw (best-unique L x x′, best-unique L y y′) (bound-under L knowns t (know i) (known-in i h));

@@ -3,9 +3,7 @@ use mathlib.Core.Path.{_≡_, sym, ap, ap₂, _∙_}
 use mathlib.Core.Bool.{Bool, true, false, _||_}
 use mathlib.Core.List.{List, map}
 use Prim.Native.Nat.{ℕ, _+_, _*_, _/_, _%_, _≤_}
-use native.Mathlib.Nat.{mul-le-mul}
 use native.Mathlib.Numerals.{add-one}
-use native.Mathlib.Omega.{arith}
 use lib.ListN.{length, getD}
 use lib.Seq.{paste}
 use Rattle.property.specs.Property.{property}
@@ -29,7 +27,7 @@ use Rattle.network.specs.Open.{openRow, openRows, openVerdict, openCall}
 use Rattle.open.specs.Code.{opening, openOutcome}
 use Rattle.calls.specs.Code.{rowLists, network, Openable, IsRow, AreRows}
 use Rattle.network.proofs.Rows.{landmark-below}
-use Rattle.calls.proofs.Flat.{paste-over}
+use Rattle.graph.proofs.Copies.{paste-over}
 use Rattle.graph.proofs.Judging.{size-accept, lengths-accept, table-accept}
 use Rattle.calls.proofs.Judging.{rows-accept, landmarks-accept}
 
@@ -68,10 +66,6 @@ open-accept n ls ts hs ws f b m e =
       landmarks = record { few = p .0; vertices = λ i k. landmark-below n ls i (l .0) k };
     } in
     (o, x .0, x .1)
-
--- .. so that scratch lists of 5,120 words have room for the rows
-pub rows-few : {n m : ℕ} {ls ts hs ws : List ℕ} → Openable n m ls ts hs ws → rowCount ls * n ≤ 5120
-rows-few {n} {m} {ls} o = mul-le-mul {n₁ = rowCount ls} {m₁ = n} {n₂ = 20} {m₂ = 256} (omega (arith, o .landmarks .few)) (o .few)
 
 -- ---- the outcome: numbers 1 to 4, then 13
 
