@@ -13,14 +13,14 @@ use lib.Dec.{eqb, ltb}
 use borrow.Author.Tests.{eq-eqb, ne-eqb, lt-ltb, le-ltb, ltb-false, not-false}
 use Rattle.graph.specs.Refusal.{accept}
 use Rattle.graph.specs.Limits.{maxVertices, maxEdges, maxLandmarks}
-use Rattle.graph.specs.Table.{size, shortTable, table}
 use Rattle.graph.specs.Code.{Room, columns}
 use Rattle.graph.proofs.Tests.{neither}
-use Rattle.graph.proofs.Verdicts.{then-accept, if-accept}
+use Rattle.graph.proofs.Verdicts.{if-accept}
 use Rattle.graph.proofs.Judging.{size-accept, lengths-accept, table-accept}
 use Rattle.graph.proofs.Records.{room-less}
 use Rattle.graph.proofs.Own.{tails-below, heads-below}
 use Rattle.network.specs.Network.{isIn, areLandmarks, landmarks, shortRows, faults, rowCount}
+use Rattle.network.proofs.Moment.{faults-parts}
 use Rattle.calls.specs.Code.{rowLists, network}
 
 -- ---- landmarks, one by one
@@ -104,19 +104,16 @@ pub record Accepted (n : ℕ) (ls ts hs ws : List ℕ) (m : ℕ) (f b : List ℕ
 
 pub network-accept : (n : ℕ) (ls ts hs ws : List ℕ) (m : ℕ) (f b : List ℕ) → faults n ls (network ts hs ws f b m) ≡ accept → Accepted n ls ts hs ws m f b
 network-accept n ls ts hs ws m f b e =
-    let a = then-accept (size n) _ e in
-    let s = then-accept (shortTable (columns ts hs ws)) _ (a .1) in
-    let r = then-accept (shortRows n ls (rowLists f b)) _ (s .1) in
-    let l = then-accept (landmarks n ls) (table n (columns ts hs ws) m) (r .1) in
-    let t = table-accept n (columns ts hs ws) m (l .1) in
-    let q = size-accept n (a .0) in
-    let x = rows-accept n ls f b (r .0) in
-    let y = lengths-accept ts hs ws (s .0) in
+    let o = faults-parts n ls (network ts hs ws f b m) e in
+    let t = table-accept n (columns ts hs ws) m (o .4) in
+    let q = size-accept n (o .0) in
+    let x = rows-accept n ls f b (o .2) in
+    let y = lengths-accept ts hs ws (o .1) in
     let z = room-less (t .0) y in
     record {
       some = q .0;
       few = q .1;
-      landmarks = landmarks-accept n ls (l .0) .0;
+      landmarks = landmarks-accept n ls (o .3) .0;
       count = t .0;
       room = y;
       forward = x .0;

@@ -47,11 +47,12 @@ row-at ls p i h k Q q =
     let c : suc (rowAt i p % properties) ≡ p = omega arith in
     subst (λ x. Q (property p) (getD ls x 0)) b (subst (λ x. Q (property x) (landmarkOf ls (rowAt i p))) c q)
 
--- what is known of a request where no refusal applies
-pub query-request : (n : ℕ) (ls : List ℕ) (w : Network) (q : Query) (x y : ℕ) → queryFaults n ls w q x y ≡ accept
-    → (0 < q .property) × (q .property ≤ properties) × (q .source < n)
+-- numbers 1 to 6 of a query, one by one
+pub query-parts : (n : ℕ) (ls : List ℕ) (w : Network) (q : Query) (x y : ℕ) → queryFaults n ls w q x y ≡ accept
+    → (size n ≡ accept) × (longSchedule (length (q .schedule)) ≡ accept) × (shortTable (w .memory .table) ≡ accept) × (shortRows n ls (w .memory .rows) ≡ accept)
+    × (shortWords n x y ≡ accept) × (landmarks n ls ≡ accept) × (table n (w .memory .table) (w .count) ≡ accept) × (requested n q ≡ accept)
 unfolding queryFaults
-query-request n ls w q x y h =
+query-parts n ls w q x y h =
     let a = then-accept (size n) _ h in
     let b = then-accept (longSchedule (length (q .schedule))) _ (a .1) in
     let c = then-accept (shortTable (w .memory .table)) _ (b .1) in
@@ -59,10 +60,16 @@ query-request n ls w q x y h =
     let e = then-accept (shortWords n x y) _ (d .1) in
     let f = then-accept (landmarks n ls) _ (e .1) in
     let g = then-accept (table n (w .memory .table) (w .count)) (requested n q) (f .1) in
-    let i = then-accept (refuseIf (not (isProperty (q .property))) 5 0) _ (g .1) in
+    (a .0, b .0, c .0, d .0, e .0, f .0, g .0, g .1)
+
+-- what is known of a request where no refusal applies
+pub query-request : (n : ℕ) (ls : List ℕ) (w : Network) (q : Query) (x y : ℕ) → queryFaults n ls w q x y ≡ accept
+    → (0 < q .property) × (q .property ≤ properties) × (q .source < n) × (scheduled n 0 (q .schedule) ≡ accept)
+query-request n ls w q x y h =
+    let i = then-accept (refuseIf (not (isProperty (q .property))) 5 0) _ (query-parts n ls w q x y h .7) in
     let j = then-accept (refuseIf (not (ltb (q .source) n)) 6 0) (scheduled n 0 (q .schedule)) (i .1) in
     let p = both (ltb 0 (q .property)) (leb (q .property) properties) (not-false _ (if-accept _ _ _ (i .0))) in
-    (ltb-true _ _ (p .0), leb-true _ _ (p .1), ltb-true _ _ (not-false _ (if-accept _ _ _ (j .0))))
+    (ltb-true _ _ (p .0), leb-true _ _ (p .1), ltb-true _ _ (not-false _ (if-accept _ _ _ (j .0))), j .1)
 
 module _ (n : ℕ) (ls : List ℕ) (w : Network) (g : Good n ls w) (q : Query) where
   abbrev P : Property

@@ -23,8 +23,9 @@ use Rattle.network.specs.Batch.{batchVerdict, newEdges, stillWaiting, batchCall
 use Rattle.sides.specs.Code.{Fair}
 use Rattle.apply.specs.Code.{applying, applyCall, batchOutcome}
 use Rattle.items.specs.Code.{changes}
-use Rattle.calls.specs.Code.{rowLists, network}
+use Rattle.calls.specs.Code.{network}
 use Rattle.network.proofs.Rows.{landmark-below}
+use Rattle.network.proofs.Moment.{faults-parts}
 use Rattle.graph.proofs.Judging.{size-accept, lengths-accept, table-accept}
 use Rattle.calls.proofs.Judging.{rows-accept, landmarks-accept}
 
@@ -85,16 +86,14 @@ unfolding batchFaults
 faults-fair n ls ts hs ws f b m j e =
     let p = then-accept (size n) _ e in
     let q = then-accept (refuseIf (ltb maxBatch j) 1 0) _ (p .1) in
-    let s = then-accept (shortTable (columns ts hs ws)) _ (q .1) in
-    let r = then-accept (shortRows n ls (rowLists f b)) _ (s .1) in
-    let l = then-accept (landmarks n ls) (table n (columns ts hs ws) m) (r .1) in
-    let t = table-accept n (columns ts hs ws) m (l .1) in
-    let x = rows-accept n ls f b (r .0) in
-    let y = landmarks-accept n ls (l .0) in
+    let o = faults-parts n ls (network ts hs ws f b m) (accept-then (p .0) ∙ q .1) in
+    let t = table-accept n (columns ts hs ws) m (o .4) in
+    let x = rows-accept n ls f b (o .2) in
+    let y = landmarks-accept n ls (o .3) in
     record {
-      few = size-accept n (p .0) .1;
-      landmarks = record { few = y .0; vertices = λ i k. landmark-below n ls i (l .0) k };
-      table = record { few = t .0; room = lengths-accept ts hs ws (s .0); rules = t .1 };
+      few = size-accept n (o .0) .1;
+      landmarks = record { few = y .0; vertices = λ i k. landmark-below n ls i (o .3) k };
+      table = record { few = t .0; room = lengths-accept ts hs ws (o .1); rules = t .1 };
       forward = x .0;
       backward = x .1;
     }
