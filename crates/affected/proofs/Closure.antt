@@ -1,5 +1,5 @@
--- The closure of affected vertices: its test agrees with its record, marks that are closed have all of it, marks that sweeps make
--- are in it, and the order of records does not matter to it. Assumes nothing.
+-- The closure of affected vertices: its test agrees with its record, marks that are closed have all of it, and marks that sweeps make
+-- are in it. Assumes nothing.
 --
 --   Closed P es fs s ws ms   == each edge that would mark its head finds it marked
 use mathlib.Core.Path.{_≡_, refl, sym, ap, _∙_}
@@ -13,10 +13,8 @@ use lib.Seq.{getD-set-other}
 use lib.Dec.{eqb}
 use borrow.Author.Tests.{eqb-true, eqb-false, ne-eqb, not-true}
 use Rattle.property.specs.Property.{Property}
-use Rattle.graph.specs.Edge.{Edge, among}
-use Rattle.graph.proofs.Tests.{both, and-true, or-right, same-test}
-use Rattle.graph.proofs.Edges.{among-mem, mem-among}
-use Rattle.graph.proofs.Order.{Same}
+use Rattle.graph.specs.Edge.{Edge}
+use Rattle.graph.proofs.Tests.{both, and-true, or-right}
 use Rattle.run.specs.Run.{word, tight}
 use Rattle.affected.specs.Affected.{removed, Held, Affected, Named, struck, onward, held, marked, touches, mark, sweep, sweeps}
 
@@ -93,15 +91,3 @@ module _ (P : Property) (es fs : List Edge) (s : ℕ) (ws : List ℕ) where
   -- the landmark is never affected
   pub landmark-unaffected : Affected P es fs s ws s → ⊥
   landmark-unaffected a = affected-elsewhere a refl
-
--- ---- the order of records
-
-removed-order : {fs fs' : List Edge} → Same fs fs' → (e : Edge) → removed fs e ≡ removed fs' e
-removed-order {fs} {fs'} q e = ap not (same-test (among fs e) (among fs' e)
-    (λ h. mem-among (q e .0 (among-mem fs e h)), λ h. mem-among (q e .1 (among-mem fs' e h))))
-
--- The closure asks of the lists only which edges are in them: each of its two rules carries over edge by edge.
-pub affected-order : {P : Property} {es es' fs fs' : List Edge} {s t : ℕ} {ws : List ℕ} → Same es es' → Same fs fs'
-    → Affected P es fs s ws t → Affected P es' fs' s ws t
-affected-order p q (struck {e = e} m r h) = struck (p e .0 m) (sym (removed-order q e) ∙ r) h
-affected-order p q (onward {e = e} a m r h) = onward (affected-order p q a) (p e .0 m) (sym (removed-order q e) ∙ r) h

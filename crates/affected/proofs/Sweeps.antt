@@ -20,10 +20,10 @@ use Rattle.graph.specs.Edge.{Edge}
 use Rattle.graph.proofs.Tests.{same-test}
 use Rattle.graph.proofs.Lists.{fold-keeps, replicate-at}
 use Rattle.graph.proofs.Edges.{among-mem}
-use Rattle.graph.proofs.Order.{Within, Same}
+use Rattle.graph.proofs.Order.{Within}
 use Rattle.run.specs.Run.{word, tight}
 use Rattle.affected.specs.Affected.{removed, Held, Affected, Named, struck, onward, marked, touches, mark, sweep, sweeps, affected, AffectedExact}
-use Rattle.affected.proofs.Closure.{Closed, sweeps-named, closed-marked, landmark-unaffected, affected-order}
+use Rattle.affected.proofs.Closure.{Closed, sweeps-named, closed-marked, landmark-unaffected}
 
 module _ (P : Property) (es fs : List Edge) (s : ℕ) (ws : List ℕ) where
   -- ---- sweeps keep the length
@@ -179,9 +179,3 @@ module _ (P : Property) (es fs : List Edge) (s : ℕ) (ws : List ℕ) (n : ℕ) 
 -- that it names.
 pub affected-exact : AffectedExact
 affected-exact P es fs s ws n heads t = (affected-named P es fs s ws n t, all-marked P es fs s ws n heads)
-
--- ---- the order of records
-
-carried : (P : Property) (es es' fs fs' : List Edge) (s : ℕ) (ws : List ℕ) (n : ℕ) → Within n es' → Same es es' → Same fs fs'
-    → (t : ℕ) → marked (affected P es fs s ws n) t ≡ true → marked (affected P es' fs' s ws n) t ≡ true
-carried P es es' fs fs' s ws n inside p q t h = named-affected P es' fs' s ws n inside (affected-order p q (affected-named P es fs s ws n t h))

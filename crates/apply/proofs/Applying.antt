@@ -2,13 +2,10 @@
 use mathlib.Core.Path.{_≡_, sym, ap, _∙_}
 use mathlib.Core.Bool.{true, false}
 use mathlib.Core.List.{List}
-use Prim.Native.Nat.{ℕ, _*_, _≤_}
-use native.Mathlib.Nat.{mul-le-mul-right}
-use native.Mathlib.Omega.{arith}
+use Prim.Native.Nat.{ℕ}
 use lib.ListN.{length}
 use lib.Seq.{paste}
 use Rattle.graph.specs.declared.Judged.the-variants.{Refused}
-use Rattle.graph.specs.Limits.{maxVertices, maxLandmarks}
 use Rattle.graph.specs.Refusal.{refuseIf, accepted, replied, choose, over}
 use Rattle.graph.specs.Edge.{Edge}
 use Rattle.graph.specs.Table.{table}
@@ -16,19 +13,12 @@ use Rattle.graph.specs.Code.{columns}
 use Rattle.apply.specs.declared.Report.{Report}
 use Rattle.apply.specs.declared.Applied.the-variants as applied
 use Rattle.rows.specs.declared.Rowed.{Rowed}
-use Rattle.network.specs.Network.{rowCount, unsettled}
+use Rattle.network.specs.Network.{unsettled}
 use Rattle.network.specs.Batch.{rewritten}
 use Rattle.sides.specs.Code.{SidesDone}
 use Rattle.apply.specs.Code.{applying, applyCall, batchOutcome}
-use Rattle.calls.specs.Code.{network, Placed}
-use Rattle.calls.proofs.Flat.{paste-over}
-
--- at most 20 rows of at most 256 words
-pub rows-room : {n : ℕ} {ls : List ℕ} → n ≤ maxVertices → Placed n ls → rowCount ls * n ≤ 5120
-rows-room {n} {ls} l p =
-    let q : length ls ≤ maxLandmarks = p .few in
-    let z = mul-le-mul-right {m = rowCount ls} {n = 20} n (omega arith) in
-    omega arith
+use Rattle.calls.specs.Code.{network}
+use Rattle.graph.proofs.Copies.{paste-over}
 
 -- ---- what is written
 

@@ -1,29 +1,21 @@
--- Rows written one by one, each behind the rows before it, and a whole list of rows over the front of another. Assumes nothing.
+-- Rows written one by one, each behind the rows before it. Assumes nothing.
 use mathlib.Core.Path.{_≡_, refl, sym, ap, _∙_}
-use mathlib.Core.Bool.{Bool, true, false, _||_}
+use mathlib.Core.Bool.{Bool, true, false, _||_, or-false}
 use mathlib.Core.List.{List, [], _∷_, _++_, map, append-assoc, append-nil}
-use Prim.Native.Nat.{ℕ, zero, suc, _+_, _-_, _*_, _≤_, _<_}
-use native.Mathlib.Nat.{zero-add, zero-mul, suc-mul, mul-le-mul-right}
+use Prim.Native.Nat.{ℕ, zero, suc, _+_, _-_, _*_, _≤_}
+use native.Mathlib.Nat.{zero-mul, suc-mul}
 use native.Mathlib.Numerals.{add-one}
 use native.Mathlib.Omega.{arith}
 use lib.ListN.{length, take, drop, length-append}
-use lib.Seq.{paste, take-at, take-all, length-take-le}
+use lib.Seq.{take-at, take-all, length-take-le}
 use borrow.Rule.Slice.PartMut.{putMid, mid-len}
 use Rattle.frontier.specs.Waiting.{anyOf}
 use Rattle.graph.specs.Edge.{range}
 use Rattle.run.specs.Run.{State}
-use Rattle.graph.specs.Refusal.{over}
 use Rattle.network.specs.Network.{flat, unsettled}
 use Rattle.calls.specs.Code.{IsRow, AreRows}
 
--- row r of k rows ends within them
-pub row-end : (n r k : ℕ) → r < k → r * n + n ≤ k * n
-row-end n r k h =
-    let a = mul-le-mul-right {m = suc r} {n = k} n h in
-    let b = suc-mul r n in
-    omega arith
-
--- .. so that its part of a list has n words
+-- the part of a row that ends within a list has n words
 pub row-size : (n a : ℕ) (xs : List ℕ) → a + n ≤ length xs → length (take (a + n - a) (drop a xs)) ≡ n
 row-size n a xs h =
     let e : a + n - a ≡ n = omega arith in
@@ -54,11 +46,7 @@ module _ (f : ℕ → State) where
 
   unsettled-snoc : (rs : List ℕ) (r : ℕ) → unsettled (map f (rs ++ (r ∷ []))) ≡ (unsettled (map f rs) || anyOf ((f r) .waiting))
   unfolding unsettled
-  unsettled-snoc [] r = pick (anyOf ((f r) .waiting))
-    where
-      pick : (b : Bool) → (b || false) ≡ b
-      pick true = refl
-      pick false = refl
+  unsettled-snoc [] r = or-false (anyOf ((f r) .waiting))
   unsettled-snoc (x ∷ rs) r = pick (anyOf ((f x) .waiting)) _ (unsettled (map f rs)) (anyOf ((f r) .waiting)) (unsettled-snoc rs r)
     where
       pick : (b c d e : Bool) → c ≡ (d || e) → (b || c) ≡ ((b || d) || e)
@@ -108,8 +96,3 @@ module _ (f : ℕ → State) where
 
   pub rows-done : (n r k : ℕ) (xs : List ℕ) (b : Bool) → r ≡ k → length xs ≡ k * n → AreRows (map f (range 0 r)) (take (r * n) xs) b → AreRows (map f (range 0 k)) xs b
   rows-done n r k xs b e l h = record { words = flat-done n r k xs e l (h .words); waits = rw e at (h .waits) }
-
--- ---- a whole list copied to the front of another
-
-pub paste-over : (d s : List ℕ) (k : ℕ) → length s ≡ k → paste d 0 s k ≡ over s d
-paste-over d s k e = rw (zero-add, take-all k s (omega arith), e)

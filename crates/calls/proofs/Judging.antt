@@ -1,7 +1,7 @@
 -- Refusals 1 to 4 of a network as the code judges them, and what an accepted network tells. Assumes nothing.
 use mathlib.Core.Path.{_≡_, sym, _∙_}
 use mathlib.Core.Bool.{Bool, true, false, not}
-use mathlib.Core.List.{List, List·Memᴰ}
+use mathlib.Core.List.{List}
 use Prim.Native.Nat.{ℕ, _+_, _*_, _/_, _<_, _≤_}
 use native.Mathlib.Nat.{mul-assoc, mul-zero, div-lt-iff-lt-mul}
 use native.Mathlib.Decide.{decLt}
@@ -13,16 +13,14 @@ use lib.Dec.{eqb, ltb}
 use borrow.Author.Tests.{eq-eqb, ne-eqb, lt-ltb, le-ltb, ltb-false, not-false}
 use Rattle.graph.specs.Refusal.{accept}
 use Rattle.graph.specs.Limits.{maxVertices, maxEdges, maxLandmarks}
-use Rattle.graph.specs.Edge.{edge, edges}
-use Rattle.graph.specs.Table.{rules, size, shortTable, table}
-use Rattle.graph.specs.Code.{Room, columns, edgeAt}
+use Rattle.graph.specs.Code.{Room, columns}
 use Rattle.graph.proofs.Tests.{neither}
-use Rattle.graph.proofs.Verdicts.{then-accept, if-accept}
-use Rattle.graph.proofs.Lists.{getD-mem}
+use Rattle.graph.proofs.Verdicts.{if-accept}
 use Rattle.graph.proofs.Judging.{size-accept, lengths-accept, table-accept}
-use Rattle.graph.proofs.Order.{rules-accept, within}
-use Rattle.graph.proofs.Records.{room-less, edges-length, edges-at}
+use Rattle.graph.proofs.Records.{room-less}
+use Rattle.graph.proofs.Own.{tails-below, heads-below}
 use Rattle.network.specs.Network.{isIn, areLandmarks, landmarks, shortRows, faults, rowCount}
+use Rattle.network.proofs.Moment.{faults-parts}
 use Rattle.calls.specs.Code.{rowLists, network}
 
 -- ---- landmarks, one by one
@@ -92,15 +90,6 @@ landmarks-accept n ls e =
     let z = neither (ltb maxLandmarks (length ls)) (not (areLandmarks n ls)) (y .1) in
     (ltb-false maxLandmarks _ (z .0), not-false _ (z .1))
 
--- both ends of a record are vertices
-pub ends-within : (n m : ℕ) (ts hs ws : List ℕ) → Room m ts hs ws → rules n (edges ts hs ws m) ≡ accept → (k : ℕ) → k < m → (getD ts k 0 < n) × (getD hs k 0 < n)
-ends-within n m ts hs ws r e k l =
-    let w = within n (edges ts hs ws m) (rules-accept n (edges ts hs ws m) e) in
-    let q = edges-length ts hs ws m r in
-    let i : k < length (edges ts hs ws m) = omega arith in
-    let x : List·Memᴰ (edgeAt ts hs ws k) (edges ts hs ws m) = rw (← edges-at ts hs ws m r k l) (getD-mem (edges ts hs ws m) k (edge 0 0 0) i) in
-    (w .tails (edgeAt ts hs ws k) x, w .heads (edgeAt ts hs ws k) x)
-
 -- ---- what an accepted network tells
 
 pub record Accepted (n : ℕ) (ls ts hs ws : List ℕ) (m : ℕ) (f b : List ℕ) : Type 0 where
@@ -115,21 +104,19 @@ pub record Accepted (n : ℕ) (ls ts hs ws : List ℕ) (m : ℕ) (f b : List ℕ
 
 pub network-accept : (n : ℕ) (ls ts hs ws : List ℕ) (m : ℕ) (f b : List ℕ) → faults n ls (network ts hs ws f b m) ≡ accept → Accepted n ls ts hs ws m f b
 network-accept n ls ts hs ws m f b e =
-    let a = then-accept (size n) _ e in
-    let s = then-accept (shortTable (columns ts hs ws)) _ (a .1) in
-    let r = then-accept (shortRows n ls (rowLists f b)) _ (s .1) in
-    let l = then-accept (landmarks n ls) (table n (columns ts hs ws) m) (r .1) in
-    let t = table-accept n (columns ts hs ws) m (l .1) in
-    let q = size-accept n (a .0) in
-    let x = rows-accept n ls f b (r .0) in
-    let y = lengths-accept ts hs ws (s .0) in
+    let o = faults-parts n ls (network ts hs ws f b m) e in
+    let t = table-accept n (columns ts hs ws) m (o .4) in
+    let q = size-accept n (o .0) in
+    let x = rows-accept n ls f b (o .2) in
+    let y = lengths-accept ts hs ws (o .1) in
+    let z = room-less (t .0) y in
     record {
       some = q .0;
       few = q .1;
-      landmarks = landmarks-accept n ls (l .0) .0;
+      landmarks = landmarks-accept n ls (o .3) .0;
       count = t .0;
       room = y;
       forward = x .0;
       backward = x .1;
-      ends = ends-within n m ts hs ws (room-less (t .0) y) (t .1);
+      ends = λ k h. (tails-below n m ts hs ws z (t .1) k h, heads-below n m ts hs ws z (t .1) k h);
     }

@@ -20,6 +20,10 @@ use Rattle.network.specs.Query.{rowAt}
 pub row-fits : (r n : ℕ) → r ≤ maxLandmarks * properties → n ≤ maxVertices → Fits w64 (r * n)
 row-fits r n a b = fits-le (mul-le-mul a b) (fits-lit tt)
 
+-- the rows of k landmarks are at most 20 of at most 256 words, so scratch lists of 5,120 have room for them
+pub rows-most : (k n : ℕ) → k ≤ maxLandmarks → n ≤ maxVertices → k * properties * n ≤ maxLandmarks * properties * maxVertices
+rows-most k n a b = mul-le-mul {n₁ = k * properties} {m₁ = n} {n₂ = maxLandmarks * properties} {m₂ = maxVertices} (omega arith) b
+
 -- row r of k rows ends within a list that has them
 pub row-ends : (r k n l : ℕ) → r < k → k * n ≤ l → r * n + n ≤ l
 row-ends r k n l h f = omega (arith, suc-mul r n, mul-le-mul-right n h)

@@ -1,8 +1,9 @@
 -- An edge by its three words, from a look-up of its pair in a table that keeps the rules. Assumes nothing.
 use mathlib.Core.Path.{_≡_, refl, sym, ap, _∙_}
 use mathlib.Core.Bool.{Bool, true, false, _&&_, _||_, cond}
+use mathlib.Core.Bool as bool
 use mathlib.Core.List.{List, [], _∷_}
-use Prim.Native.Nat.{ℕ, suc, _-_, _≤_, _<_}
+use Prim.Native.Nat.{ℕ, suc, _-_, _<_}
 use native.Mathlib.Nat.{sub-zero}
 use native.Mathlib.Omega.{arith}
 use lib.ListN.{getD}
@@ -17,8 +18,7 @@ use Rattle.graph.specs.Code.{Room, seek, find}
 use Rattle.graph.proofs.Tests.{both, neither, or-false}
 use Rattle.graph.proofs.Order.{Follows, Sound, follows-sound, precedes-absent, rules-accept}
 use Rattle.graph.proofs.Records.{edges-length, edges-at}
-use Rattle.graph.proofs.Lookup.{absent-present, find-below, find-pair}
-use Rattle.compare.proofs.Tests.{or-nothing}
+use Rattle.graph.proofs.Lookup.{seek-below, absent-present, find-below, find-pair}
 
 -- ---- edges of one pair
 
@@ -50,15 +50,6 @@ after-absent n e x (y ∷ es) h s =
 
 -- ---- look-up
 
-seek-from : (i k : ℕ) (e : Edge) (es : List Edge) → seek i e es ≡ At k → i ≤ k
-unfolding seek
-seek-from i k e [] h = let z : _≡_ {A = ℕ} 0 1 = cc in absurd (omega arith)
-seek-from i k e (x ∷ es) h = pick (samePair e x) h (seek-from (suc i) k e es)
-  where
-    pick : (b : Bool) → cond b (At i) (seek (suc i) e es) ≡ At k → (seek (suc i) e es ≡ At k → suc i ≤ k) → i ≤ k
-    pick true q f = let z : i ≡ k = cc in omega arith
-    pick false q f = let z = f q in omega arith
-
 -- The first edge of the pair is the only one, since those that follow it come after it in table order. So the edge is in the table
 -- where that one has its weight.
 among-seek : (n i k : ℕ) (e : Edge) (es : List Edge) → Sound n es → seek i e es ≡ At k
@@ -73,9 +64,9 @@ among-seek n i k e (x ∷ es) s h = pick (samePair e x) refl h (among-seek n (su
     pick true q f ih =
         let z : i ≡ k = cc in
         let y : k - i ≡ 0 = omega arith in
-        rw (y, among-absent e es (after-absent n e x es q (s .1)), same-pair e x q) (or-nothing (eqb (e .weight) (x .weight)))
+        rw (y, among-absent e es (after-absent n e x es q (s .1)), same-pair e x q) (bool.or-false (eqb (e .weight) (x .weight)))
     pick false q f ih =
-        let z = seek-from (suc i) k e es f in
+        let z = seek-below (suc i) k e es f in
         let y : k - i ≡ suc (k - suc i) = omega arith in
         rw (y, same-apart e x q) (ih f)
 

@@ -1,6 +1,6 @@
--- Tests put together by `&&` and `||`, beyond those of the crate graph. Assumes nothing.
+-- Tests put together by `&&`, beyond those of the crate graph. Assumes nothing.
 use mathlib.Core.Path.{_≡_, refl}
-use mathlib.Core.Bool.{Bool, true, false, _&&_, _||_}
+use mathlib.Core.Bool.{Bool, true, false, _&&_}
 
 pub and-off : (a b : Bool) → b ≡ false → (a && b) ≡ false
 and-off true b h = h
@@ -11,7 +11,3 @@ and-swap true true c = refl
 and-swap true false c = refl
 and-swap false true c = refl
 and-swap false false c = refl
-
-pub or-nothing : (a : Bool) → (a || false) ≡ a
-or-nothing true = refl
-or-nothing false = refl

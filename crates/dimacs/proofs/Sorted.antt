@@ -4,6 +4,7 @@
 --   Fresh es fs  == no edge of fs has a pair of es
 use mathlib.Core.Path.{_≡_, refl, sym, ap, subst, _∙_}
 use mathlib.Core.Bool.{Bool, true, false, _||_, cond}
+use mathlib.Core.Bool as bool
 use mathlib.Core.List.{List, [], _∷_, _++_, foldl, append-assoc, append-nil}
 use Prim.Native.Nat.{ℕ, suc, _+_}
 use native.Mathlib.Omega.{arith}
@@ -54,11 +55,7 @@ exists-insert t e (x ∷ es) = pick (precedes e x) (exists-insert t e es)
 -- the table holds the edges of both, and no others
 pub exists-into : (t : Edge → Bool) (es fs : List Edge) → exists t (into es fs) ≡ (exists t es || exists t fs)
 unfolding exists
-exists-into t es [] = sym (or-none (exists t es))
-  where
-    or-none : (a : Bool) → (a || false) ≡ a
-    or-none true = refl
-    or-none false = refl
+exists-into t es [] = sym (bool.or-false (exists t es))
 exists-into t es (f ∷ fs) = exists-into t (insert f es) fs ∙ rw (exists-insert t f es) (regroup (t f) (exists t es) (exists t fs))
   where
     regroup : (a b c : Bool) → ((a || b) || c) ≡ (b || (a || c))

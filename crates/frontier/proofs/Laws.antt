@@ -116,9 +116,6 @@ some-any (false ∷ l) (suc v) e = some-any l v e
 pub waiting-length : (ws : List ℕ) → length (waitingOf ws) ≡ 64 * length ws
 waiting-length ws = omega (arith, bits-all-length 64 ws)
 
-pub words-length : (vs ws : List ℕ) → length (waitingOf vs) ≡ length (waitingOf ws) → length vs ≡ length ws
-words-length vs ws e = omega (arith, waiting-length vs, waiting-length ws)
-
 bits-zero : (n : ℕ) → bitsOf n 0 ≡ replicate n false
 unfolding bitsOf
 bits-zero zero = refl

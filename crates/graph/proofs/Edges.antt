@@ -69,9 +69,6 @@ same-eq e f h =
 pub among-mem : (es : List Edge) (e : Edge) → among es e ≡ true → List·Memᴰ e es
 among-mem es e h = let (x, m, q) = exists-true (same e) es h in rw (same-eq e x q) m
 
-pub mem-among : {es : List Edge} {e : Edge} → List·Memᴰ e es → among es e ≡ true
-mem-among {e = e} m = true-exists (same e) m (rw (eq-eqb (e .tail) (e .tail) refl, eq-eqb (e .head) (e .head) refl, eq-eqb (e .weight) (e .weight) refl))
-
 -- ---- reversed lists
 
 pub mem-reverse : {es : List Edge} {e : Edge} → List·Memᴰ e es → List·Memᴰ (reverse e) (map reverse es)

@@ -1,5 +1,5 @@
 -- Lists: ranges, tables over them, stored places, folds, lists of one value. Assumes nothing.
-use mathlib.Core.Path.{_≡_, refl, ap, _∙_}
+use mathlib.Core.Path.{_≡_, refl, sym, ap, _∙_}
 use mathlib.Core.Logic.{_⊎_, inl, inr, _≢_}
 use mathlib.Core.List.{List, [], _∷_, _++_, map, foldl, List·Memᴰ, List·Memᴰ·head, List·Memᴰ·tail, List·Memᴰ·cases-cons, List·Memᴰ·not-nil}
 use Prim.Native.Nat.{ℕ, zero, suc, _+_, _-_, _<_, _≤_}
@@ -87,12 +87,22 @@ getD-mem [] k d h = absurd (omega arith)
 getD-mem (x ∷ l) zero d h = List·Memᴰ·head refl
 getD-mem (x ∷ l) (suc k) d h = List·Memᴰ·tail (getD-mem l k d (omega arith))
 
+-- each element stands at some index
+pub mem-index : {A : Type 0} {l : List A} {x : A} (d : A) → List·Memᴰ x l → (k : ℕ) × (k < length l) × (getD l k d ≡ x)
+mem-index d (List·Memᴰ·head p) = (0, omega arith, sym p)
+mem-index d (List·Memᴰ·tail m) = let (k, h, e) = mem-index d m in (suc k, omega arith, e)
+
 -- ---- lists of one value
 
 pub take-replicate : {A : Type 0} (n m : ℕ) (a : A) → n ≤ m → take n (replicate m a) ≡ replicate n a
 take-replicate zero m a h = refl
 take-replicate (suc n) zero a h = absurd (omega arith)
 take-replicate (suc n) (suc m) a h = ap {B = List _} (λ l. a ∷ l) (take-replicate n m a (omega arith))
+
+pub drop-replicate : {A : Type 0} (n m : ℕ) (a : A) → drop n (replicate m a) ≡ replicate (m - n) a
+drop-replicate zero m a = let e : m - 0 ≡ m = omega arith in rw e
+drop-replicate (suc n) zero a = let e : 0 - suc n ≡ 0 = omega arith in rw e
+drop-replicate (suc n) (suc m) a = let e : suc m - suc n ≡ m - n = omega arith in rw e (drop-replicate n m a)
 
 pub replicate-at : {A : Type 0} (n i : ℕ) (a : A) → getD (replicate n a) i a ≡ a
 replicate-at zero i a = refl

@@ -84,7 +84,8 @@ seek-present i e (x ∷ es) = pick (samePair e x) (seek-present (suc i) e es)
     pick true h = refl
     pick false h = h
 
-seek-below : (i k : ℕ) (e : Edge) (es : List Edge) → seek i e es ≡ At k → (i ≤ k) × (k < i + length es)
+-- an index found from i on is i or more, and within the list
+pub seek-below : (i k : ℕ) (e : Edge) (es : List Edge) → seek i e es ≡ At k → (i ≤ k) × (k < i + length es)
 unfolding seek
 seek-below i k e [] h = let z : _≡_ {A = ℕ} 0 1 = cc in absurd (omega arith)
 seek-below i k e (x ∷ es) h = pick (samePair e x) h (seek-below (suc i) k e es)
@@ -114,10 +115,7 @@ module _ (e : Edge) (es : List Edge) where
   pub find-below : (i : ℕ) → find e es ≡ At i → i < length es
   find-below i h = let z = seek-below 0 i e es h in omega arith
 
--- look-up and presence go by the pair, whatever the weight
-pub present-pair : (t h v w : ℕ) (es : List Edge) → present es (edge t h v) ≡ present es (edge t h w)
-present-pair t h v w es = refl
-
+-- look-up goes by the pair, whatever the weight
 pub find-pair : (t h v w : ℕ) (es : List Edge) → find (edge t h v) es ≡ find (edge t h w) es
 find-pair t h v w es = seek-pair 0 t h v w es
 
@@ -150,11 +148,6 @@ seek-delete i k e (x ∷ es) h = pick (samePair e x) h (seek-delete (suc i) k e 
 
 pub delete-found : (e : Edge) (es : List Edge) (i : ℕ) → find e es ≡ At i → deleteAt i es ≡ delete e es
 delete-found e es i h = rw sub-zero at (seek-delete 0 i e es h)
-
-pub delete-pair : (t h v w : ℕ) (es : List Edge) → delete (edge t h v) es ≡ delete (edge t h w) es
-unfolding delete
-delete-pair t h v w [] = refl
-delete-pair t h v w (x ∷ es) = ap (λ (l : List Edge). cond (samePair (edge t h w) x) es (x ∷ l)) (delete-pair t h v w es)
 
 -- ---- halving
 

@@ -1,6 +1,6 @@
--- The table's rules: what they say of each edge, and that insert and delete keep them; lists with the same edges. Assumes nothing.
+-- The table's rules: what they say of each edge, and that insert and delete keep them. Assumes nothing.
 use mathlib.Core.Path.{_≡_, refl, sym, ap, _∙_}
-use mathlib.Core.Logic.{_↔_, _⊎_, inl, inr, ⊎-elim, _≢_}
+use mathlib.Core.Logic.{_⊎_, inl, inr, ⊎-elim}
 use mathlib.Core.Bool.{Bool, true, false, not, _&&_, _||_, cond, true≢false}
 use mathlib.Core.List.{List, [], _∷_, List·Memᴰ, List·Memᴰ·cases-cons, List·Memᴰ·not-nil}
 use Prim.Native.Nat.{ℕ, zero, suc, _≤_, _<_}
@@ -289,18 +289,3 @@ precedes-tail e f h = pick (less-of e f h)
 
 pub insert-rules : (n : ℕ) (e : Edge) (es : List Edge) → rules n es ≡ accept → isEdge n e ≡ true → present es e ≡ false → rules n (insert e es) ≡ accept
 insert-rules n e es h f a = accept-rules n (insert e es) (insert-sound n e es (rules-accept n es h) f a)
-
--- ---- lists with the same edges, in whatever order
-
-abbrev pub Same : List Edge → List Edge → Type 0
-Same es es' = (e : Edge) → List·Memᴰ e es ↔ List·Memᴰ e es'
-
-pub same-back : {es es' : List Edge} → Same es es' → Same es' es
-same-back p e = (p e .1, p e .0)
-
-pub same-within : {n : ℕ} {es es' : List Edge} → Same es es' → Within n es → Within n es'
-same-within p inside = record {
-  tails = λ e m. inside .tails e (p e .1 m);
-  heads = λ e m. inside .heads e (p e .1 m);
-  weights = λ e m. inside .weights e (p e .1 m);
-}

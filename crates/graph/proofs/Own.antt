@@ -7,7 +7,7 @@
 use mathlib.Core.Path.{_≡_, refl, sym, ap, _∙_}
 use mathlib.Core.Logic.{⊎-elim}
 use mathlib.Core.Bool.{Bool, true, false, cond}
-use mathlib.Core.List.{List, [], _∷_, map, List·Memᴰ, List·Memᴰ·head, List·Memᴰ·tail, List·Memᴰ·not-nil, List·Memᴰ·append-cases}
+use mathlib.Core.List.{List, [], _∷_, map, List·Memᴰ, List·Memᴰ·not-nil, List·Memᴰ·append-cases}
 use Prim.Native.Nat.{ℕ, zero, suc, _+_, _-_, _<_, _≤_}
 use native.Mathlib.Numerals.{add-one}
 use native.Mathlib.Omega.{arith}
@@ -21,9 +21,10 @@ use Rattle.graph.specs.Edge.{Edge, edge, reverse, keepIf, keep, leaving,
 use Rattle.graph.specs.Table.{rules}
 use Rattle.graph.specs.Code.{Room, edgeAt, below, equal, Keyed, Firsts, into, reversedFrom, reversed}
 use Rattle.graph.specs.Own.{part, own, Own, Fit}
+use Rattle.graph.proofs.Lists.{getD-mem}
 use Rattle.graph.proofs.Edges.{leaving-in, keep-in, keep-reverse, reverse-mem}
 use Rattle.graph.proofs.Order.{Sound, rules-accept, follows-sound, sound-before, precedes-tail, Within, within}
-use Rattle.graph.proofs.Records.{tailsOf, headsOf, edges-length, edges-at, edges-more, edges-tails, edges-heads}
+use Rattle.graph.proofs.Records.{tailsOf, headsOf, edges-length, edges-at, edges-mem, edges-more, edges-tails, edges-heads}
 use Rattle.graph.proofs.Counts.{below-zero, below-suc, below-le}
 use Rattle.graph.proofs.Places.{into-length}
 
@@ -105,11 +106,6 @@ reversed-in u (suc k) es x m = ⊎-elim (λ i. into-in u es x i) (λ i. reversed
 
 -- ---- edges read by index
 
-mem-at : (es : List Edge) (k : ℕ) → k < length es → List·Memᴰ (getD es k (edge 0 0 0)) es
-mem-at [] k l = absurd (omega arith)
-mem-at (e ∷ es) zero l = List·Memᴰ·head refl
-mem-at (e ∷ es) (suc k) l = List·Memᴰ·tail (mem-at es k (omega arith))
-
 module _ (ts hs ws : List ℕ) (m : ℕ) (r : Room m ts hs ws) where
   part-edges : (u j k : ℕ) → j + k ≤ m → ((i : ℕ) → j ≤ i → i < j + k → getD ts i 0 ≡ u) → part hs ws u j k ≡ take k (drop j (edges ts hs ws m))
   unfolding part
@@ -129,7 +125,7 @@ module _ (ts hs ws : List ℕ) (m : ℕ) (r : Room m ts hs ws) where
           let t = length-take-le k (drop j (edges ts hs ws m)) (omega arith) in
           let f : j + (i - j) ≡ i = omega arith in
           let g : getD (take k (drop j (edges ts hs ws m))) (i - j) (edge 0 0 0) ≡ edgeAt ts hs ws i = getD-take k (drop j (edges ts hs ws m)) (i - j) (edge 0 0 0) (omega arith) ∙ (getD-drop j (edges ts hs ws m) (i - j) (edge 0 0 0) ∙ rw f (edges-at ts hs ws m r i (omega arith))) in
-          rw g at (mem-at (take k (drop j (edges ts hs ws m))) (i - j) (omega arith))
+          rw g at (getD-mem (take k (drop j (edges ts hs ws m))) (i - j) (edge 0 0 0) (omega arith))
 
       tail : (i : ℕ) → j ≤ i → i < j + k → getD ts i 0 ≡ u
       tail i a b = h (edgeAt ts hs ws i) (rw e at (there i a b))
@@ -154,17 +150,14 @@ module _ (n : ℕ) (ks fs : List ℕ) (f : Firsts n ks fs) (u : ℕ) (l : u < n)
 -- ---- the table and its index
 
 module _ (n m : ℕ) (ts hs ws : List ℕ) (r : Room m ts hs ws) (a : rules n (edges ts hs ws m) ≡ accept) where
-  in-table : (k : ℕ) → k < m → List·Memᴰ (edgeAt ts hs ws k) (edges ts hs ws m)
-  in-table k l = let z = edges-length ts hs ws m r in rw (edges-at ts hs ws m r k l) at (mem-at (edges ts hs ws m) k (omega arith))
-
   inner : Within n (edges ts hs ws m)
   inner = within n (edges ts hs ws m) (rules-accept n (edges ts hs ws m) a)
 
   pub tails-below : (k : ℕ) → k < m → getD ts k 0 < n
-  tails-below k l = inner .tails (edgeAt ts hs ws k) (in-table k l)
+  tails-below k l = inner .tails (edgeAt ts hs ws k) (edges-mem ts hs ws m r k l)
 
   pub heads-below : (k : ℕ) → k < m → getD hs k 0 < n
-  heads-below k l = inner .heads (edgeAt ts hs ws k) (in-table k l)
+  heads-below k l = inner .heads (edgeAt ts hs ws k) (edges-mem ts hs ws m r k l)
 
   pub own-table : (fs : List ℕ) → Firsts n (take m ts) fs → (u : ℕ) → u < n → own fs hs ws u ≡ leaving u (edges ts hs ws m)
   own-table fs f u l =
@@ -209,10 +202,7 @@ module _ (n m : ℕ) (ts hs ws rts rhs rws fs : List ℕ) (r : Room m ts hs ws) 
       ∙ part-is rts rhs rws m s u (below u (take m hs)) (equal u (take m hs)) (leaving u (map reverse es)) (omega arith) (rw e (rw h at (reversed-part n u es l))) (λ x i. leaving-in u (map reverse es) x i .1)
 
   in-reversed : (k : ℕ) → k < m → List·Memᴰ (edge (getD rhs k 0) (getD rts k 0) (getD rws k 0)) (edges ts hs ws m)
-  in-reversed k l =
-      let z = edges-length rts rhs rws m s in
-      let i = rw (edges-at rts rhs rws m s k l, e) at (mem-at (edges rts rhs rws m) k (omega arith)) in
-      reversed-in 0 n (edges ts hs ws m) (edgeAt rts rhs rws k) i
+  in-reversed k l = reversed-in 0 n (edges ts hs ws m) (edgeAt rts rhs rws k) (rw e at (edges-mem rts rhs rws m s k l))
 
   pub fit-reversed : rules n (edges ts hs ws m) ≡ accept → n ≤ maxVertices → m ≤ maxEdges → n < length fs → Fit n m fs rhs rws
   fit-reversed a p q i = record {

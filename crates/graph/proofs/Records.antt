@@ -1,7 +1,7 @@
 -- The edges below a count of three lists: their number, each of them, what is left from an index on, one more, one less.
 -- Assumes nothing.
 use mathlib.Core.Path.{_≡_, refl, ap, _∙_}
-use mathlib.Core.List.{List, [], _∷_, _++_, map}
+use mathlib.Core.List.{List, [], _∷_, _++_, map, List·Memᴰ}
 use Prim.Native.Nat.{ℕ, zero, suc, _+_, _-_, _<_, _≤_}
 use native.Mathlib.Numerals.{add-one}
 use native.Mathlib.Omega.{arith}
@@ -9,6 +9,7 @@ use lib.ListN.{length, getD, set, take, drop, drop-of-length-le}
 use lib.Seq.{length-take-le, drop-cons, getD-take, take-set-lt}
 use Rattle.graph.specs.Edge.{Edge, edge, zip, edges}
 use Rattle.graph.specs.Code.{Room, edgeAt, insertAt, deleteAt}
+use Rattle.graph.proofs.Lists.{getD-mem}
 
 -- ---- three lists side by side
 
@@ -70,6 +71,10 @@ module _ (ts hs ws : List ℕ) (m : ℕ) (r : Room m ts hs ws) where
       let y = length-take-le m hs (r .heads) in
       let z = length-take-le m ws (r .weights) in
       zip-at (take m ts) (take m hs) (take m ws) k (omega arith) (omega arith) (omega arith) ∙ rw (getD-take m ts k 0 h, getD-take m hs k 0 h, getD-take m ws k 0 h)
+
+  -- the edge that stands at index k is one of the edges
+  pub edges-mem : (k : ℕ) → k < m → List·Memᴰ (edgeAt ts hs ws k) (edges ts hs ws m)
+  edges-mem k h = rw (edges-at k h) at (getD-mem (edges ts hs ws m) k (edge 0 0 0) (omega (arith, edges-length)))
 
   pub edges-more : (k : ℕ) → k < m → drop k (edges ts hs ws m) ≡ edgeAt ts hs ws k ∷ drop (k + 1) (edges ts hs ws m)
   edges-more k h =

@@ -4,7 +4,7 @@
 -- A table of examples lists what a definition gives beside what document 01 says; one equation holds for all of its lines.
 use mathlib.Core.Path.{_≡_, refl}
 use mathlib.Core.List.{List, [], _∷_, _++_, map}
-use Prim.Native.Nat.{ℕ, _+_, _-_, _*_, _%_}
+use Prim.Native.Nat.{ℕ, _-_, _*_, _%_}
 use lib.ListN.{length, replicate, set}
 use lib.ListN as list
 use Rattle.property.specs.Property.{M, property}

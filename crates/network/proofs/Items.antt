@@ -85,7 +85,7 @@ rewritten-edges fs cs =
     rw (append-assoc (map (λ x. x .tail) fs), append-assoc (map (λ x. x .head) fs), append-assoc (map (λ x. x .weight) fs)) (edges-back fs _ _ _)
 
 module _ (fs : List Edge) (few : length fs ≤ maxEdges) where
-  length-column : (f : Edge → ℕ) → length (column f fs) ≡ maxEdges
+  pub length-column : (f : Edge → ℕ) → length (column f fs) ≡ maxEdges
   length-column f = length-append (map f fs) (replicate (maxEdges - length fs) 0)
       ∙ (let p = length-map fs f in let q = length-replicate {A = ℕ} (maxEdges - length fs) 0 in omega arith)
 

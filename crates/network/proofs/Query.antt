@@ -3,7 +3,7 @@
 use mathlib.Core.Path.{_≡_, refl, sym, ap, _∙_, subst}
 use mathlib.Core.Logic.{_⊎_, inl, inr, _≢_}
 use mathlib.Core.Bool.{not, false}
-use mathlib.Core.List.{List, map, List·Memᴰ, List·Memᴰ·head, List·Memᴰ·tail, Memᴰ·map, Memᴰ·of-map}
+use mathlib.Core.List.{List, map, List·Memᴰ, Memᴰ·map, Memᴰ·of-map}
 use Prim.Native.Nat.{ℕ, suc, _-_, _/_, _%_, _≤_, _<_}
 use native.Mathlib.Nat.{mul-add-div-right, mul-add-mod-self-right, mod-eq-of-lt, div-eq-of-lt}
 use native.Mathlib.Omega.{arith}
@@ -19,7 +19,7 @@ use Rattle.graph.specs.Edge.{Edge, reverse, range}
 use Rattle.graph.specs.Route.{Route, Best}
 use Rattle.graph.specs.Table.{size, shortTable, table}
 use Rattle.graph.proofs.Tests.{both, neither}
-use Rattle.graph.proofs.Lists.{mem-range-0, range-below, getD-mem}
+use Rattle.graph.proofs.Lists.{mem-range-0, range-below, getD-mem, mem-index}
 use Rattle.graph.proofs.Verdicts.{then-accept, if-accept, reply-accepted, choose-accept}
 use Rattle.graph.proofs.Order.{Within}
 use Rattle.run.specs.Run.{Tally, word, relaxable}
@@ -37,11 +37,6 @@ use Rattle.network.proofs.Moment.{Good, good-within}
 
 -- ---- lists and rows
 
--- an element and its index
-index-of : {l : ℕ} {ls : List ℕ} → List·Memᴰ l ls → (i : ℕ) × (i < length ls) × (getD ls i 0 ≡ l)
-index-of (List·Memᴰ·head p) = (0, omega arith, sym p)
-index-of (List·Memᴰ·tail m) = let (i, h, e) = index-of m in (suc i, omega arith, e)
-
 -- the row of landmark i for property p is of that property and that landmark
 row-at : (ls : List ℕ) (p i : ℕ) → 0 < p → p ≤ properties → (Q : Property → ℕ → Type 0)
     → Q (propertyOf (rowAt i p)) (landmarkOf ls (rowAt i p)) → Q (property p) (getD ls i 0)
@@ -52,11 +47,12 @@ row-at ls p i h k Q q =
     let c : suc (rowAt i p % properties) ≡ p = omega arith in
     subst (λ x. Q (property p) (getD ls x 0)) b (subst (λ x. Q (property x) (landmarkOf ls (rowAt i p))) c q)
 
--- what is known of a request where no refusal applies
-pub query-request : (n : ℕ) (ls : List ℕ) (w : Network) (q : Query) (x y : ℕ) → queryFaults n ls w q x y ≡ accept
-    → (0 < q .property) × (q .property ≤ properties) × (q .source < n)
+-- numbers 1 to 6 of a query, one by one
+pub query-parts : (n : ℕ) (ls : List ℕ) (w : Network) (q : Query) (x y : ℕ) → queryFaults n ls w q x y ≡ accept
+    → (size n ≡ accept) × (longSchedule (length (q .schedule)) ≡ accept) × (shortTable (w .memory .table) ≡ accept) × (shortRows n ls (w .memory .rows) ≡ accept)
+    × (shortWords n x y ≡ accept) × (landmarks n ls ≡ accept) × (table n (w .memory .table) (w .count) ≡ accept) × (requested n q ≡ accept)
 unfolding queryFaults
-query-request n ls w q x y h =
+query-parts n ls w q x y h =
     let a = then-accept (size n) _ h in
     let b = then-accept (longSchedule (length (q .schedule))) _ (a .1) in
     let c = then-accept (shortTable (w .memory .table)) _ (b .1) in
@@ -64,10 +60,16 @@ query-request n ls w q x y h =
     let e = then-accept (shortWords n x y) _ (d .1) in
     let f = then-accept (landmarks n ls) _ (e .1) in
     let g = then-accept (table n (w .memory .table) (w .count)) (requested n q) (f .1) in
-    let i = then-accept (refuseIf (not (isProperty (q .property))) 5 0) _ (g .1) in
+    (a .0, b .0, c .0, d .0, e .0, f .0, g .0, g .1)
+
+-- what is known of a request where no refusal applies
+pub query-request : (n : ℕ) (ls : List ℕ) (w : Network) (q : Query) (x y : ℕ) → queryFaults n ls w q x y ≡ accept
+    → (0 < q .property) × (q .property ≤ properties) × (q .source < n) × (scheduled n 0 (q .schedule) ≡ accept)
+query-request n ls w q x y h =
+    let i = then-accept (refuseIf (not (isProperty (q .property))) 5 0) _ (query-parts n ls w q x y h .7) in
     let j = then-accept (refuseIf (not (ltb (q .source) n)) 6 0) (scheduled n 0 (q .schedule)) (i .1) in
     let p = both (ltb 0 (q .property)) (leb (q .property) properties) (not-false _ (if-accept _ _ _ (i .0))) in
-    (ltb-true _ _ (p .0), leb-true _ _ (p .1), ltb-true _ _ (not-false _ (if-accept _ _ _ (j .0))))
+    (ltb-true _ _ (p .0), leb-true _ _ (p .1), ltb-true _ _ (not-false _ (if-accept _ _ _ (j .0))), j .1)
 
 module _ (n : ℕ) (ls : List ℕ) (w : Network) (g : Good n ls w) (q : Query) where
   abbrev P : Property
@@ -154,7 +156,7 @@ module _ (n : ℕ) (ls : List ℕ) (w : Network) (g : Good n ls w) (q : Query) w
     triangle : (t : ℕ) → Triangle P es ls s t (top t)
     triangle t = record {
       unbettered = λ l a b m x y.
-          let (i, h, e) = index-of m in
+          let (i, h, e) = mem-index 0 m in
           let x′ = subst (λ z. Best P es s z ((know i) .into)) e (back i h) in
           let y′ = subst (λ z. Best P es z t (word P ((know i) .row) t)) e (ahead i h t) in
           rw (best-unique L x x′, best-unique L y y′) (bound-under L knowns t (know i) (known-in i h));

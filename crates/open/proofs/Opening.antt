@@ -3,33 +3,30 @@ use mathlib.Core.Path.{_≡_, sym, ap, ap₂, _∙_}
 use mathlib.Core.Bool.{Bool, true, false, _||_}
 use mathlib.Core.List.{List, map}
 use Prim.Native.Nat.{ℕ, suc, _*_, _/_, _%_, _≤_}
-use native.Mathlib.Nat.{mul-le-mul}
-use native.Mathlib.Omega.{arith}
 use lib.ListN.{length, getD}
 use lib.Seq.{paste}
 use Rattle.property.specs.Property.{property, properties}
 use Rattle.frontier.specs.Waiting.{waitingOf, anyOf}
 use Rattle.graph.specs.declared.Judged.{Judged}
 use Rattle.graph.specs.declared.Judged.the-variants as judged
-use Rattle.graph.specs.Limits.{maxVertices, maxLandmarks}
 use Rattle.graph.specs.Refusal.{accept, refuse, refuseIf, replied, choose}
 use Rattle.graph.specs.Edge.{Edge, reverse}
-use Rattle.graph.specs.Table.{size, shortTable, table}
 use Rattle.graph.specs.Code.{told, columns}
 use Rattle.graph.proofs.Records.{room-less}
-use Rattle.graph.proofs.Verdicts.{then-accept, accept-then, refuse-then}
+use Rattle.graph.proofs.Verdicts.{accept-then, refuse-then}
 use Rattle.run.specs.declared.Tally.{Tally}
 use Rattle.run.specs.Run.{settle}
 use Rattle.run.specs.Start.{opened}
 use Rattle.run.specs.Code.{Marks, noCounts, state}
 use Rattle.run.proofs.States.{bits-any}
 use Rattle.open.specs.declared.Opened.the-variants.{Accepted, Refused}
-use Rattle.network.specs.Network.{Network, edgesIn, rowCount, shortRows, landmarks, faults, unsettled}
+use Rattle.network.specs.Network.{Network, edgesIn, rowCount, landmarks, faults, unsettled}
 use Rattle.network.specs.Open.{openRow, openRows, openVerdict, openCall}
 use Rattle.open.specs.Code.{opening, openOutcome}
-use Rattle.calls.specs.Code.{rowLists, network, Openable, IsRow, AreRows}
+use Rattle.calls.specs.Code.{network, Openable, IsRow, AreRows}
 use Rattle.network.proofs.Rows.{landmark-below}
-use Rattle.calls.proofs.Flat.{paste-over}
+use Rattle.network.proofs.Moment.{faults-parts}
+use Rattle.graph.proofs.Copies.{paste-over}
 use Rattle.graph.proofs.Judging.{size-accept, lengths-accept, table-accept}
 use Rattle.calls.proofs.Judging.{rows-accept, landmarks-accept}
 
@@ -53,25 +50,18 @@ module _ (n r : ℕ) {p i : ℕ} (ls : List ℕ) (es : List Edge) (ws bs ws′ b
 pub open-accept : (n : ℕ) (ls ts hs ws f b : List ℕ) (m : ℕ) → faults n ls (network ts hs ws f b m) ≡ accept
     → Openable n m ls ts hs ws × (rowCount ls * n ≤ length f) × (rowCount ls * n ≤ length b)
 open-accept n ls ts hs ws f b m e =
-    let a = then-accept (size n) _ e in
-    let s = then-accept (shortTable (columns ts hs ws)) _ (a .1) in
-    let r = then-accept (shortRows n ls (rowLists f b)) _ (s .1) in
-    let l = then-accept (landmarks n ls) (table n (columns ts hs ws) m) (r .1) in
-    let t = table-accept n (columns ts hs ws) m (l .1) in
-    let x = rows-accept n ls f b (r .0) in
-    let p = landmarks-accept n ls (l .0) in
+    let a = faults-parts n ls (network ts hs ws f b m) e in
+    let t = table-accept n (columns ts hs ws) m (a .4) in
+    let x = rows-accept n ls f b (a .2) in
+    let p = landmarks-accept n ls (a .3) in
     let o : Openable n m ls ts hs ws = record {
       few = size-accept n (a .0) .1;
       records = t .0;
-      room = room-less (t .0) (lengths-accept ts hs ws (s .0));
+      room = room-less (t .0) (lengths-accept ts hs ws (a .1));
       rules = t .1;
-      landmarks = record { few = p .0; vertices = λ i k. landmark-below n ls i (l .0) k };
+      landmarks = record { few = p .0; vertices = λ i k. landmark-below n ls i (a .3) k };
     } in
     (o, x .0, x .1)
-
--- .. so that scratch lists for the rows of the most landmarks and vertices have room for the rows
-pub rows-few : {n m : ℕ} {ls ts hs ws : List ℕ} → Openable n m ls ts hs ws → rowCount ls * n ≤ maxLandmarks * properties * maxVertices
-rows-few {n} {m} {ls} o = mul-le-mul {n₁ = rowCount ls} {m₁ = n} {n₂ = maxLandmarks * properties} {m₂ = maxVertices} (omega (arith, o .landmarks .few)) (o .few)
 
 -- ---- the outcome: numbers 1 to 4, then 13
 

@@ -18,10 +18,10 @@ use Rattle.graph.specs.Limits.{maxVertices}
 use Rattle.graph.specs.Edge.{Edge, edge, edges}
 use Rattle.graph.specs.Code.{Room, edgeAt}
 use Rattle.graph.specs.Own.{part, own, Own}
-use Rattle.graph.proofs.Tests.{both, and-true}
-use Rattle.graph.proofs.Lists.{replicate-at, getD-mem, getD-within}
+use Rattle.graph.proofs.Tests.{both, and-true, or-right}
+use Rattle.graph.proofs.Lists.{replicate-at, mem-index, getD-within}
 use Rattle.graph.proofs.Edges.{leaving-in, in-leaving}
-use Rattle.graph.proofs.Records.{edges-length, edges-at}
+use Rattle.graph.proofs.Records.{edges-length, edges-at, edges-mem}
 use Rattle.run.specs.Run.{word}
 use Rattle.run.specs.Code.{bits, Marks}
 use Rattle.run.proofs.States.{marks-set, marks-clear}
@@ -132,19 +132,10 @@ module _ (P : Property) (n s : ℕ) (vs : List ℕ) (e : Edge) (head : e .head <
 
 -- ---- the listed edges
 
--- the edge that stands at index k is one of the edges
-pub edge-mem : (ts hs ws : List ℕ) (m : ℕ) → Room m ts hs ws → (k : ℕ) → k < m → List·Memᴰ (edgeAt ts hs ws k) (edges ts hs ws m)
-edge-mem ts hs ws m r k h = rw (edges-at ts hs ws m r k h) at (getD-mem (edges ts hs ws m) k (edge 0 0 0) (omega (arith, edges-length ts hs ws m r)))
-
-mem-at : (es : List Edge) (e : Edge) → List·Memᴰ e es → (k : ℕ) × (k < length es) × (getD es k (edge 0 0 0) ≡ e)
-mem-at [] e m = absurd (List·Memᴰ·not-nil m)
-mem-at (x ∷ es) e m =
-    ⊎-elim (λ (p : e ≡ x). (0, omega arith, sym p)) (λ n. let z = mem-at es e n in (suc (z .0), (let l = z .1 in omega arith), z .2)) (List·Memᴰ·cases-cons m)
-
 -- each edge stands at some index
 pub edge-index : (ts hs ws : List ℕ) (m : ℕ) → Room m ts hs ws → (e : Edge) → List·Memᴰ e (edges ts hs ws m) → (k : ℕ) × (k < m) × (edgeAt ts hs ws k ≡ e)
 edge-index ts hs ws m r e i =
-    let z = mem-at (edges ts hs ws m) e i in
+    let z = mem-index (edge 0 0 0) i in
     let l : z .0 < m = (let x = z .1 in omega (arith, edges-length ts hs ws m r)) in
     (z .0, l, sym (edges-at ts hs ws m r (z .0) l) ∙ z .2)
 
@@ -175,7 +166,7 @@ module _ {P : Property} {n s m : ℕ} {ts hs ws gs vs bs ds : List ℕ} where
           going = mark-going P n s vs x h cs es cs′ es′ (at .going) p q;
           grown = grown-then (at .grown) y;
           named = λ fs o l d f.
-              mark-named P n s vs x h cs es cs′ es′ (at .going) p q (edges ts hs ws m) fs (edge-mem ts hs ws m (fit .room) (getD gs i 0) k)
+              mark-named P n s vs x h cs es cs′ es′ (at .going) p q (edges ts hs ws m) fs (edges-mem ts hs ws m (fit .room) (getD gs i 0) k)
               (rw (d .lacks i (omega arith))) (at .named fs o (omega arith) d f);
           heads = λ j l u. pick j u (ℕ-discrete j i) (λ z. at .heads j (omega arith) u);
         }
@@ -210,15 +201,11 @@ module _ {P : Property} {n s : ℕ} {hs ws : List ℕ} {u j : ℕ} {vs bs ds : L
           going = mark-going P n s vs y head cs es cs′ es′ (at .going) p q;
           grown = grown-then (at .grown) z;
           named = λ xs fs i d.
-              mark-named P n s vs y head cs es cs′ es′ (at .going) p q xs fs (i k low (omega arith)) (or-on (removed fs y) (at .grown .keeps u on))
+              mark-named P n s vs y head cs es cs′ es′ (at .going) p q xs fs (i k low (omega arith)) (or-right (removed fs y) (at .grown .keeps u on))
               (at .named xs fs (λ o a b. i o a (omega arith)) d);
           along = λ i a b c. pick i c (ℕ-discrete i k) (λ e. at .along i a (omega arith) c);
         }
       where
-        or-on : (a : Bool) {b : Bool} → b ≡ true → (a || b) ≡ true
-        or-on true h = refl
-        or-on false h = h
-
         pick : (i : ℕ) → held P s vs (edge u (getD hs i 0) (getD ws i 0)) ≡ true → Dec (i ≡ k)
             → ((i ≡ k → ⊥) → marked (waitingOf cs) (getD hs i 0) ≡ true) → marked (waitingOf cs′) (getD hs i 0) ≡ true
         pick i c (yes e) f = rw e (mark-done P n s vs y head cs es cs′ es′ (at .going) p q (rw e at c))

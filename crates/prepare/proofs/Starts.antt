@@ -10,7 +10,7 @@ use Prim.Native.Nat.{ℕ, _+_, _≤_, _<_}
 use native.Mathlib.Decide.{ℕ-discrete, decLt}
 use native.Mathlib.Omega.{arith}
 use lib.ListN.{length, getD, set, replicate, length-set}
-use lib.Seq.{paste, length-paste, getD-set-same, getD-set-other, ext-getD}
+use lib.Seq.{getD-set-same, getD-set-other, ext-getD}
 use lib.Dec.{eqb}
 use borrow.Author.Tests.{eqb-true, eq-eqb}
 use Rattle.property.specs.Property.{Property}
@@ -20,7 +20,7 @@ use Rattle.graph.specs.Edge.{Edge, edge, edges, exists, range}
 use Rattle.graph.specs.Code.{Room, edgeAt}
 use Rattle.graph.proofs.Edges.{exists-true, true-exists}
 use Rattle.graph.proofs.Tests.{both, and-true, or-right, same-test}
-use Rattle.graph.proofs.Lists.{length-table, table-at, getD-within, replicate-at, paste-at}
+use Rattle.graph.proofs.Lists.{length-table, table-at, getD-within, replicate-at}
 use Rattle.run.specs.Run.{noTally, word}
 use Rattle.run.specs.Code.{bits, Marks}
 use Rattle.run.proofs.States.{bits-at}
@@ -29,7 +29,8 @@ use Rattle.affected.specs.Prepared.{cleared, reopened, prepared}
 use Rattle.compare.specs.Code.{Missing}
 use Rattle.prepare.specs.Code.{Inward, Raised}
 use Rattle.prepare.proofs.Bits.{bits-all, bits-length}
-use Rattle.prepare.proofs.Spreading.{edge-mem, edge-index}
+use Rattle.graph.proofs.Records.{edges-mem}
+use Rattle.prepare.proofs.Spreading.{edge-index}
 
 -- ---- words
 
@@ -81,12 +82,6 @@ module _ (P : Property) (n : ℕ) (ms ws : List ℕ) (l : length ws ≡ n) where
         each : (k : ℕ) → k < n → Dec (k < i) → getD out k 0 ≡ given P n ms ws k
         each k h (yes o) = at .below k o
         each k h (no d) = at .above k (omega arith) ∙ spared k h (f k (omega arith) h)
-
--- a whole list over another of its length
-pub copy-whole : (n : ℕ) (d s : List ℕ) → length d ≡ n → length s ≡ n → paste d 0 s n ≡ s
-copy-whole n d s p q =
-    let l = length-paste d 0 s n (omega arith) (omega arith) in
-    ext-getD 0 (paste d 0 s n) s (omega arith) (λ u h. paste-at d s (paste d 0 s n) n refl (omega arith) u (omega arith))
 
 -- ---- bits that are set
 
@@ -205,7 +200,7 @@ module _ (n m : ℕ) (ts gs : List ℕ) (g : ℕ) (is xs ms : List ℕ) (marks :
         listed : ((i : ℕ) × (i < g) × (getD ts (getD gs i 0) 0 ≡ t)) → exists (opens es (bits n ms) t) fs ≡ true
         listed z =
             let k = q .below (z .0) (z .1) in
-            witness t (edgeAt ts hs ws (getD gs (z .0) 0)) (edge-mem ts hs ws m r _ k) (z .2) (or-right (marked (bits n ms) _) (q .lacks (z .0) (z .1)))
+            witness t (edgeAt ts hs ws (getD gs (z .0) 0)) (edges-mem ts hs ws m r _ k) (z .2) (or-right (marked (bits n ms) _) (q .lacks (z .0) (z .1)))
 
         into : ((v : ℕ) × (getD (waitingOf ms) v false ≡ true) × ((k : ℕ) × (getD is v 0 ≤ k) × (k < getD is (v + 1) 0) × (getD xs k 0 ≡ t))) → exists (opens es (bits n ms) t) fs ≡ true
         into (v, on, (k, lo, hi, e)) =

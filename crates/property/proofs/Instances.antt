@@ -83,15 +83,3 @@ Unwrapped a b r = (a ≤ r) × (b ≤ r) × (r ≤ M)
 
 pub plus-no-wrap : (a b : ℕ) → a ≤ M → b ≤ M → Unwrapped a b (plus a b)
 plus-no-wrap = omega tests
-
-pub sssp-along-no-wrap : (v w : ℕ) → v ≤ M → w ≤ M → Unwrapped v w (sssp .along v w)
-sssp-along-no-wrap = plus-no-wrap
-
-pub bfs-along-no-wrap : (v w : ℕ) → v ≤ M → Unwrapped v 1 (bfs .along v w)
-bfs-along-no-wrap v w h = plus-no-wrap v 1 h (omega tests)
-
-pub sssp-join-no-wrap : (a b : ℕ) → a ≤ M → b ≤ M → Unwrapped a b (sssp .join a b)
-sssp-join-no-wrap = plus-no-wrap
-
-pub bfs-join-no-wrap : (a b : ℕ) → a ≤ M → b ≤ M → Unwrapped a b (bfs .join a b)
-bfs-join-no-wrap = plus-no-wrap

@@ -1,22 +1,21 @@
 -- A query's refusals: as the code groups them, and what is known where none applies. Assumes nothing.
 use mathlib.Core.Path.{_≡_}
-use mathlib.Core.Bool.{not}
 use mathlib.Core.List.{List, [], _∷_}
 use Prim.Native.Nat.{ℕ, zero, suc, _<_, _≤_}
 use native.Mathlib.Omega.{arith}
 use lib.ListN.{length, getD}
-use lib.Dec.{ltb, leb}
-use borrow.Author.Tests.{ltb-true, ltb-false, leb-true, not-false}
-use Rattle.property.specs.Property.{properties, isProperty}
+use lib.Dec.{ltb}
+use borrow.Author.Tests.{ltb-true, ltb-false, not-false}
 use Rattle.graph.specs.Limits.{maxEdges}
-use Rattle.graph.specs.Refusal.{accept, _▷_, refuseIf}
+use Rattle.graph.specs.Refusal.{accept, _▷_}
 use Rattle.graph.specs.Table.{rules, size, shortTable, table}
 use Rattle.graph.specs.Code.{Room}
-use Rattle.graph.proofs.Tests.{both, neither}
+use Rattle.graph.proofs.Tests.{neither}
 use Rattle.graph.proofs.Verdicts.{then-accept, if-accept, then-assoc}
 use Rattle.run.specs.Code.{Scheduled}
 use Rattle.network.specs.Network.{Network, edgesIn, shortRows, landmarks}
 use Rattle.network.specs.Query.{Query, scheduled, longSchedule, shortWords, requested, queryFaults}
+use Rattle.network.proofs.Query.{query-parts, query-request}
 use Rattle.query.specs.Code.{Rowed}
 use Rattle.graph.proofs.Judging.{size-accept, lengths-accept, table-accept}
 use Rattle.calls.proofs.Judging.{rows-accept, landmarks-accept}
@@ -49,37 +48,28 @@ pub record Sound (n : ℕ) (ls : List ℕ) (w : Network) (q : Query) (x y : ℕ)
 
 module _ (n : ℕ) (ls : List ℕ) (w : Network) (q : Query) (x y : ℕ) where
   pub faults-accept : queryFaults n ls w q x y ≡ accept → Sound n ls w q x y
-  unfolding queryFaults
   faults-accept h =
       let cs = w .memory .table in
       let xs = w .memory .rows in
-      let first = then-accept (size n) _ h in
-      let long = then-accept (longSchedule (length (q .schedule))) _ (first .1) in
-      let room = then-accept (shortTable cs) _ (long .1) in
-      let short = then-accept (shortRows n ls xs) _ (room .1) in
-      let wide = then-accept (shortWords n x y) _ (short .1) in
-      let held = then-accept (landmarks n ls) _ (wide .1) in
-      let kept = then-accept (table n cs (w .count)) (requested n q) (held .1) in
-      let ask = then-accept (refuseIf (not (isProperty (q .property))) 5 0) _ (kept .1) in
-      let from = then-accept (refuseIf (not (ltb (q .source) n)) 6 0) (scheduled n 0 (q .schedule)) (ask .1) in
-      let row = rows-accept n ls (xs .forward) (xs .backward) (short .0) in
-      let out = neither (ltb x n) (ltb y n) (if-accept _ 2 0 (wide .0)) in
-      let good = table-accept n cs (w .count) (kept .0) in
-      let number = both (ltb 0 (q .property)) (leb (q .property) properties) (not-false _ (if-accept _ 5 0 (ask .0))) in
+      let part = query-parts n ls w q x y h in
+      let ask = query-request n ls w q x y h in
+      let row = rows-accept n ls (xs .forward) (xs .backward) (part .3) in
+      let out = neither (ltb x n) (ltb y n) (if-accept _ 2 0 (part .4)) in
+      let good = table-accept n cs (w .count) (part .6) in
       record {
-        room = lengths-accept (cs .tails) (cs .heads) (cs .weights) (room .0);
+        room = lengths-accept (cs .tails) (cs .heads) (cs .weights) (part .2);
         records = good .0;
         rules = good .1;
         rows = record {
-          few = size-accept n (first .0) .1;
-          landmarks = landmarks-accept n ls (held .0) .0;
-          first = ltb-true _ _ (number .0);
-          last = leb-true _ _ (number .1);
-          source = ltb-true _ _ (not-false _ (if-accept _ 6 0 (from .0)));
+          few = size-accept n (part .0) .1;
+          landmarks = landmarks-accept n ls (part .5) .0;
+          first = ask .0;
+          last = ask .1;
+          source = ask .2;
           forward = row .0;
           backward = row .1;
         };
-        schedule = record { few = ltb-false _ _ (if-accept _ 1 0 (long .0)); inside = schedule-accept n 0 (q .schedule) (from .1) };
+        schedule = record { few = ltb-false _ _ (if-accept _ 1 0 (part .1)); inside = schedule-accept n 0 (q .schedule) (ask .3) };
         starts = ltb-false _ _ (out .0);
         settled = ltb-false _ _ (out .1);
       }

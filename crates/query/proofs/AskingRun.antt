@@ -1,12 +1,10 @@
 -- A query's run and its outcome: from the start words to the reply and the lists lent for the answer. Assumes nothing.
 use mathlib.Core.Path.{_≡_, sym, ap, _∙_}
 use mathlib.Core.Bool.{Bool, true, false}
-use mathlib.Core.List.{List, append-nil}
+use mathlib.Core.List.{List}
 use Prim.Native.Nat.{ℕ}
-use native.Mathlib.Nat.{zero-add}
-use native.Mathlib.Omega.{arith}
-use lib.ListN.{length, set, replicate, drop-of-length-le}
-use lib.Seq.{paste, take-all}
+use lib.ListN.{length, set, replicate}
+use lib.Seq.{paste}
 use Rattle.property.specs.Property.{Property}
 use Rattle.frontier.specs.Waiting.{anyOf}
 use Rattle.graph.specs.declared.Judged.{Judged}
@@ -22,13 +20,7 @@ use Rattle.query.specs.declared.Answered.the-variants.{Settled, Refused}
 use Rattle.network.specs.Network.{Network}
 use Rattle.network.specs.Query.{Query, atStart, atEnd, queryFaults, queryVerdict, queryCall}
 use Rattle.query.specs.Code.{answering, wordsOf, asOutcome}
-use Rattle.calls.proofs.Flat.{paste-over}
-
--- ---- a whole list copied
-
--- over one as long
-pub paste-whole : (d s : List ℕ) (n : ℕ) → length d ≡ n → length s ≡ n → paste d 0 s n ≡ s
-paste-whole d s n e f = rw (zero-add, take-all n s (omega arith), drop-of-length-le d {i = n} (omega arith)) (append-nil s)
+use Rattle.graph.proofs.Copies.{paste-over}
 
 -- ---- the start
 

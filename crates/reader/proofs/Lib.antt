@@ -1,6 +1,5 @@
 pub mod Marks
 pub mod Steps
-pub mod Fronts
 pub mod NetworkItems
 pub mod NetworkLimits
 pub mod NetworkSteps

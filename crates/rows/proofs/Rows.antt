@@ -19,7 +19,8 @@ use Rattle.rows.specs.declared.Rowed.{Rowed}
 use Rattle.network.specs.Network.{rowCount, row, flat, unsettled, storesOf}
 use Rattle.network.specs.Batch.{affectedIn, batchRow, affectedOver}
 use Rattle.rows.specs.Code.{RowDone, RowsDone}
-use Rattle.calls.proofs.Flat.{row-end, row-size, flat-none, flat-turn, flat-done, unsettled-none, unsettled-turn}
+use Rattle.calls.proofs.Rows.{row-ends}
+use Rattle.calls.proofs.Flat.{row-size, flat-none, flat-turn, flat-done, unsettled-none, unsettled-turn}
 
 -- ---- the rows that are left
 
@@ -69,10 +70,6 @@ module _ (n : ℕ) (ls : List ℕ) (es fs : List Edge) (xs : List ℕ) where
   }
 
   module _ (ys : List ℕ) (u : Bool) (a s r k : ℕ) (w : Rowing ys u a s r k) where
-    -- where the next row starts and ends
-    pub rows-fit : r < k → r * n + n ≤ k * n
-    rows-fit h = row-end n r k h
-
     pub rows-turn : r < k → (zs : List ℕ) (b : Rowed) → length zs ≡ length (midOf (r * n) (r * n + n - r * n) ys)
         → RowDone n ls es fs (take (r * n + n - r * n) (drop (r * n) xs)) r zs b
         → Rowing (putMid (r * n) (r * n + n - r * n) ys zs) (u || b .unsettled) (a + b .affected) (s + b .stores) (r + 1) k
@@ -94,7 +91,7 @@ module _ (n : ℕ) (ls : List ℕ) (es fs : List Edge) (xs : List ℕ) where
         done = rw part at d
 
         fits : r * n + n ≤ length ys
-        fits = let x = rows-fit h in let y = w .size in omega arith
+        fits = row-ends r k n (length ys) h (omega (arith, w .size))
 
         start : r * n ≤ length ys
         start = let x = fits in omega arith

@@ -6,7 +6,7 @@ use native.Mathlib.Omega.{arith}
 use lib.ListN.{replicate}
 use lib.Seq.{length-take-le}
 use Rattle.network.specs.Network.{rowCount}
-use Rattle.apply.proofs.Applying.{rows-room}
+use Rattle.calls.proofs.Rows.{rows-most}
 use Rattle.apply.proofs.apply.Statement.{statement}
 use Rattle.apply.proofs.apply.Tie as tie
 
@@ -14,7 +14,7 @@ abbrev start : tie.After-added → tie.Start
 start c = c .before .before .before .before .before .before .before .before .before .before .before .before .before .before .before .before
 
 few : (c : tie.After-added) → let g = start c .args in rowCount (g .landmarks .now) * g .n ≤ 5120
-few c = rows-room (start c .pre .0 .few) (start c .pre .0 .landmarks)
+few c = rows-most _ _ (start c .pre .0 .landmarks .few) (start c .pre .0 .few)
 
 mul-k : tie.Need-mul-k
 mul-k c = search needs

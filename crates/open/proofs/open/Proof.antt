@@ -12,7 +12,8 @@ use Rattle.graph.specs.Refusal.{accept}
 use Rattle.network.specs.Network.{rowCount}
 use Rattle.network.specs.Network.{faults}
 use Rattle.calls.specs.Code.{network}
-use Rattle.open.proofs.Opening.{open-accept, rows-few, open-refused}
+use Rattle.calls.proofs.Rows.{rows-most}
+use Rattle.open.proofs.Opening.{open-accept, open-refused}
 use Rattle.open.proofs.open.Statement.{statement}
 use Rattle.open.proofs.open.Tie as tie
 
@@ -28,7 +29,8 @@ fine c = fine-accept _ _ (c .before .before .judge-all .ensures) (c .enum-told .
 few : (c : tie.After-enum-told) → let g = begin (c .before .before) .args in rowCount (g .landmarks .now) * g .n ≤ maxLandmarks * properties * maxVertices
 few c =
     let g = begin (c .before .before) .args in
-    rows-few (open-accept (g .n) (g .landmarks .now) (g .tails .now) (g .heads .now) (g .weights .now) (g .forward .now) (g .backward .now) (g .count) (fine c) .0)
+    let o = open-accept (g .n) (g .landmarks .now) (g .tails .now) (g .heads .now) (g .weights .now) (g .forward .now) (g .backward .now) (g .count) (fine c) .0 in
+    rows-most _ _ (o .landmarks .few) (o .few)
 
 judge-all-requires : tie.Need-judge-all-requires
 judge-all-requires c κs = search needs

@@ -12,7 +12,8 @@ use Rattle.graph.specs.Own.{Own}
 use Rattle.network.specs.Network.{rowCount}
 use Rattle.network.specs.Open.{openRow}
 use Rattle.calls.specs.Code.{AreRows}
-use Rattle.calls.proofs.Flat.{row-end, row-size, rows-none, rows-turn, rows-done}
+use Rattle.calls.proofs.Rows.{row-ends}
+use Rattle.calls.proofs.Flat.{row-size, rows-none, rows-turn, rows-done}
 use Rattle.open.proofs.open_rows.Statement.{statement}
 use Rattle.open.proofs.open_rows.Tie as tie
 
@@ -32,8 +33,7 @@ within : (c : tie.In-loop Inv-loop μ-loop) → let g = begin (c .before) .args 
 within c =
     let l = c .before in
     let s = begin l in
-    let e = row-end (s .args .n) (l .loop .r) (rowCount (s .args .landmarks .now)) (omega (arith, c .loop-test .taken)) in
-    omega (arith, s .pre .1, l .loop .inv .2)
+    row-ends (l .loop .r) (rowCount (s .args .landmarks .now)) (s .args .n) _ (omega (arith, c .loop-test .taken)) (omega (arith, s .pre .1, l .loop .inv .2))
 
 mul-rows : tie.Need-mul-rows Inv-loop μ-loop
 mul-rows c = search needs

@@ -3,9 +3,9 @@ use mathlib.Core.Path.{ap, _∙_}
 use Prim.Native.Nat.{ℕ}
 use mathlib.Core.List.{List}
 use Rattle.property.specs.Property.{property}
+use Rattle.graph.proofs.Copies.{paste-whole}
 use Rattle.run.specs.Code.{bits}
 use Rattle.affected.specs.Prepared as start
-use Rattle.prepare.proofs.Starts.{copy-whole}
 use borrow.Author.Needs.{needs}
 use Rattle.prepare.proofs.copy_cleared.Statement.{statement}
 use Rattle.prepare.proofs.copy_cleared.Tie as tie
@@ -26,7 +26,7 @@ returns c =
     let s = y .before .before .before .before in
     let a = s .args in
     m .clear-marked .ensures
-    ∙ ap (λ (l : List ℕ). start.cleared (property (a .p)) (bits (a .n) (a .marks .now)) l (a .n)) (y .copy .ensures ∙ copy-whole (a .n) (a .out .now) (a .words .now) (s .pre .2) (s .pre .1))
+    ∙ ap (λ (l : List ℕ). start.cleared (property (a .p)) (bits (a .n) (a .marks .now)) l (a .n)) (y .copy .ensures ∙ paste-whole (a .out .now) (a .words .now) (a .n) (s .pre .2) (s .pre .1))
 
 pub copy-cleared-spec : {M : Type 1} → statement M
 copy-cleared-spec = tie.close (tie.spec copy-requires clear-marked-requires same-length returns)

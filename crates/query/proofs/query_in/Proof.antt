@@ -15,7 +15,8 @@ use Rattle.network.specs.Query.{Query, atStart, atEnd}
 use Rattle.calls.specs.Code.{network}
 use Rattle.query.specs.Code.{asking}
 use Rattle.query.proofs.AskingFaults.{Sound, faults-accept}
-use Rattle.query.proofs.AskingRun.{paste-whole, asked-state, query-unsettled, query-settled}
+use Rattle.graph.proofs.Copies.{paste-whole}
+use Rattle.query.proofs.AskingRun.{asked-state, query-unsettled, query-settled}
 use Rattle.query.proofs.query_in.Statement.{statement}
 use Rattle.query.proofs.query_in.Tie as tie
 

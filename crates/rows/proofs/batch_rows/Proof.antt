@@ -6,7 +6,8 @@ use Prim.Native.Nat.{_+_, _-_, _*_, _≤_}
 use lib.ListN.{length}
 use Rattle.graph.specs.Edge.{edges}
 use Rattle.network.specs.Network.{rowCount}
-use Rattle.calls.proofs.Flat.{row-end, row-size}
+use Rattle.calls.proofs.Flat.{row-size}
+use Rattle.calls.proofs.Rows.{row-ends}
 use Rattle.rows.proofs.Rows.{Rowing, rows-start, rows-turn, rows-done}
 use Rattle.rows.proofs.batch_rows.Statement.{statement}
 use Rattle.rows.proofs.batch_rows.Tie as tie
@@ -27,7 +28,8 @@ lies : (c : tie.In-loop Inv-loop μ-loop) → let g = start (c .before) .args in
     (r * g .n + g .n ≤ rowCount (g .landmarks .now) * g .n) × (r * g .n + g .n ≤ length (g .rows .now)) × (r * g .n + g .n ≤ length (c .before .loop .out))
 lies c =
     let s = start (c .before) in
-    let e = row-end (s .args .n) (c .before .loop .r) (rowCount (s .args .landmarks .now)) (c .loop-test .taken) in
+    let k = rowCount (s .args .landmarks .now) in
+    let e = row-ends (c .before .loop .r) k (s .args .n) (k * s .args .n) (c .loop-test .taken) (omega arith) in
     let a = s .pre .0 .1 in
     let b = s .pre .0 .2 in
     let d = c .before .loop .inv .size in

@@ -10,7 +10,7 @@ use Rattle.graph.specs.Table.{size}
 use Rattle.graph.specs.Code.{told}
 use Rattle.graph.proofs.Judging.{size-accept}
 use Rattle.dimacs.specs.Sources.{maxSources}
-use Rattle.reader.proofs.Fronts.{paste-front}
+use Rattle.graph.proofs.Copies.{paste-front}
 use Rattle.reader.proofs.SourcesSteps.{text-bad, text-good, text-whole, call-size, call-short, call-bad, call-good}
 use Rattle.reader.proofs.sources.read_in.Statement.{statement}
 use Rattle.reader.proofs.sources.read_in.Tie as tie

@@ -5,7 +5,7 @@ use Prim.Native.Nat.{ℕ, _-_, _≤_}
 use mathlib.Core.Path.{_≡_, refl, ap, _∙_}
 use lib.ListN.{length, length-set}
 use lib.Seq.{paste, paste-zero}
-use Rattle.calls.proofs.Flat.{paste-over}
+use Rattle.graph.proofs.Copies.{paste-over}
 use Rattle.spelling.specs.Code.{wordsAt}
 use Rattle.spelling.proofs.Unpacking.{words-length, column-turn}
 use Rattle.spelling.proofs.unpack.column.Statement.{statement}
