@@ -19,6 +19,7 @@ use Rattle.network.specs.Open.{openCall}
 use Rattle.network.specs.Batch.{column}
 use Rattle.network.specs.Choice.{ranked, choice, choiceVerdict, choiceCall}
 use Rattle.network.specs.Caller.{holding, opened}
+use Rattle.network.proofs.Held.{column-length}
 use Rattle.calls.specs.Code.{network}
 use Rattle.open.specs.declared.Opened.{Opened}
 use Rattle.open.specs.Code.{openOutcome}
@@ -26,8 +27,8 @@ use Rattle.inspect.specs.declared.Chosen.{Chosen}
 use Rattle.inspect.specs.Code.{padded, choosing, written}
 use Rattle.inspect.proofs.Choosing.{Picked, choosing-chosen}
 use Rattle.dimacs.proofs.Written.{filled-edges}
-use Rattle.listing.specs.Listing.{landmarksOf}
-use Rattle.listing.specs.Code.{graph, Loaded, Ready}
+use Rattle.listing.specs.Listing.{graph, landmarksOf}
+use Rattle.listing.specs.Code.{Loaded, Ready}
 
 -- ---- the landmarks
 
@@ -65,10 +66,6 @@ over-column : (f : Edge → ℕ) (es : List Edge) → length es ≤ maxEdges →
 over-column f es l =
     ap (λ (xs : List ℕ). map f es ++ xs) (drop-zeros (length (map f es)) maxEdges (omega (arith, length-map es f)) ∙ ap (λ (k : ℕ). replicate (maxEdges - k) 0) (length-map es f))
 
-column-long : (f : Edge → ℕ) (es : List Edge) → length es ≤ maxEdges → length (column f es) ≡ maxEdges
-column-long f es l =
-    length-append (map f es) (replicate (maxEdges - length es) 0) ∙ omega (arith, length-map es f, length-replicate {A = ℕ} (maxEdges - length es) 0)
-
 same-network : {cs ds : Columns} {f g b c : List ℕ} {k m : ℕ} → cs ≡ ds → f ≡ g → b ≡ c → k ≡ m
     → _≡_ {A = Network} (record { memory = record { table = cs; rows = record { forward = f; backward = b } }; count = k })
     (record { memory = record { table = ds; rows = record { forward = g; backward = c } }; count = m })
@@ -91,9 +88,9 @@ module _ (n : ℕ) (es : List Edge) (ts hs ws : List ℕ) (m : ℕ) (h : Loaded 
   short : shortTable (columns ts hs ws) ≡ accept
   short =
       accept-if 2 0
-      (or-false (le-ltb (length ts) maxEdges (omega (arith, ap (λ (cs : Columns). length (cs .tails)) columned, column-long (λ e. e .tail) es few)))
-      (or-false (le-ltb (length hs) maxEdges (omega (arith, ap (λ (cs : Columns). length (cs .heads)) columned, column-long (λ e. e .head) es few)))
-      (le-ltb (length ws) maxEdges (omega (arith, ap (λ (cs : Columns). length (cs .weights)) columned, column-long (λ e. e .weight) es few)))))
+      (or-false (le-ltb (length ts) maxEdges (omega (arith, ap (λ (cs : Columns). length (cs .tails)) columned, column-length (λ e. e .tail) es few)))
+      (or-false (le-ltb (length hs) maxEdges (omega (arith, ap (λ (cs : Columns). length (cs .heads)) columned, column-length (λ e. e .head) es few)))
+      (le-ltb (length ws) maxEdges (omega (arith, ap (λ (cs : Columns). length (cs .weights)) columned, column-length (λ e. e .weight) es few)))))
 
   kept : table n (columns ts hs ws) m ≡ accept
   kept = accept-then (accept-if 4 0 (le-ltb maxEdges m (omega (arith, few, h .count)))) ∙ rw loaded-edges (h .good .rules)

@@ -21,8 +21,8 @@ use Rattle.dimacs.specs.Network.{readNetwork}
 use Rattle.dimacs.specs.Sources.{readSources}
 use Rattle.dimacs.specs.Call.{judged, vertexCount, edgesRead, sourcesRead}
 use Rattle.listing.specs.declared.parts.Prepared.{Prepared}
-use Rattle.listing.specs.Listing.{maxFile, Graph, graphOf, header, refusedLine, networkOf, linesOf, sourceLines, listed, output, printed}
-use Rattle.listing.specs.Code.{graph, filesVerdict, partsOf, parts, Shown}
+use Rattle.listing.specs.Listing.{maxFile, Graph, graph, graphOf, header, refusedLine, networkOf, linesOf, sourceLines, listed, output, printed}
+use Rattle.listing.specs.Code.{filesVerdict, partsOf, parts, Shown}
 
 -- ---- all pieces are the whole output
 

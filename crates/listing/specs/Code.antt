@@ -1,6 +1,5 @@
 -- What the functions that print values ask and answer. Assumes nothing.
 --
---   graph n es                         == the network of n vertices and the edges es
 --   settledRow n ls w s p              == the settled words of a query for property p from s, with an empty schedule
 --   Rows n a b c d e                   == five rows have a word for each of n vertices
 --   rowsLine s t rs                    == the line of source s and vertex t, with the vertex's word of each row of rs
@@ -38,10 +37,7 @@ use Rattle.reader.specs.declared.network.ReadReply.the-variants as graphs
 use Rattle.reader.specs.declared.sources.SourcesReply.{SourcesReply}
 use Rattle.reader.specs.declared.sources.SourcesReply.the-variants as sources
 use Rattle.listing.specs.declared.parts.Prepared.{Prepared}
-use Rattle.listing.specs.Listing.{maxFile, Graph, graphOf, header, spaced, refusedLine, landmarksOf, networkOf, linesOf}
-
-abbrev pub graph : ℕ → List Edge → Graph
-graph n es = record { n = n; edges = es }
+use Rattle.listing.specs.Listing.{maxFile, Graph, graph, graphOf, header, spaced, refusedLine, landmarksOf, networkOf, linesOf}
 
 -- ---- the lines of a source
 

@@ -4,14 +4,17 @@
 --   header                           == the first line: the names of the columns
 --   spaced vs                        == numbers parted by single spaces, and a line feed
 --   Graph                            == a network that was read: n and its edges
---   networkOf d                      == the network, opened with the landmarks of choice, four or n if fewer
---   valueAt d w s t p                == property p from s to t: the settled word of a query
+--   graph n es                       == the network of n vertices and the edges es
+--   landmarksOf d                    == its landmarks: those of choice, four or n if fewer
+--   heldOf d                         == what is lent to its opening
+--   networkOf d                      == the network, opened
+--   queryOf d w s p                  == the query for property p from s: an empty schedule, and n words for each list of the answer
+--   valueAt d w s t p                == property p from s to t: the settled word of that query
 --   lineOf d w s t                   == the line of a source and a vertex: both from 1, then the five properties
 --   listed d ss                      == the header, and per source in file order and vertex ascending a line
 --   refusedLine k i                  == `refused`, number, place
 --   output v text                    == the text where the verdict v accepts, else the refused line
 --   printed gr ss                    == the whole output: a refusal in either file, deck.gr first, or what is listed
---   landmarksOf d                    == its landmarks: those of choice, four or n if fewer
 --   linesOf .. ts, sourceLines .. ss == the lines of a source, and of all sources
 --   graphOf r                        == the network that was read
 use mathlib.Core.List.{List, [], _∷_, _++_, map}
@@ -20,11 +23,11 @@ use lib.ListN.{length, replicate}
 use lib.Dec.{ltb}
 use Rattle.property.specs.Property.{property, properties}
 use Rattle.graph.specs.Limits.{maxLandmarks}
-use Rattle.graph.specs.Refusal.{Verdict, accept, refuse, _▷_, refuseIf}
+use Rattle.graph.specs.Refusal.{Verdict, accept, refuse, _▷_, refuseIf, Outcome}
 use Rattle.graph.specs.Edge.{Edge, range}
-use Rattle.run.specs.Run.{word}
+use Rattle.run.specs.Run.{Tally, word}
 use Rattle.network.specs.Network.{Network}
-use Rattle.network.specs.Query.{queryCall}
+use Rattle.network.specs.Query.{Words, queryCall}
 use Rattle.network.specs.Choice.{choice}
 use Rattle.network.specs.Caller.{holding, opened}
 use Rattle.dimacs.specs.Decimal.{digits}
@@ -60,18 +63,24 @@ pub record Graph : Type 0 where
   pub n : ℕ
   pub edges : List Edge
 
+abbrev pub graph : ℕ → List Edge → Graph
+graph n es = record { n = n; edges = es }
+
 abbrev pub landmarksOf : Graph → List ℕ
 landmarksOf d = choice (d .n) (d .edges) maxLandmarks
 
+abbrev pub heldOf : Graph → Network
+heldOf d = holding (d .edges) (landmarksOf d) (d .n)
+
 abbrev pub networkOf : Graph → Network
-networkOf d = opened (d .n) (landmarksOf d) (holding (d .edges) (landmarksOf d) (d .n))
+networkOf d = opened (d .n) (landmarksOf d) (heldOf d)
+
+abbrev pub queryOf : Graph → Network → ℕ → ℕ → Outcome Tally Words
+queryOf d w s p =
+    queryCall (d .n) (landmarksOf d) w (record { property = p; source = s; schedule = [] }) (record { starts = replicate (d .n) 0; settled = replicate (d .n) 0 })
 
 abbrev pub valueAt : Graph → Network → ℕ → ℕ → ℕ → ℕ
-valueAt d w s t p =
-    word (property p)
-    ((queryCall (d .n) (landmarksOf d) w (record { property = p; source = s; schedule = [] })
-    (record { starts = replicate (d .n) 0; settled = replicate (d .n) 0 })) .memory .settled)
-    t
+valueAt d w s t p = word (property p) ((queryOf d w s p) .memory .settled) t
 
 unfoldable pub lineOf : Graph → Network → ℕ → ℕ → List ℕ
 lineOf d w s t = spaced (suc s ∷ suc t ∷ map (valueAt d w s t) (range 1 properties))
@@ -94,7 +103,7 @@ output accept text = text
 output (refuse k i) text = refusedLine k i
 
 abbrev pub graphOf : Read State → Graph
-graphOf r = record { n = vertexCount r; edges = edgesRead r }
+graphOf r = graph (vertexCount r) (edgesRead r)
 
 unfoldable pub printed : List ℕ → List ℕ → List ℕ
 printed gr ss =

@@ -9,8 +9,8 @@ ghost use Rattle.graph.specs.Limits.{maxVertices};
 ghost use Rattle.graph.specs.Edge.{Edge, range};
 ghost use Rattle.calls.specs.Code.{network};
 ghost use Rattle.writer.specs.Code.{Fits, Wrote};
-ghost use Rattle.listing.specs.Listing.{landmarksOf, linesOf, refusedLine, header};
-ghost use Rattle.listing.specs.Code.{settledRow, Rows, rowsLine, rowsLines, graph};
+ghost use Rattle.listing.specs.Listing.{graph, landmarksOf, linesOf, refusedLine, header};
+ghost use Rattle.listing.specs.Code.{settledRow, Rows, rowsLine, rowsLines};
 
 // The settled words of a query with an empty schedule.
 fn settle_row(
