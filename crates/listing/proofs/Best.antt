@@ -11,11 +11,10 @@ use Rattle.property.specs.Property.{property, isProperty}
 use Rattle.graph.specs.Limits.{maxLandmarks}
 use Rattle.graph.specs.Refusal.{accept, _▷_, refuseIf, verdictOf}
 use Rattle.graph.specs.Edge.{Edge}
-use Rattle.graph.specs.Table.{size}
 use Rattle.graph.specs.Route.{Best}
 use Rattle.graph.proofs.Tests.{or-false}
 use Rattle.graph.proofs.Verdicts.{accept-then, accept-if}
-use Rattle.network.specs.Network.{edgesIn, landmarks, faults}
+use Rattle.network.specs.Network.{landmarks, faults}
 use Rattle.network.specs.Open.{openCall}
 use Rattle.network.specs.Query.{Query, Words, scheduled}
 use Rattle.network.specs.Current.{queryBack}
@@ -28,7 +27,7 @@ use Rattle.dimacs.specs.Call.{judged, vertexCount, edgesRead, sourcesRead}
 use Rattle.dimacs.specs.Claims.{Table}
 use Rattle.dimacs.proofs.Theorems.{network-reads, network-tables, sources-read}
 use Rattle.listing.specs.Listing.{maxFile, Graph, graph, landmarksOf, heldOf, networkOf, queryOf, valueAt, listed, output, printed}
-use Rattle.listing.specs.Claims.{PrintedHolds, PrintedBest}
+use Rattle.listing.specs.Claims.{PrintedBest}
 
 -- ---- a query of the listing has nothing to be refused for
 

@@ -6,11 +6,8 @@
 --   rowsLines s ts rs                  == the lines of source s and the vertices ts
 --   Loaded n es ts hs ws m             == three lists of 2,048 words hold the table of the edges es, m of them, and zeros past them
 --   Ready n es ts hs ws m k vs f b     == the network of n and es is opened: its k landmarks stand in front of vs, its rows in front of f and b
---   graphVerdict gr                    == deck.gr judged alone: number 2 for its size, then 14
---   sourcesVerdict n ss                == deck.ss judged alone, for a network of n vertices
 --   GraphRead gr r ts hs ws            == the reply r to reading deck.gr tells its verdict, and where it is read, three lists are loaded with it
 --   SourcesRead n ss r xs              == the reply r to reading deck.ss tells its verdict, and where it is read, its sources stand in front of xs
---   filesVerdict gr ss                 == whether either file is refused: the verdict of `printed`
 --   partsOf v d ss                     == what is printed under the verdict v, piece by piece: a refusal, or the header and each source's lines
 --   parts gr ss                        == the output for two files, piece by piece
 --   Bounded p xs f b                   == the numbers of a Prepared are within the lists that belong to it
@@ -20,9 +17,8 @@ use mathlib.Core.Path.{_≡_}
 use mathlib.Core.List.{List, [], _∷_, _++_, map}
 use Prim.Native.Nat.{ℕ, suc, _*_, _≤_}
 use lib.ListN.{length, getD, take, replicate}
-use lib.Dec.{ltb}
 use Rattle.graph.specs.Limits.{maxVertices, maxEdges, maxLandmarks}
-use Rattle.graph.specs.Refusal.{Verdict, accept, refuse, _▷_, refuseIf}
+use Rattle.graph.specs.Refusal.{Verdict, accept, refuse}
 use Rattle.graph.specs.Edge.{Edge, range}
 use Rattle.graph.specs.Code.{told, columns}
 use Rattle.network.specs.Network.{Network}
@@ -30,14 +26,14 @@ use Rattle.network.specs.Query.{queryCall}
 use Rattle.calls.specs.Code.{network}
 use Rattle.dimacs.specs.Network.{readNetwork}
 use Rattle.dimacs.specs.Sources.{readSources}
-use Rattle.dimacs.specs.Call.{filled, judged, vertexCount, edgesRead, sourcesRead}
+use Rattle.dimacs.specs.Call.{filled, vertexCount, edgesRead, sourcesRead}
 use Rattle.dimacs.specs.Claims.{Table}
 use Rattle.reader.specs.declared.network.ReadReply.{ReadReply}
 use Rattle.reader.specs.declared.network.ReadReply.the-variants as graphs
 use Rattle.reader.specs.declared.sources.SourcesReply.{SourcesReply}
 use Rattle.reader.specs.declared.sources.SourcesReply.the-variants as sources
 use Rattle.listing.specs.declared.parts.Prepared.{Prepared}
-use Rattle.listing.specs.Listing.{maxFile, Graph, graph, graphOf, header, spaced, refusedLine, landmarksOf, networkOf, linesOf}
+use Rattle.listing.specs.Listing.{Graph, graph, graphOf, header, spaced, refusedLine, landmarksOf, networkOf, linesOf, graphVerdict, sourcesVerdict, filesVerdict}
 
 -- ---- the lines of a source
 
@@ -72,12 +68,6 @@ pub record Ready (n : ℕ) (es : List Edge) (ts hs ws : List ℕ) (m k : ℕ) (v
 
 -- ---- files
 
-abbrev pub graphVerdict : List ℕ → Verdict
-graphVerdict gr = refuseIf (ltb maxFile (length gr)) 2 0 ▷ judged (readNetwork gr)
-
-abbrev pub sourcesVerdict : ℕ → List ℕ → Verdict
-sourcesVerdict n ss = refuseIf (ltb maxFile (length ss)) 2 0 ▷ judged (readSources n ss)
-
 abbrev pub GraphRead : List ℕ → ReadReply → List ℕ → List ℕ → List ℕ → Type 0
 GraphRead gr (graphs.Read n m) ts hs ws = (graphVerdict gr ≡ accept) × (n ≡ vertexCount (readNetwork gr)) × Loaded n (edgesRead (readNetwork gr)) ts hs ws m
 GraphRead gr (graphs.Refused k i) ts hs ws = graphVerdict gr ≡ refuse k i
@@ -87,12 +77,6 @@ SourcesRead n ss (sources.Read k) xs = (sourcesVerdict n ss ≡ accept) × (take
 SourcesRead n ss (sources.Refused k i) xs = sourcesVerdict n ss ≡ refuse k i
 
 -- ---- the output, piece by piece
-
-abbrev pub filesVerdict : List ℕ → List ℕ → Verdict
-filesVerdict gr ss =
-    let r = readNetwork gr in
-    let q = readSources (vertexCount r) ss in
-    refuseIf (ltb maxFile (length gr)) 2 0 ▷ judged r ▷ refuseIf (ltb maxFile (length ss)) 2 0 ▷ judged q
 
 unfoldable pub partsOf : Verdict → Graph → List ℕ → List (List ℕ)
 partsOf accept d ss = header ∷ map (λ s. linesOf d (networkOf d) s (range 0 (d .n))) ss

@@ -13,8 +13,11 @@
 --   lineOf d w s t                   == the line of a source and a vertex: both from 1, then the five properties
 --   listed d ss                      == the header, and per source in file order and vertex ascending a line
 --   refusedLine k i                  == `refused`, number, place
+--   graphVerdict gr                  == deck.gr judged alone: number 2 for its size, then 14
+--   sourcesVerdict n ss              == deck.ss judged alone, for a network of n vertices
+--   filesVerdict gr ss               == whether either file is refused, deck.gr first
 --   output v text                    == the text where the verdict v accepts, else the refused line
---   printed gr ss                    == the whole output: a refusal in either file, deck.gr first, or what is listed
+--   printed gr ss                    == the whole output: a refusal in either file, or what is listed
 --   linesOf .. ts, sourceLines .. ss == the lines of a source, and of all sources
 --   graphOf r                        == the network that was read
 use mathlib.Core.List.{List, [], _∷_, _++_, map}
@@ -98,6 +101,15 @@ listed d ss = let w = networkOf d in header ++ sourceLines d w ss
 
 -- ---- the program
 
+abbrev pub graphVerdict : List ℕ → Verdict
+graphVerdict gr = refuseIf (ltb maxFile (length gr)) 2 0 ▷ judged (readNetwork gr)
+
+abbrev pub sourcesVerdict : ℕ → List ℕ → Verdict
+sourcesVerdict n ss = refuseIf (ltb maxFile (length ss)) 2 0 ▷ judged (readSources n ss)
+
+abbrev pub filesVerdict : List ℕ → List ℕ → Verdict
+filesVerdict gr ss = graphVerdict gr ▷ sourcesVerdict (vertexCount (readNetwork gr)) ss
+
 unfoldable pub output : Verdict → List ℕ → List ℕ
 output accept text = text
 output (refuse k i) text = refusedLine k i
@@ -108,7 +120,4 @@ graphOf r = graph (vertexCount r) (edgesRead r)
 unfoldable pub printed : List ℕ → List ℕ → List ℕ
 printed gr ss =
     let r = readNetwork gr in
-    let q = readSources (vertexCount r) ss in
-    output
-    (refuseIf (ltb maxFile (length gr)) 2 0 ▷ judged r ▷ refuseIf (ltb maxFile (length ss)) 2 0 ▷ judged q)
-    (listed (graphOf r) (sourcesRead q))
+    output (filesVerdict gr ss) (listed (graphOf r) (sourcesRead (readSources (vertexCount r) ss)))

@@ -9,7 +9,8 @@ ghost use lib.ListN.{length, getD};
 ghost use Rattle.graph.specs.Limits.{maxVertices};
 ghost use Rattle.writer.specs.Code.{Wrote};
 ghost use Rattle.graph.specs.Refusal.{accept};
-ghost use Rattle.listing.specs.Code.{filesVerdict, parts, Bounded, Shown};
+ghost use Rattle.listing.specs.Listing.{filesVerdict};
+ghost use Rattle.listing.specs.Code.{parts, Bounded, Shown};
 
 // Two files that were read: the verdict, and where it is fine the numbers of the network and of its sources.
 pub struct Prepared {
