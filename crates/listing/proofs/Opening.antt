@@ -7,6 +7,7 @@ use native.Mathlib.Omega.{arith}
 use lib.ListN.{length, take, drop, replicate, length-append, length-take, length-map, length-replicate}
 use lib.Seq.{take-at, take-append-seam}
 use borrow.Author.Tests.{le-ltb}
+use Rattle.property.specs.Property.{properties}
 use Rattle.graph.specs.Refusal.{Verdict, accept, refuse, refuseIf, Outcome, choose, over}
 use Rattle.graph.specs.Limits.{maxVertices, maxEdges, maxLandmarks}
 use Rattle.graph.specs.Edge.{Edge, range}
@@ -28,7 +29,7 @@ use Rattle.inspect.specs.Code.{padded, choosing, written}
 use Rattle.inspect.proofs.Choosing.{Picked, choosing-chosen}
 use Rattle.dimacs.proofs.Written.{filled-edges}
 use Rattle.listing.specs.Listing.{graph, landmarksOf}
-use Rattle.listing.specs.Code.{Loaded, Ready}
+use Rattle.listing.specs.Code.{rowWords, Loaded, Ready}
 
 -- ---- the landmarks
 
@@ -47,8 +48,8 @@ chosen-few n cs m r e =
     let l = choose-most (choiceVerdict n cs m maxLandmarks) (ranked (edgesOf cs m) (range 0 n)) in
     (rw (p .count) l, ap length (p .vertices) ∙ padded-length (choose (choiceVerdict n cs m maxLandmarks) (choice n (edgesOf cs m) maxLandmarks) []) l)
 
-pub rows-most : (k n : ℕ) → k ≤ maxLandmarks → n ≤ maxVertices → k * 5 * n ≤ 5120
-rows-most k n a b = let l : k * 5 ≤ 20 = omega arith in mul-le-mul l b
+pub rows-most : (k n : ℕ) → k ≤ maxLandmarks → n ≤ maxVertices → k * properties * n ≤ rowWords
+rows-most k n a b = let l : k * properties ≤ maxLandmarks * properties = omega arith in mul-le-mul l b
 
 -- ---- the table
 
@@ -116,12 +117,12 @@ module _ (n : ℕ) (es : List Edge) (ts hs ws : List ℕ) (m : ℕ) (h : Loaded 
 
     module _ (fz bz f b : List ℕ) (o : Opened) where
       abbrev size′ : ℕ
-      size′ = r .choice .count * 5 * n
+      size′ = r .choice .count * properties * n
 
       held : take size′ fz ≡ replicate size′ 0 → take size′ bz ≡ replicate size′ 0
           → network ts hs ws (take size′ fz) (take size′ bz) m ≡ holding es (landmarksOf (graph n es)) n
       held x y =
-          let q = ap (λ (j : ℕ). replicate {A = ℕ} (j * 5 * n) 0) chosen-count in
+          let q = ap (λ (j : ℕ). replicate {A = ℕ} (j * properties * n) 0) chosen-count in
           same-network columned (x ∙ q) (y ∙ q) (h .count)
 
       -- the lists at the end are those that the definition's opening leaves

@@ -7,6 +7,7 @@ use native.Mathlib.Decide.{decLt}
 use native.Mathlib.Omega.{arith}
 use lib.ListN.{length, getD, take, length-map, List·getD-map}
 use lib.Seq.{length-take-le, getD-take, take-all}
+use Rattle.property.specs.Property.{properties}
 use Rattle.graph.specs.declared.Judged.the-variants.{Fine, Refused}
 use Rattle.graph.specs.Refusal.{Verdict, accept, refuse, _▷_}
 use Rattle.graph.specs.Edge.{range}
@@ -105,7 +106,7 @@ module _ (gr ss : List ℕ) (p : Prepared) (ts hs ws xs f b : List ℕ) (h : Sho
       -- piece i + 1 is the lines of source i, as the code makes them
       pub parts-lines : (i : ℕ) → i < p .sources
           → getD (parts gr ss) (i + 1) []
-          ≡ linesOf (graph (p .n) (edgesRead (readNetwork gr))) (network ts hs ws (take (p .choice .count * 5 * p .n) f) (take (p .choice .count * 5 * p .n) b) (p .count)) (getD xs i 0) (range 0 (p .n))
+          ≡ linesOf (graph (p .n) (edgesRead (readNetwork gr))) (network ts hs ws (take (p .choice .count * properties * p .n) f) (take (p .choice .count * properties * p .n) b) (p .count)) (getD xs i 0) (range 0 (p .n))
       parts-lines i j =
           let r = h .running a in
           let es = edgesRead (readNetwork gr) in

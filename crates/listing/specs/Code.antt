@@ -1,5 +1,8 @@
 -- What the functions that print values ask and answer. Assumes nothing.
 --
+--   rowWords                           == the words of a row list, enough for any network: 5,120
+--   maxLine                            == the longest line has 77 bytes: seven numbers of at most ten digits, six spaces and a line feed
+--   maxFirst                           == the first line has at most 51 bytes: the header, while a refusal has at most 50
 --   settledRow n ls w s p              == the settled words of a query for property p from s, with an empty schedule
 --   Rows n a b c d e                   == five rows have a word for each of n vertices
 --   rowsLine s t rs                    == the line of source s and vertex t, with the vertex's word of each row of rs
@@ -17,6 +20,7 @@ use mathlib.Core.Path.{_≡_}
 use mathlib.Core.List.{List, [], _∷_, _++_, map}
 use Prim.Native.Nat.{ℕ, suc, _*_, _≤_}
 use lib.ListN.{length, getD, take, replicate}
+use Rattle.property.specs.Property.{properties}
 use Rattle.graph.specs.Limits.{maxVertices, maxEdges, maxLandmarks}
 use Rattle.graph.specs.Refusal.{Verdict, accept, refuse}
 use Rattle.graph.specs.Edge.{Edge, range}
@@ -34,6 +38,17 @@ use Rattle.reader.specs.declared.sources.SourcesReply.{SourcesReply}
 use Rattle.reader.specs.declared.sources.SourcesReply.the-variants as sources
 use Rattle.listing.specs.declared.parts.Prepared.{Prepared}
 use Rattle.listing.specs.Listing.{Graph, graph, graphOf, header, spaced, refusedLine, landmarksOf, networkOf, linesOf, graphVerdict, sourcesVerdict, filesVerdict}
+
+-- ---- room
+
+abbrev pub rowWords : ℕ
+rowWords = maxLandmarks * properties * maxVertices
+
+abbrev pub maxLine : ℕ
+maxLine = 77
+
+abbrev pub maxFirst : ℕ
+maxFirst = 51
 
 -- ---- the lines of a source
 
@@ -64,7 +79,7 @@ pub record Loaded (n : ℕ) (es : List Edge) (ts hs ws : List ℕ) (m : ℕ) : T
 
 pub record Ready (n : ℕ) (es : List Edge) (ts hs ws : List ℕ) (m k : ℕ) (vs f b : List ℕ) : Type 0 where
   pub landmarks : landmarksOf (graph n es) ≡ take k vs
-  pub opened : network ts hs ws (take (k * 5 * n) f) (take (k * 5 * n) b) m ≡ networkOf (graph n es)
+  pub opened : network ts hs ws (take (k * properties * n) f) (take (k * properties * n) b) m ≡ networkOf (graph n es)
 
 -- ---- files
 
@@ -90,8 +105,8 @@ pub record Bounded (p : Prepared) (xs f b : List ℕ) : Type 0 where
   pub landmarks : p .choice .count ≤ maxLandmarks
   pub places : length (p .choice .vertices) ≡ maxLandmarks
   pub sources : p .sources ≤ length xs
-  pub forward : 5120 ≤ length f
-  pub backward : 5120 ≤ length b
+  pub forward : rowWords ≤ length f
+  pub backward : rowWords ≤ length b
 
 pub record Running (gr ss : List ℕ) (p : Prepared) (ts hs ws xs f b : List ℕ) : Type 0 where
   pub vertices : p .n ≡ vertexCount (readNetwork gr)
