@@ -3,3 +3,4 @@ pub mod Rows
 pub mod Opening
 pub mod Pieces
 pub mod Reading
+pub mod Best

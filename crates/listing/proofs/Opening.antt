@@ -1,12 +1,13 @@
 -- The network that is opened by the code is the one of the definition. Assumes nothing.
 use mathlib.Core.Path.{_≡_, refl, sym, ap, ap₂, _∙_}
 use mathlib.Core.List.{List, [], _++_, map}
-use Prim.Native.Nat.{ℕ, zero, suc, _+_, _-_, _*_, _≤_}
+use Prim.Native.Nat.{ℕ, zero, suc, _-_, _*_, _≤_}
 use native.Mathlib.Nat.{mul-le-mul, sub-zero}
 use native.Mathlib.Omega.{arith}
 use lib.ListN.{length, take, drop, replicate, length-append, length-take, length-map, length-replicate}
 use lib.Seq.{take-at, take-append-seam}
 use borrow.Author.Tests.{le-ltb}
+use Rattle.property.specs.Property.{properties}
 use Rattle.graph.specs.Refusal.{Verdict, accept, refuse, refuseIf, Outcome, choose, over}
 use Rattle.graph.specs.Limits.{maxVertices, maxEdges, maxLandmarks}
 use Rattle.graph.specs.Edge.{Edge, range}
@@ -19,6 +20,7 @@ use Rattle.network.specs.Open.{openCall}
 use Rattle.network.specs.Batch.{column}
 use Rattle.network.specs.Choice.{ranked, choice, choiceVerdict, choiceCall}
 use Rattle.network.specs.Caller.{holding, opened}
+use Rattle.network.proofs.Held.{column-length}
 use Rattle.calls.specs.Code.{network}
 use Rattle.open.specs.declared.Opened.{Opened}
 use Rattle.open.specs.Code.{openOutcome}
@@ -26,8 +28,8 @@ use Rattle.inspect.specs.declared.Chosen.{Chosen}
 use Rattle.inspect.specs.Code.{padded, choosing, written}
 use Rattle.inspect.proofs.Choosing.{Picked, choosing-chosen}
 use Rattle.dimacs.proofs.Written.{filled-edges}
-use Rattle.listing.specs.Listing.{landmarksOf}
-use Rattle.listing.specs.Code.{graph, Loaded, Ready}
+use Rattle.listing.specs.Listing.{graph, landmarksOf}
+use Rattle.listing.specs.Code.{rowWords, Loaded, Ready}
 
 -- ---- the landmarks
 
@@ -46,8 +48,8 @@ chosen-few n cs m r e =
     let l = choose-most (choiceVerdict n cs m maxLandmarks) (ranked (edgesOf cs m) (range 0 n)) in
     (rw (p .count) l, ap length (p .vertices) ∙ padded-length (choose (choiceVerdict n cs m maxLandmarks) (choice n (edgesOf cs m) maxLandmarks) []) l)
 
-pub rows-most : (k n : ℕ) → k ≤ maxLandmarks → n ≤ maxVertices → k * 5 * n ≤ 5120
-rows-most k n a b = let l : k * 5 ≤ 20 = omega arith in mul-le-mul l b
+pub rows-most : (k n : ℕ) → k ≤ maxLandmarks → n ≤ maxVertices → k * properties * n ≤ rowWords
+rows-most k n a b = let l : k * properties ≤ maxLandmarks * properties = omega arith in mul-le-mul l b
 
 -- ---- the table
 
@@ -64,10 +66,6 @@ drop-zeros (suc i) (suc q) l =
 over-column : (f : Edge → ℕ) (es : List Edge) → length es ≤ maxEdges → over (map f es) (replicate maxEdges 0) ≡ column f es
 over-column f es l =
     ap (λ (xs : List ℕ). map f es ++ xs) (drop-zeros (length (map f es)) maxEdges (omega (arith, length-map es f)) ∙ ap (λ (k : ℕ). replicate (maxEdges - k) 0) (length-map es f))
-
-column-long : (f : Edge → ℕ) (es : List Edge) → length es ≤ maxEdges → length (column f es) ≡ maxEdges
-column-long f es l =
-    length-append (map f es) (replicate (maxEdges - length es) 0) ∙ omega (arith, length-map es f, length-replicate {A = ℕ} (maxEdges - length es) 0)
 
 same-network : {cs ds : Columns} {f g b c : List ℕ} {k m : ℕ} → cs ≡ ds → f ≡ g → b ≡ c → k ≡ m
     → _≡_ {A = Network} (record { memory = record { table = cs; rows = record { forward = f; backward = b } }; count = k })
@@ -91,9 +89,9 @@ module _ (n : ℕ) (es : List Edge) (ts hs ws : List ℕ) (m : ℕ) (h : Loaded 
   short : shortTable (columns ts hs ws) ≡ accept
   short =
       accept-if 2 0
-      (or-false (le-ltb (length ts) maxEdges (omega (arith, ap (λ (cs : Columns). length (cs .tails)) columned, column-long (λ e. e .tail) es few)))
-      (or-false (le-ltb (length hs) maxEdges (omega (arith, ap (λ (cs : Columns). length (cs .heads)) columned, column-long (λ e. e .head) es few)))
-      (le-ltb (length ws) maxEdges (omega (arith, ap (λ (cs : Columns). length (cs .weights)) columned, column-long (λ e. e .weight) es few)))))
+      (or-false (le-ltb (length ts) maxEdges (omega (arith, ap (λ (cs : Columns). length (cs .tails)) columned, column-length (λ e. e .tail) es few)))
+      (or-false (le-ltb (length hs) maxEdges (omega (arith, ap (λ (cs : Columns). length (cs .heads)) columned, column-length (λ e. e .head) es few)))
+      (le-ltb (length ws) maxEdges (omega (arith, ap (λ (cs : Columns). length (cs .weights)) columned, column-length (λ e. e .weight) es few)))))
 
   kept : table n (columns ts hs ws) m ≡ accept
   kept = accept-then (accept-if 4 0 (le-ltb maxEdges m (omega (arith, few, h .count)))) ∙ rw loaded-edges (h .good .rules)
@@ -119,12 +117,12 @@ module _ (n : ℕ) (es : List Edge) (ts hs ws : List ℕ) (m : ℕ) (h : Loaded 
 
     module _ (fz bz f b : List ℕ) (o : Opened) where
       abbrev size′ : ℕ
-      size′ = r .choice .count * 5 * n
+      size′ = r .choice .count * properties * n
 
       held : take size′ fz ≡ replicate size′ 0 → take size′ bz ≡ replicate size′ 0
           → network ts hs ws (take size′ fz) (take size′ bz) m ≡ holding es (landmarksOf (graph n es)) n
       held x y =
-          let q = ap (λ (j : ℕ). replicate {A = ℕ} (j * 5 * n) 0) chosen-count in
+          let q = ap (λ (j : ℕ). replicate {A = ℕ} (j * properties * n) 0) chosen-count in
           same-network columned (x ∙ q) (y ∙ q) (h .count)
 
       -- the lists at the end are those that the definition's opening leaves

@@ -1,6 +1,5 @@
 -- The pieces of the output: each of them as the code makes it, and all of them as the whole. Assumes nothing.
 use mathlib.Core.Path.{_≡_, refl, sym, ap, _∙_}
-use mathlib.Core.Bool.{Bool, true}
 use mathlib.Core.List.{List, [], _∷_, _++_, map, append-nil}
 use Prim.Native.Nat.{ℕ, suc, _+_, _*_, _≤_, _<_}
 use native.Mathlib.Numerals.{add-one}
@@ -8,10 +7,9 @@ use native.Mathlib.Decide.{decLt}
 use native.Mathlib.Omega.{arith}
 use lib.ListN.{length, getD, take, length-map, List·getD-map}
 use lib.Seq.{length-take-le, getD-take, take-all}
-use lib.Dec.{ltb}
-use borrow.Author.Tests.{lt-ltb}
+use Rattle.property.specs.Property.{properties}
 use Rattle.graph.specs.declared.Judged.the-variants.{Fine, Refused}
-use Rattle.graph.specs.Refusal.{Verdict, accept, refuse, _▷_, refuseIf}
+use Rattle.graph.specs.Refusal.{Verdict, accept, refuse, _▷_}
 use Rattle.graph.specs.Edge.{range}
 use Rattle.graph.specs.Code.{told}
 use Rattle.graph.proofs.Lists.{getD-within}
@@ -19,10 +17,11 @@ use Rattle.network.specs.Network.{Network}
 use Rattle.calls.specs.Code.{network}
 use Rattle.dimacs.specs.Network.{readNetwork}
 use Rattle.dimacs.specs.Sources.{readSources}
-use Rattle.dimacs.specs.Call.{judged, vertexCount, edgesRead, sourcesRead}
+use Rattle.dimacs.specs.Call.{vertexCount, edgesRead, sourcesRead}
 use Rattle.listing.specs.declared.parts.Prepared.{Prepared}
-use Rattle.listing.specs.Listing.{maxFile, Graph, graphOf, header, refusedLine, networkOf, linesOf, sourceLines, listed, output, printed}
-use Rattle.listing.specs.Code.{graph, filesVerdict, partsOf, parts, Shown}
+use Rattle.listing.specs.Listing.{maxFile, Graph, graph, graphOf, header, refusedLine, networkOf, linesOf, sourceLines, listed, graphVerdict, filesVerdict, output, printed}
+use Rattle.listing.specs.Code.{partsOf, parts, Shown}
+use Rattle.listing.proofs.Reading.{graph-long, sources-long, files-first}
 
 -- ---- all pieces are the whole output
 
@@ -46,34 +45,32 @@ unfolding printed
 parts-printed gr ss = verdict-parts (filesVerdict gr ss) (graphOf (readNetwork gr)) (sourcesRead (readSources (vertexCount (readNetwork gr)) ss))
 
 -- A file is read up to one byte past the limit: nothing past that changes the output. A longer file is refused with number 2, and so is its cut.
-cut-long : (xs : List ℕ) → maxFile < length xs → ltb maxFile (length (take (suc maxFile) xs)) ≡ true
-cut-long xs l = lt-ltb maxFile (length (take (suc maxFile) xs)) (omega (arith, length-take-le (suc maxFile) xs l))
+cut-long : (xs : List ℕ) → maxFile < length xs → maxFile < length (take (suc maxFile) xs)
+cut-long xs l = omega (arith, length-take-le (suc maxFile) xs l)
 
--- the verdict on deck.gr, whose refusal hides all that follows
-long-verdict : (v : Verdict) (b : Bool) → b ≡ true → (refuseIf b 2 0 ▷ v) ≡ refuse 2 0
-unfolding refuseIf _▷_
-long-verdict v b e = rw e
+-- the refusal of deck.gr hides all that follows
+files-long : (gr ss : List ℕ) → maxFile < length gr → filesVerdict gr ss ≡ refuse 2 0
+files-long gr ss l = files-first gr ss 2 0 (graph-long gr l)
 
 printed-cut-graph : (gr ss : List ℕ) → printed (take (suc maxFile) gr) ss ≡ printed gr ss
 unfolding printed output
 printed-cut-graph gr ss = pick (decLt maxFile (length gr))
   where
     pick : Dec (maxFile < length gr) → printed (take (suc maxFile) gr) ss ≡ printed gr ss
-    pick (yes l) = rw (long-verdict _ _ (cut-long gr l), long-verdict _ _ (lt-ltb maxFile (length gr) l))
+    pick (yes l) = rw (files-long (take (suc maxFile) gr) ss (cut-long gr l), files-long gr ss l)
     pick (no l) = rw (take-all (suc maxFile) gr (omega arith))
 
-output-hides : (a b : Verdict) (x y : List ℕ) → output (a ▷ b ▷ refuse 2 0) x ≡ output (a ▷ b ▷ refuse 2 0) y
+output-hides : (a : Verdict) (x y : List ℕ) → output (a ▷ refuse 2 0) x ≡ output (a ▷ refuse 2 0) y
 unfolding output _▷_
-output-hides accept accept x y = refl
-output-hides accept (refuse k i) x y = refl
-output-hides (refuse k i) b x y = refl
+output-hides accept x y = refl
+output-hides (refuse k i) x y = refl
 
 printed-cut-sources : (gr ss : List ℕ) → printed gr (take (suc maxFile) ss) ≡ printed gr ss
 unfolding printed
 printed-cut-sources gr ss = pick (decLt maxFile (length ss))
   where
     pick : Dec (maxFile < length ss) → printed gr (take (suc maxFile) ss) ≡ printed gr ss
-    pick (yes l) = rw (long-verdict _ _ (cut-long ss l), long-verdict _ _ (lt-ltb maxFile (length ss) l)) (output-hides _ (judged (readNetwork gr)) _ _)
+    pick (yes l) = rw (sources-long _ (take (suc maxFile) ss) (cut-long ss l), sources-long _ ss l) (output-hides (graphVerdict gr) _ _)
     pick (no l) = rw (take-all (suc maxFile) ss (omega arith))
 
 pub printed-cut : (gr ss : List ℕ) → printed (take (suc maxFile) gr) (take (suc maxFile) ss) ≡ printed gr ss
@@ -109,7 +106,7 @@ module _ (gr ss : List ℕ) (p : Prepared) (ts hs ws xs f b : List ℕ) (h : Sho
       -- piece i + 1 is the lines of source i, as the code makes them
       pub parts-lines : (i : ℕ) → i < p .sources
           → getD (parts gr ss) (i + 1) []
-          ≡ linesOf (graph (p .n) (edgesRead (readNetwork gr))) (network ts hs ws (take (p .choice .count * 5 * p .n) f) (take (p .choice .count * 5 * p .n) b) (p .count)) (getD xs i 0) (range 0 (p .n))
+          ≡ linesOf (graph (p .n) (edgesRead (readNetwork gr))) (network ts hs ws (take (p .choice .count * properties * p .n) f) (take (p .choice .count * properties * p .n) b) (p .count)) (getD xs i 0) (range 0 (p .n))
       parts-lines i j =
           let r = h .running a in
           let es = edgesRead (readNetwork gr) in

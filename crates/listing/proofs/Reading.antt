@@ -12,8 +12,7 @@ use Rattle.graph.specs.Limits.{maxEdges}
 use Rattle.graph.specs.Edge.{Edge}
 use Rattle.graph.specs.Table.{Columns, size, shortTable}
 use Rattle.graph.specs.Code.{told, columns}
-use Rattle.graph.proofs.Verdicts.{not-accept, accept-then, accept-if}
-use Rattle.graph.proofs.Verdicts.{then-assoc}
+use Rattle.graph.proofs.Verdicts.{not-accept, accept-then, refuse-then, accept-if}
 use Rattle.dimacs.specs.Read.{Read, good, bad}
 use Rattle.dimacs.specs.Network as net
 use Rattle.dimacs.specs.Sources as src
@@ -29,8 +28,8 @@ use Rattle.reader.specs.declared.sources.SourcesReply.{SourcesReply}
 use Rattle.reader.specs.declared.sources.SourcesReply.the-variants as lists
 use Rattle.reader.specs.SourcesCode as list
 use Rattle.listing.specs.declared.parts.Prepared.{Prepared}
-use Rattle.listing.specs.Listing.{maxFile}
-use Rattle.listing.specs.Code.{graphVerdict, sourcesVerdict, GraphRead, SourcesRead, filesVerdict, Running, Shown}
+use Rattle.listing.specs.Listing.{maxFile, graphVerdict, sourcesVerdict, filesVerdict}
+use Rattle.listing.specs.Code.{GraphRead, SourcesRead, Running, Shown}
 
 -- ---- deck.gr
 
@@ -175,15 +174,11 @@ module _ (n : ℕ) (ss xs : List ℕ) (r : SourcesReply) (h : SourcesRead n ss r
 
 -- ---- both
 
-files-split : (gr ss : List ℕ) → filesVerdict gr ss ≡ (graphVerdict gr ▷ sourcesVerdict (vertexCount (net.readNetwork gr)) ss)
-files-split gr ss = sym (then-assoc _ (judged (net.readNetwork gr)) _)
-
 pub files-first : (gr ss : List ℕ) (k i : ℕ) → graphVerdict gr ≡ refuse k i → filesVerdict gr ss ≡ refuse k i
-unfolding _▷_
-files-first gr ss k i e = files-split gr ss ∙ rw e
+files-first gr ss k i e = refuse-then (graphVerdict gr) _ e
 
 pub files-second : (gr ss : List ℕ) (n : ℕ) (v : Verdict) → graphVerdict gr ≡ accept → n ≡ vertexCount (net.readNetwork gr) → sourcesVerdict n ss ≡ v → filesVerdict gr ss ≡ v
-files-second gr ss n v e a h = files-split gr ss ∙ accept-then e ∙ ap (λ (k : ℕ). sourcesVerdict k ss) (sym a) ∙ h
+files-second gr ss n v e a h = accept-then e ∙ ap (λ (k : ℕ). sourcesVerdict k ss) (sym a) ∙ h
 
 pub shown-refused : (gr ss : List ℕ) (p : Prepared) (ts hs ws xs f b : List ℕ) (k i : ℕ) → filesVerdict gr ss ≡ refuse k i → p .verdict ≡ Refused k i → Shown gr ss p ts hs ws xs f b
 unfolding told

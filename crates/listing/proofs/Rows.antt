@@ -18,7 +18,7 @@ use Rattle.dimacs.specs.Lines.{fieldsOf}
 use Rattle.writer.proofs.Digits.{width-most}
 use Rattle.writer.proofs.Fields.{width-word}
 use Rattle.listing.specs.Listing.{Graph, landmarksOf, valueAt, spaced, lineOf, linesOf, refusedLine}
-use Rattle.listing.specs.Code.{settledRow, rowsLine, rowsLines}
+use Rattle.listing.specs.Code.{maxLine, settledRow, rowsLine, rowsLines}
 
 -- ---- a query's settled words
 
@@ -53,7 +53,7 @@ fields-none : length (fieldsOf []) ≤ 0
 unfolding fieldsOf
 fields-none = omega arith
 
-pub line-most : (s t : ℕ) (a b c d e : List ℕ) → s < 2 ^ 32 → t < 2 ^ 32 → Words a → Words b → Words c → Words d → Words e → length (rowsLine s t (a ∷ b ∷ c ∷ d ∷ e ∷ [])) ≤ 77
+pub line-most : (s t : ℕ) (a b c d e : List ℕ) → s < 2 ^ 32 → t < 2 ^ 32 → Words a → Words b → Words c → Words d → Words e → length (rowsLine s t (a ∷ b ∷ c ∷ d ∷ e ∷ [])) ≤ maxLine
 line-most s t a b c d e hs ht ha hb hc hd he =
     let f5 = field-most (getD e t 0) [] 0 (omega (arith, he t)) fields-none in
     let f4 = field-most (getD d t 0) (getD e t 0 ∷ []) 11 (omega (arith, hd t)) f5 in
@@ -79,7 +79,7 @@ lines-done s t n rs l =
     rw e
 
 module _ (s : ℕ) (a b c d e : List ℕ) (hs : s < 2 ^ 32) (ha : Words a) (hb : Words b) (hc : Words c) (hd : Words d) (he : Words e) where
-  pub lines-most : (k t : ℕ) → t + k ≤ maxVertices → length (rowsLines s (range t k) (a ∷ b ∷ c ∷ d ∷ e ∷ [])) ≤ 77 * k
+  pub lines-most : (k t : ℕ) → t + k ≤ maxVertices → length (rowsLines s (range t k) (a ∷ b ∷ c ∷ d ∷ e ∷ [])) ≤ maxLine * k
   unfolding rowsLines range
   lines-most zero t l = omega arith
   lines-most (suc k) t l =

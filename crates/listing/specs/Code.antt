@@ -1,17 +1,16 @@
 -- What the functions that print values ask and answer. Assumes nothing.
 --
---   graph n es                         == the network of n vertices and the edges es
+--   rowWords                           == the words of a row list, enough for any network: 5,120
+--   maxLine                            == the longest line has 77 bytes: seven numbers of at most ten digits, six spaces and a line feed
+--   maxFirst                           == the first line has at most 51 bytes: the header, while a refusal has at most 50
 --   settledRow n ls w s p              == the settled words of a query for property p from s, with an empty schedule
 --   Rows n a b c d e                   == five rows have a word for each of n vertices
 --   rowsLine s t rs                    == the line of source s and vertex t, with the vertex's word of each row of rs
 --   rowsLines s ts rs                  == the lines of source s and the vertices ts
 --   Loaded n es ts hs ws m             == three lists of 2,048 words hold the table of the edges es, m of them, and zeros past them
 --   Ready n es ts hs ws m k vs f b     == the network of n and es is opened: its k landmarks stand in front of vs, its rows in front of f and b
---   graphVerdict gr                    == deck.gr judged alone: number 2 for its size, then 14
---   sourcesVerdict n ss                == deck.ss judged alone, for a network of n vertices
 --   GraphRead gr r ts hs ws            == the reply r to reading deck.gr tells its verdict, and where it is read, three lists are loaded with it
 --   SourcesRead n ss r xs              == the reply r to reading deck.ss tells its verdict, and where it is read, its sources stand in front of xs
---   filesVerdict gr ss                 == whether either file is refused: the verdict of `printed`
 --   partsOf v d ss                     == what is printed under the verdict v, piece by piece: a refusal, or the header and each source's lines
 --   parts gr ss                        == the output for two files, piece by piece
 --   Bounded p xs f b                   == the numbers of a Prepared are within the lists that belong to it
@@ -21,9 +20,9 @@ use mathlib.Core.Path.{_≡_}
 use mathlib.Core.List.{List, [], _∷_, _++_, map}
 use Prim.Native.Nat.{ℕ, suc, _*_, _≤_}
 use lib.ListN.{length, getD, take, replicate}
-use lib.Dec.{ltb}
+use Rattle.property.specs.Property.{properties}
 use Rattle.graph.specs.Limits.{maxVertices, maxEdges, maxLandmarks}
-use Rattle.graph.specs.Refusal.{Verdict, accept, refuse, _▷_, refuseIf}
+use Rattle.graph.specs.Refusal.{Verdict, accept, refuse}
 use Rattle.graph.specs.Edge.{Edge, range}
 use Rattle.graph.specs.Code.{told, columns}
 use Rattle.network.specs.Network.{Network}
@@ -31,17 +30,25 @@ use Rattle.network.specs.Query.{queryCall}
 use Rattle.calls.specs.Code.{network}
 use Rattle.dimacs.specs.Network.{readNetwork}
 use Rattle.dimacs.specs.Sources.{readSources}
-use Rattle.dimacs.specs.Call.{filled, judged, vertexCount, edgesRead, sourcesRead}
+use Rattle.dimacs.specs.Call.{filled, vertexCount, edgesRead, sourcesRead}
 use Rattle.dimacs.specs.Claims.{Table}
 use Rattle.reader.specs.declared.network.ReadReply.{ReadReply}
 use Rattle.reader.specs.declared.network.ReadReply.the-variants as graphs
 use Rattle.reader.specs.declared.sources.SourcesReply.{SourcesReply}
 use Rattle.reader.specs.declared.sources.SourcesReply.the-variants as sources
 use Rattle.listing.specs.declared.parts.Prepared.{Prepared}
-use Rattle.listing.specs.Listing.{maxFile, Graph, graphOf, header, spaced, refusedLine, landmarksOf, networkOf, linesOf}
+use Rattle.listing.specs.Listing.{Graph, graph, graphOf, header, spaced, refusedLine, landmarksOf, networkOf, linesOf, graphVerdict, sourcesVerdict, filesVerdict}
 
-abbrev pub graph : ℕ → List Edge → Graph
-graph n es = record { n = n; edges = es }
+-- ---- room
+
+abbrev pub rowWords : ℕ
+rowWords = maxLandmarks * properties * maxVertices
+
+abbrev pub maxLine : ℕ
+maxLine = 77
+
+abbrev pub maxFirst : ℕ
+maxFirst = 51
 
 -- ---- the lines of a source
 
@@ -72,15 +79,9 @@ pub record Loaded (n : ℕ) (es : List Edge) (ts hs ws : List ℕ) (m : ℕ) : T
 
 pub record Ready (n : ℕ) (es : List Edge) (ts hs ws : List ℕ) (m k : ℕ) (vs f b : List ℕ) : Type 0 where
   pub landmarks : landmarksOf (graph n es) ≡ take k vs
-  pub opened : network ts hs ws (take (k * 5 * n) f) (take (k * 5 * n) b) m ≡ networkOf (graph n es)
+  pub opened : network ts hs ws (take (k * properties * n) f) (take (k * properties * n) b) m ≡ networkOf (graph n es)
 
 -- ---- files
-
-abbrev pub graphVerdict : List ℕ → Verdict
-graphVerdict gr = refuseIf (ltb maxFile (length gr)) 2 0 ▷ judged (readNetwork gr)
-
-abbrev pub sourcesVerdict : ℕ → List ℕ → Verdict
-sourcesVerdict n ss = refuseIf (ltb maxFile (length ss)) 2 0 ▷ judged (readSources n ss)
 
 abbrev pub GraphRead : List ℕ → ReadReply → List ℕ → List ℕ → List ℕ → Type 0
 GraphRead gr (graphs.Read n m) ts hs ws = (graphVerdict gr ≡ accept) × (n ≡ vertexCount (readNetwork gr)) × Loaded n (edgesRead (readNetwork gr)) ts hs ws m
@@ -91,12 +92,6 @@ SourcesRead n ss (sources.Read k) xs = (sourcesVerdict n ss ≡ accept) × (take
 SourcesRead n ss (sources.Refused k i) xs = sourcesVerdict n ss ≡ refuse k i
 
 -- ---- the output, piece by piece
-
-abbrev pub filesVerdict : List ℕ → List ℕ → Verdict
-filesVerdict gr ss =
-    let r = readNetwork gr in
-    let q = readSources (vertexCount r) ss in
-    refuseIf (ltb maxFile (length gr)) 2 0 ▷ judged r ▷ refuseIf (ltb maxFile (length ss)) 2 0 ▷ judged q
 
 unfoldable pub partsOf : Verdict → Graph → List ℕ → List (List ℕ)
 partsOf accept d ss = header ∷ map (λ s. linesOf d (networkOf d) s (range 0 (d .n))) ss
@@ -110,8 +105,8 @@ pub record Bounded (p : Prepared) (xs f b : List ℕ) : Type 0 where
   pub landmarks : p .choice .count ≤ maxLandmarks
   pub places : length (p .choice .vertices) ≡ maxLandmarks
   pub sources : p .sources ≤ length xs
-  pub forward : 5120 ≤ length f
-  pub backward : 5120 ≤ length b
+  pub forward : rowWords ≤ length f
+  pub backward : rowWords ≤ length b
 
 pub record Running (gr ss : List ℕ) (p : Prepared) (ts hs ws xs f b : List ℕ) : Type 0 where
   pub vertices : p .n ≡ vertexCount (readNetwork gr)

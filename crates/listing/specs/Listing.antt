@@ -4,14 +4,20 @@
 --   header                           == the first line: the names of the columns
 --   spaced vs                        == numbers parted by single spaces, and a line feed
 --   Graph                            == a network that was read: n and its edges
---   networkOf d                      == the network, opened with the landmarks of choice, four or n if fewer
---   valueAt d w s t p                == property p from s to t: the settled word of a query
+--   graph n es                       == the network of n vertices and the edges es
+--   landmarksOf d                    == its landmarks: those of choice, four or n if fewer
+--   heldOf d                         == what is lent to its opening
+--   networkOf d                      == the network, opened
+--   queryOf d w s p                  == the query for property p from s: an empty schedule, and n words for each list of the answer
+--   valueAt d w s t p                == property p from s to t: the settled word of that query
 --   lineOf d w s t                   == the line of a source and a vertex: both from 1, then the five properties
 --   listed d ss                      == the header, and per source in file order and vertex ascending a line
 --   refusedLine k i                  == `refused`, number, place
+--   graphVerdict gr                  == deck.gr judged alone: number 2 for its size, then 14
+--   sourcesVerdict n ss              == deck.ss judged alone, for a network of n vertices
+--   filesVerdict gr ss               == whether either file is refused, deck.gr first
 --   output v text                    == the text where the verdict v accepts, else the refused line
---   printed gr ss                    == the whole output: a refusal in either file, deck.gr first, or what is listed
---   landmarksOf d                    == its landmarks: those of choice, four or n if fewer
+--   printed gr ss                    == the whole output: a refusal in either file, or what is listed
 --   linesOf .. ts, sourceLines .. ss == the lines of a source, and of all sources
 --   graphOf r                        == the network that was read
 use mathlib.Core.List.{List, [], _∷_, _++_, map}
@@ -20,11 +26,11 @@ use lib.ListN.{length, replicate}
 use lib.Dec.{ltb}
 use Rattle.property.specs.Property.{property, properties}
 use Rattle.graph.specs.Limits.{maxLandmarks}
-use Rattle.graph.specs.Refusal.{Verdict, accept, refuse, _▷_, refuseIf}
+use Rattle.graph.specs.Refusal.{Verdict, accept, refuse, _▷_, refuseIf, Outcome}
 use Rattle.graph.specs.Edge.{Edge, range}
-use Rattle.run.specs.Run.{word}
+use Rattle.run.specs.Run.{Tally, word}
 use Rattle.network.specs.Network.{Network}
-use Rattle.network.specs.Query.{queryCall}
+use Rattle.network.specs.Query.{Words, queryCall}
 use Rattle.network.specs.Choice.{choice}
 use Rattle.network.specs.Caller.{holding, opened}
 use Rattle.dimacs.specs.Decimal.{digits}
@@ -60,18 +66,24 @@ pub record Graph : Type 0 where
   pub n : ℕ
   pub edges : List Edge
 
+abbrev pub graph : ℕ → List Edge → Graph
+graph n es = record { n = n; edges = es }
+
 abbrev pub landmarksOf : Graph → List ℕ
 landmarksOf d = choice (d .n) (d .edges) maxLandmarks
 
+abbrev pub heldOf : Graph → Network
+heldOf d = holding (d .edges) (landmarksOf d) (d .n)
+
 abbrev pub networkOf : Graph → Network
-networkOf d = opened (d .n) (landmarksOf d) (holding (d .edges) (landmarksOf d) (d .n))
+networkOf d = opened (d .n) (landmarksOf d) (heldOf d)
+
+abbrev pub queryOf : Graph → Network → ℕ → ℕ → Outcome Tally Words
+queryOf d w s p =
+    queryCall (d .n) (landmarksOf d) w (record { property = p; source = s; schedule = [] }) (record { starts = replicate (d .n) 0; settled = replicate (d .n) 0 })
 
 abbrev pub valueAt : Graph → Network → ℕ → ℕ → ℕ → ℕ
-valueAt d w s t p =
-    word (property p)
-    ((queryCall (d .n) (landmarksOf d) w (record { property = p; source = s; schedule = [] })
-    (record { starts = replicate (d .n) 0; settled = replicate (d .n) 0 })) .memory .settled)
-    t
+valueAt d w s t p = word (property p) ((queryOf d w s p) .memory .settled) t
 
 unfoldable pub lineOf : Graph → Network → ℕ → ℕ → List ℕ
 lineOf d w s t = spaced (suc s ∷ suc t ∷ map (valueAt d w s t) (range 1 properties))
@@ -89,17 +101,23 @@ listed d ss = let w = networkOf d in header ++ sourceLines d w ss
 
 -- ---- the program
 
+abbrev pub graphVerdict : List ℕ → Verdict
+graphVerdict gr = refuseIf (ltb maxFile (length gr)) 2 0 ▷ judged (readNetwork gr)
+
+abbrev pub sourcesVerdict : ℕ → List ℕ → Verdict
+sourcesVerdict n ss = refuseIf (ltb maxFile (length ss)) 2 0 ▷ judged (readSources n ss)
+
+abbrev pub filesVerdict : List ℕ → List ℕ → Verdict
+filesVerdict gr ss = graphVerdict gr ▷ sourcesVerdict (vertexCount (readNetwork gr)) ss
+
 unfoldable pub output : Verdict → List ℕ → List ℕ
 output accept text = text
 output (refuse k i) text = refusedLine k i
 
 abbrev pub graphOf : Read State → Graph
-graphOf r = record { n = vertexCount r; edges = edgesRead r }
+graphOf r = graph (vertexCount r) (edgesRead r)
 
 unfoldable pub printed : List ℕ → List ℕ → List ℕ
 printed gr ss =
     let r = readNetwork gr in
-    let q = readSources (vertexCount r) ss in
-    output
-    (refuseIf (ltb maxFile (length gr)) 2 0 ▷ judged r ▷ refuseIf (ltb maxFile (length ss)) 2 0 ▷ judged q)
-    (listed (graphOf r) (sourcesRead q))
+    output (filesVerdict gr ss) (listed (graphOf r) (sourcesRead (readSources (vertexCount r) ss)))

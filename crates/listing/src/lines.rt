@@ -9,8 +9,8 @@ ghost use Rattle.graph.specs.Limits.{maxVertices};
 ghost use Rattle.graph.specs.Edge.{Edge, range};
 ghost use Rattle.calls.specs.Code.{network};
 ghost use Rattle.writer.specs.Code.{Fits, Wrote};
-ghost use Rattle.listing.specs.Listing.{landmarksOf, linesOf, refusedLine, header};
-ghost use Rattle.listing.specs.Code.{settledRow, Rows, rowsLine, rowsLines, graph};
+ghost use Rattle.listing.specs.Listing.{graph, landmarksOf, linesOf, refusedLine, header};
+ghost use Rattle.listing.specs.Code.{maxLine, maxFirst, settledRow, Rows, rowsLine, rowsLines};
 
 // The settled words of a query with an empty schedule.
 fn settle_row(
@@ -31,7 +31,7 @@ fn settle_row(
 {
     words::fill(row, 0);
     let size = n as usize;
-    let mut starts = [0u32; 256];
+    let mut starts = [0u32; graph::VERTEX_WORDS];
     query::query(
         n,
         landmarks,
@@ -88,7 +88,7 @@ fn put_vertices(
     out: &mut [u8],
 ) -> usize
     requires { ⌜ Rows n (now sssp) (now bfs) (now sswp) (now ssnp) (now ssr) ⌝ }
-    requires { ⌜ (n ≤ maxVertices) × (77 * n ≤ length (now out)) ⌝ }
+    requires { ⌜ (n ≤ maxVertices) × (maxLine * n ≤ length (now out)) ⌝ }
     ensures { λ r. ⌜ Wrote (rowsLines source (range 0 n) (now (sssp .entry) ∷ now (bfs .entry) ∷ now (sswp .entry) ∷ now (ssnp .entry) ∷ now (ssr .entry) ∷ [])) 0 (now (out .entry)) r (now (out .exit)) ⌝ }
     ensures { λ r. ⌜ r ≤ length (now (out .exit)) ⌝ }
 {
@@ -119,7 +119,7 @@ fn put_source_in(
     ssr: &mut [u32],
     out: &mut [u8],
 ) -> usize
-    requires { ⌜ (n ≤ maxVertices) × (77 * n ≤ length (now out)) ⌝ }
+    requires { ⌜ (n ≤ maxVertices) × (maxLine * n ≤ length (now out)) ⌝ }
     requires { ⌜ (length (now sssp) ≡ n) × (length (now bfs) ≡ n) × (length (now sswp) ≡ n) × (length (now ssnp) ≡ n) × (length (now ssr) ≡ n) ⌝ }
     ensures { λ r. ⌜ ((es : List Edge) → landmarksOf (graph n es) ≡ now (landmarks .entry) → Wrote (linesOf (graph n es) (network (now (tails .entry)) (now (heads .entry)) (now (weights .entry)) (now (forward .entry)) (now (backward .entry)) count) source (range 0 n)) 0 (now (out .entry)) r (now (out .exit))) ⌝ }
     ensures { λ r. ⌜ r ≤ length (now (out .exit)) ⌝ }
@@ -205,16 +205,16 @@ pub fn put_source(
     source: u32,
     out: &mut [u8],
 ) -> usize
-    requires { ⌜ (n ≤ maxVertices) × (77 * n ≤ length (now out)) ⌝ }
+    requires { ⌜ (n ≤ maxVertices) × (maxLine * n ≤ length (now out)) ⌝ }
     ensures { λ r. ⌜ ((es : List Edge) → landmarksOf (graph n es) ≡ now (landmarks .entry) → Wrote (linesOf (graph n es) (network (now (tails .entry)) (now (heads .entry)) (now (weights .entry)) (now (forward .entry)) (now (backward .entry)) count) source (range 0 n)) 0 (now (out .entry)) r (now (out .exit))) ⌝ }
     ensures { λ r. ⌜ r ≤ length (now (out .exit)) ⌝ }
 {
     let size = n as usize;
-    let mut sssp = [0u32; 256];
-    let mut bfs = [0u32; 256];
-    let mut sswp = [0u32; 256];
-    let mut ssnp = [0u32; 256];
-    let mut ssr = [0u32; 256];
+    let mut sssp = [0u32; graph::VERTEX_WORDS];
+    let mut bfs = [0u32; graph::VERTEX_WORDS];
+    let mut sswp = [0u32; graph::VERTEX_WORDS];
+    let mut ssnp = [0u32; graph::VERTEX_WORDS];
+    let mut ssr = [0u32; graph::VERTEX_WORDS];
     put_source_in(
         n,
         landmarks,
@@ -236,7 +236,7 @@ pub fn put_source(
 
 // The line of a refusal.
 pub fn put_refused(number: u32, place: usize, out: &mut [u8]) -> usize
-    requires { ⌜ 51 ≤ length (now out) ⌝ }
+    requires { ⌜ maxFirst ≤ length (now out) ⌝ }
     ensures { λ r. ⌜ Wrote (refusedLine number place) 0 (now (out .entry)) r (now (out .exit)) ⌝ }
     ensures { λ r. ⌜ r ≤ length (now (out .exit)) ⌝ }
 {
@@ -245,7 +245,7 @@ pub fn put_refused(number: u32, place: usize, out: &mut [u8]) -> usize
 
 // The header.
 pub fn put_header(out: &mut [u8]) -> usize
-    requires { ⌜ 51 ≤ length (now out) ⌝ }
+    requires { ⌜ maxFirst ≤ length (now out) ⌝ }
     ensures { λ r. ⌜ Wrote header 0 (now (out .entry)) r (now (out .exit)) ⌝ }
     ensures { λ r. ⌜ r ≤ length (now (out .exit)) ⌝ }
 {

@@ -7,9 +7,11 @@ ghost use mathlib.Core.List.{List, []};
 ghost use Prim.Native.Nat.{ℕ, _+_, _*_, _<_, _≤_};
 ghost use lib.ListN.{length, getD};
 ghost use Rattle.graph.specs.Limits.{maxVertices};
+ghost use Rattle.dimacs.specs.Sources.{maxSources};
 ghost use Rattle.writer.specs.Code.{Wrote};
 ghost use Rattle.graph.specs.Refusal.{accept};
-ghost use Rattle.listing.specs.Code.{filesVerdict, parts, Bounded, Shown};
+ghost use Rattle.listing.specs.Listing.{filesVerdict};
+ghost use Rattle.listing.specs.Code.{maxLine, parts, Bounded, Shown};
 
 // Two files that were read: the verdict, and where it is fine the numbers of the network and of its sources.
 pub struct Prepared {
@@ -22,7 +24,7 @@ pub struct Prepared {
 
 // How many pieces there are.
 pub fn part_count(prepared: Prepared) -> usize
-    requires { ⌜ prepared .sources < 1000 ⌝ }
+    requires { ⌜ prepared .sources ≤ maxSources ⌝ }
     ensures { λ r. ⌜ r ≤ prepared .sources + 1 ⌝ }
     ensures { λ r. ⌜ ((gr ss ts hs ws xs f b : List ℕ) → Bounded prepared xs f b → Shown gr ss prepared ts hs ws xs f b → r ≡ length (parts gr ss)) ⌝ }
 {
@@ -45,7 +47,7 @@ fn put_lines(
     backward: &[u32],
     out: &mut [u8],
 ) -> usize
-    requires { ⌜ (i < prepared .sources) × Bounded prepared (now sources) (now forward) (now backward) × (77 * maxVertices ≤ length (now out)) ⌝ }
+    requires { ⌜ (i < prepared .sources) × Bounded prepared (now sources) (now forward) (now backward) × (maxLine * maxVertices ≤ length (now out)) ⌝ }
     ensures { λ r. ⌜ ((gr ss : List ℕ) → Shown gr ss prepared (now (tails .entry)) (now (heads .entry)) (now (weights .entry)) (now (sources .entry)) (now (forward .entry)) (now (backward .entry)) → filesVerdict gr ss ≡ accept → Wrote (getD (parts gr ss) (i + 1) []) 0 (now (out .entry)) r (now (out .exit))) ⌝ }
     ensures { λ r. ⌜ r ≤ length (now (out .exit)) ⌝ }
 {
@@ -80,7 +82,7 @@ pub fn put_part(
     backward: &[u32],
     out: &mut [u8],
 ) -> usize
-    requires { ⌜ (i ≤ prepared .sources) × Bounded prepared (now sources) (now forward) (now backward) × (77 * maxVertices ≤ length (now out)) ⌝ }
+    requires { ⌜ (i ≤ prepared .sources) × Bounded prepared (now sources) (now forward) (now backward) × (maxLine * maxVertices ≤ length (now out)) ⌝ }
     ensures { λ r. ⌜ ((gr ss : List ℕ) → Shown gr ss prepared (now (tails .entry)) (now (heads .entry)) (now (weights .entry)) (now (sources .entry)) (now (forward .entry)) (now (backward .entry)) → i < length (parts gr ss) → Wrote (getD (parts gr ss) i []) 0 (now (out .entry)) r (now (out .exit))) ⌝ }
     ensures { λ r. ⌜ r ≤ length (now (out .exit)) ⌝ }
 {

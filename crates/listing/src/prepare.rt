@@ -16,7 +16,7 @@ ghost use Rattle.graph.specs.Refusal.{accept};
 ghost use Rattle.graph.specs.Table.{size};
 ghost use Rattle.graph.specs.declared.Judged.the-variants as judged;
 ghost use Rattle.dimacs.specs.Sources.{maxSources};
-ghost use Rattle.listing.specs.Code.{Loaded, Ready, GraphRead, SourcesRead, Bounded, Shown};
+ghost use Rattle.listing.specs.Code.{rowWords, Loaded, Ready, GraphRead, SourcesRead, Bounded, Shown};
 
 // The network of a table opened: the landmarks of choice, four or n if fewer, and the rows in front of two lists.
 pub fn open_network(
@@ -28,11 +28,18 @@ pub fn open_network(
     forward: &mut [u32],
     backward: &mut [u32],
 ) -> Choice
-    requires { ⌜ (n ≤ maxVertices) × (5120 ≤ length (now forward)) × (5120 ≤ length (now backward)) ⌝ }
+    requires { ⌜ (n ≤ maxVertices) × (rowWords ≤ length (now forward)) × (rowWords ≤ length (now backward)) ⌝ }
     ensures { λ r. ⌜ (r .count ≤ maxLandmarks) × (length (r .vertices) ≡ maxLandmarks) ⌝ }
     ensures { λ r. ⌜ ((es : List Edge) → Loaded n es (now (tails .entry)) (now (heads .entry)) (now (weights .entry)) count → Ready n es (now (tails .entry)) (now (heads .entry)) (now (weights .entry)) count (r .count) (r .vertices) (now (forward .exit)) (now (backward .exit))) ⌝ }
 {
-    let chosen = choose::choose_landmarks(n, tails, heads, weights, count, 4);
+    let chosen = choose::choose_landmarks(
+        n,
+        tails,
+        heads,
+        weights,
+        count,
+        graph::MAX_LANDMARKS as u32,
+    );
     let choice = chosen.choice;
     let held = choice.count;
     let vertices = choice.vertices;
@@ -57,7 +64,7 @@ fn read_graph(gr: &[u8], tails: &mut [u32], heads: &mut [u32], weights: &mut [u3
     requires { ⌜ (length (now tails) ≡ maxEdges) × (length (now heads) ≡ maxEdges) × (length (now weights) ≡ maxEdges) ⌝ }
     ensures { λ r. ⌜ GraphRead (now (gr .entry)) r (now (tails .exit)) (now (heads .exit)) (now (weights .exit)) ⌝ }
 {
-    if gr.len() > 65536 {
+    if gr.len() > super::MAX_FILE {
         return ReadReply::Refused(2, 0);
     }
     words::fill(tails, 0);
@@ -71,7 +78,7 @@ fn read_list(n: u32, ss: &[u8], list: &mut [u32]) -> SourcesReply
     requires { ⌜ (size n ≡ accept) × (maxSources ≤ length (now list)) ⌝ }
     ensures { λ r. ⌜ SourcesRead n (now (ss .entry)) r (now (list .exit)) ⌝ }
 {
-    if ss.len() > 65536 {
+    if ss.len() > super::MAX_FILE {
         return SourcesReply::Refused(2, 0);
     }
     reader::sources::read_sources(n, ss, list)
@@ -87,7 +94,7 @@ fn refused(number: u32, place: usize) -> Prepared
         count: 0,
         choice: Choice {
             count: 0,
-            vertices: [0u32; 4],
+            vertices: [0u32; graph::MAX_LANDMARKS],
         },
         sources: 0,
     }
@@ -105,7 +112,7 @@ pub fn prepare(
     backward: &mut [u32],
 ) -> Prepared
     requires { ⌜ (length (now tails) ≡ maxEdges) × (length (now heads) ≡ maxEdges) × (length (now weights) ≡ maxEdges) ⌝ }
-    requires { ⌜ (length (now list) ≡ maxSources) × (5120 ≤ length (now forward)) × (5120 ≤ length (now backward)) ⌝ }
+    requires { ⌜ (length (now list) ≡ maxSources) × (rowWords ≤ length (now forward)) × (rowWords ≤ length (now backward)) ⌝ }
     ensures { λ r. ⌜ Bounded r (now (list .exit)) (now (forward .exit)) (now (backward .exit)) ⌝ }
     ensures { λ r. ⌜ Shown (now (gr .entry)) (now (ss .entry)) r (now (tails .exit)) (now (heads .exit)) (now (weights .exit)) (now (list .exit)) (now (forward .exit)) (now (backward .exit)) ⌝ }
 {

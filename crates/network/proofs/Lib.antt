@@ -8,3 +8,5 @@ pub mod Moment
 pub mod Query
 pub mod History
 pub mod Never
+pub mod Chosen
+pub mod Held

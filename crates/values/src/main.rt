@@ -3,39 +3,43 @@ use listing::parts;
 use listing::parts::Prepared;
 use listing::prepare;
 ghost use mathlib.Core.Path.{_≡_};
-ghost use Prim.Native.Nat.{_*_, _≤_};
+ghost use Prim.Native.Nat.{_+_, _*_, _≤_};
 ghost use lib.ListN.{length};
 ghost use Rattle.io.specs.Counts.{Counts};
-ghost use Rattle.graph.specs.Limits.{maxVertices};
+ghost use Rattle.graph.specs.Limits.{maxVertices, maxEdges};
 ghost use Rattle.dimacs.specs.Sources.{maxSources};
-ghost use Rattle.listing.specs.Code.{Bounded};
+ghost use Rattle.listing.specs.Listing.{maxFile};
+ghost use Rattle.listing.specs.Code.{maxLine, rowWords, Bounded};
 
-// Room for one byte more than a file may have: nothing past it matters. Only the length is told, as in the lists below.
-fn file_buffer() -> [u8; 65537]
-    ensures { λ r. ⌜ 65537 ≡ length r ⌝ }
+// Room for one byte more than a file may have: nothing past it matters.
+const FILE_BYTES: usize = listing::MAX_FILE + 1;
+
+// A file's buffer. Only the length is told, as in the lists below.
+fn file_buffer() -> [u8; FILE_BYTES]
+    ensures { λ r. ⌜ maxFile + 1 ≡ length r ⌝ }
 {
-    [0; 65537]
+    [0; FILE_BYTES]
 }
 
 // A list of the table.
-fn table_list() -> [u32; 2048]
-    ensures { λ r. ⌜ 2048 ≡ length r ⌝ }
+fn table_list() -> [u32; graph::MAX_EDGES]
+    ensures { λ r. ⌜ maxEdges ≡ length r ⌝ }
 {
-    [0; 2048]
+    [0; graph::MAX_EDGES]
 }
 
-// A list of rows: four landmarks, five properties, 256 vertices.
-fn row_list() -> [u32; 5120]
-    ensures { λ r. ⌜ 5120 ≡ length r ⌝ }
+// A list of rows: of each landmark, property and vertex.
+fn row_list() -> [u32; graph::ROW_WORDS]
+    ensures { λ r. ⌜ rowWords ≡ length r ⌝ }
 {
-    [0; 5120]
+    [0; graph::ROW_WORDS]
 }
 
-// Room for the lines of a source: 256 of at most 77 bytes.
-fn line_buffer() -> [u8; 19712]
-    ensures { λ r. ⌜ 19712 ≡ length r ⌝ }
+// Room for the lines of a source.
+fn line_buffer() -> [u8; listing::SOURCE_BYTES]
+    ensures { λ r. ⌜ maxLine * maxVertices ≡ length r ⌝ }
 {
-    [0; 19712]
+    [0; listing::SOURCE_BYTES]
 }
 
 // A file's bytes in front of `text`; none where it can't be opened.
@@ -62,7 +66,7 @@ fn print_parts(
     backward: &[u32],
     out: &mut [u8],
 )
-    requires { ⌜ (length (now list) ≡ maxSources) × Bounded prepared (now list) (now forward) (now backward) × (77 * maxVertices ≤ length (now out)) ⌝ }
+    requires { ⌜ (length (now list) ≡ maxSources) × Bounded prepared (now list) (now forward) (now backward) × (maxLine * maxVertices ≤ length (now out)) ⌝ }
 {
     let count = parts::part_count(prepared);
     let mut i = 0;
@@ -91,7 +95,7 @@ fn main() {
     let mut tails = table_list();
     let mut heads = table_list();
     let mut weights = table_list();
-    let mut list = [0u32; 256];
+    let mut list = [0u32; listing::MAX_SOURCES];
     let mut forward = row_list();
     let mut backward = row_list();
     let prepared = prepare::prepare(

@@ -4,11 +4,12 @@ use mathlib.Core.Path.{_≡_, sym}
 use Prim.Native.Nat.{ℕ}
 use lib.ListN.{length, replicate, take}
 use lib.Seq.{length-take-le}
+use Rattle.graph.specs.Limits.{maxVertices}
 use Rattle.listing.proofs.lines.put_source.Statement.{statement}
 use Rattle.listing.proofs.lines.put_source.Tie as tie
 
-row-length : (s : tie.Start) → length (take {A = ℕ} (s .args .n) (replicate 256 0)) ≡ s .args .n
-row-length s = length-take-le (s .args .n) (replicate 256 0) (s .pre .0)
+row-length : (s : tie.Start) → length (take {A = ℕ} (s .args .n) (replicate maxVertices 0)) ≡ s .args .n
+row-length s = length-take-le (s .args .n) (replicate maxVertices 0) (s .pre .0)
 
 array-borrow-prefix-sssp : tie.Need-array-borrow-prefix-sssp
 array-borrow-prefix-sssp c = search needs

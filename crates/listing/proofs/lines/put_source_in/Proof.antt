@@ -4,7 +4,7 @@ use native.Mathlib.Omega.{arith}
 use mathlib.Core.Path.{refl, _∙_}
 use Rattle.network.specs.Network.{Network}
 use Rattle.calls.specs.Code.{network}
-use Rattle.listing.specs.Code.{graph}
+use Rattle.listing.specs.Listing.{graph}
 use Rattle.listing.proofs.Rows.{settled-row, lines-rows}
 use Rattle.listing.proofs.lines.put_source_in.Statement.{statement}
 use Rattle.listing.proofs.lines.put_source_in.Tie as tie

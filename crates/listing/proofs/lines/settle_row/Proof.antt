@@ -4,6 +4,7 @@ use mathlib.Core.Path.{refl, sym, ap, _∙_}
 use Prim.Native.Nat.{ℕ}
 use lib.ListN.{replicate}
 use lib.Seq.{length-take-le}
+use Rattle.graph.specs.Limits.{maxVertices}
 use Rattle.calls.specs.Code.{network}
 use Rattle.listing.proofs.Rows.{row-settled}
 use Rattle.graph.proofs.Lists.{take-replicate}
@@ -28,7 +29,7 @@ array-borrow-prefix-starts c = search needs
 slice-aggregate-query : tie.Need-slice-aggregate-query
 slice-aggregate-query c =
     let s = c .before .before .before .before .before .before .before .before .before .before .before .before .before in
-    sym (length-take-le (s .args .n) (replicate 256 0) (s .pre .0))
+    sym (length-take-le (s .args .n) (replicate maxVertices 0) (s .pre .0))
 
 query-requires : tie.Need-query-requires
 query-requires c κs = search needs
@@ -43,7 +44,7 @@ returns c =
     let s = f .before .before .before .before .before .before .before .before .before in
     let a = s .args in
     row-settled (a .n) (a .landmarks .now) (network (a .tails .now) (a .heads .now) (a .weights .now) (a .forward .now) (a .backward .now) (a .count)) (a .source) (a .property)
-    _ _ _ _ _ _ (q .query .ensures) refl (take-replicate {A = ℕ} (a .n) 256 0 (s .pre .0)) (f .fill .ensures ∙ ap (λ (k : ℕ). replicate k 0) (s .pre .1))
+    _ _ _ _ _ _ (q .query .ensures) refl (take-replicate {A = ℕ} (a .n) maxVertices 0 (s .pre .0)) (f .fill .ensures ∙ ap (λ (k : ℕ). replicate k 0) (s .pre .1))
 
 pub settle-row-spec : {M : Type 1} → statement M
 settle-row-spec =

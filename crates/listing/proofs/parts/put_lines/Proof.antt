@@ -4,17 +4,19 @@ use native.Mathlib.Omega.{arith}
 use mathlib.Core.Path.{sym}
 use Prim.Native.Nat.{ℕ, _*_, _≤_}
 use lib.Seq.{length-take-le}
+use Rattle.property.specs.Property.{properties}
 use Rattle.dimacs.specs.Network.{readNetwork}
 use Rattle.dimacs.specs.Call.{edgesRead}
+use Rattle.listing.specs.Code.{rowWords}
 use Rattle.listing.proofs.Opening.{rows-most}
 use Rattle.listing.proofs.Pieces.{parts-lines}
 use Rattle.listing.proofs.parts.put_lines.Statement.{statement}
 use Rattle.listing.proofs.parts.put_lines.Tie as tie
 
 abbrev cells : tie.Start → ℕ
-cells s = s .args .prepared .choice .count * 5 * s .args .prepared .n
+cells s = s .args .prepared .choice .count * properties * s .args .prepared .n
 
-most : (s : tie.Start) → cells s ≤ 5120
+most : (s : tie.Start) → cells s ≤ rowWords
 most s = let h = s .pre .1 in rows-most (s .args .prepared .choice .count) (s .args .prepared .n) (h .landmarks) (h .vertices)
 
 mul-k : tie.Need-mul-k

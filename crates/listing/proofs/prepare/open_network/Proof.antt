@@ -6,9 +6,11 @@ use mathlib.Core.List.{List}
 use Prim.Native.Nat.{ℕ, _*_, _≤_}
 use lib.ListN.{length, take}
 use lib.Seq.{length-take-le}
+use Rattle.property.specs.Property.{properties}
 use Rattle.graph.specs.Code.{columns}
 use Rattle.graph.specs.Limits.{maxLandmarks}
 use Rattle.graph.proofs.Lists.{take-replicate}
+use Rattle.listing.specs.Code.{rowWords}
 use Rattle.listing.proofs.Opening.{chosen-few, rows-most, ready}
 use Rattle.listing.proofs.prepare.open_network.Statement.{statement}
 use Rattle.listing.proofs.prepare.open_network.Tie as tie
@@ -20,14 +22,14 @@ abbrev held : tie.After-choose-landmarks → ℕ
 held k = k .choose-landmarks .result .choice .count
 
 abbrev cells : tie.After-choose-landmarks → ℕ
-cells k = held k * 5 * begin k .args .n
+cells k = held k * properties * begin k .args .n
 
 few : (k : tie.After-choose-landmarks) → (held k ≤ maxLandmarks) × (length (k .choose-landmarks .result .choice .vertices) ≡ maxLandmarks)
 few k =
     let a = begin k .args in
     chosen-few (a .n) (columns (a .tails .now) (a .heads .now) (a .weights .now)) (a .count) (k .choose-landmarks .result) (k .choose-landmarks .ensures)
 
-most : (k : tie.After-choose-landmarks) → cells k ≤ 5120
+most : (k : tie.After-choose-landmarks) → cells k ≤ rowWords
 most k = rows-most (held k) (begin k .args .n) (few k .0) (begin k .pre .0)
 
 -- the rows fit both lists
@@ -36,6 +38,9 @@ ahead f = let s = begin (f .before .before .before .before) in omega (arith, mos
 
 back : (f : tie.After-fill2) → cells (f .before .before .before .before .before .before .before .before) ≤ length (f .fill2 .last .0)
 back f = let s = begin (f .before .before .before .before .before .before .before .before) in omega (arith, most (f .before .before .before .before .before .before .before .before), f .fill2 .kept .0, s .pre .2)
+
+cast-choose-landmarks : tie.Need-cast-choose-landmarks
+cast-choose-landmarks c = search needs
 
 choose-landmarks-requires : tie.Need-choose-landmarks-requires
 choose-landmarks-requires c κs = search needs
@@ -109,6 +114,7 @@ pub open-network-spec : {M : Type 1} → statement M
 open-network-spec =
     tie.close
     (tie.spec
+    cast-choose-landmarks
     choose-landmarks-requires
     mul-k
     mul-k-2

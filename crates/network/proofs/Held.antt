@@ -1,0 +1,77 @@
+-- A network of an edge table and landmarks: its opening is accepted, and so is every good query on it, with best values. Assumes nothing.
+use mathlib.Core.Path.{_≡_, refl, _∙_}
+use mathlib.Core.List.{List, [], map}
+use Prim.Native.Nat.{ℕ, _-_, _*_, _<_, _≤_}
+use native.Mathlib.Omega.{arith}
+use lib.ListN.{length, replicate, length-append, length-map, length-replicate}
+use borrow.Author.Tests.{le-ltb}
+use Rattle.property.specs.Property.{property}
+use Rattle.graph.specs.Limits.{maxEdges}
+use Rattle.graph.specs.Refusal.{accept, Reply, accepted, refused, verdictOf}
+use Rattle.graph.specs.Edge.{Edge}
+use Rattle.graph.specs.Table.{rules, size, shortTable, table}
+use Rattle.graph.specs.Route.{Best}
+use Rattle.graph.proofs.Tests.{or-false}
+use Rattle.graph.proofs.Records.{edges-back}
+use Rattle.graph.proofs.Verdicts.{not-accept, accept-then, accept-if}
+use Rattle.run.specs.Run.{word}
+use Rattle.network.specs.Network.{Network, edgesIn, rowCount, shortRows, landmarks, faults}
+use Rattle.network.specs.Open.{openCall}
+use Rattle.network.specs.Query.{Query, Words, queryCall}
+use Rattle.network.specs.Batch.{column}
+use Rattle.network.specs.Caller.{holding, opened}
+use Rattle.network.specs.Current.{queryBack}
+use Rattle.network.specs.History.{Holds}
+use Rattle.network.proofs.History.{history}
+
+-- ---- the lists that are held before the opening
+
+pub column-length : (f : Edge → ℕ) (es : List Edge) → length es ≤ maxEdges → length (column f es) ≡ maxEdges
+column-length f es l =
+    length-append (map f es) (replicate (maxEdges - length es) 0) ∙ omega (arith, length-map es f, length-replicate {A = ℕ} (maxEdges - length es) 0)
+
+module _ (es : List Edge) (ls : List ℕ) (n : ℕ) where
+  pub holding-edges : edgesIn (holding es ls n) ≡ es
+  holding-edges = edges-back es _ _ _
+
+  -- the lists are as long as they must be, and the records read from them are the edges, which keep the table's rules
+  pub holding-faults : size n ≡ accept → length es ≤ maxEdges → rules n es ≡ accept → landmarks n ls ≡ accept → faults n ls (holding es ls n) ≡ accept
+  holding-faults s l r c = accept-then s ∙ accept-then roomy ∙ accept-then long ∙ accept-then c ∙ kept
+    where
+      wide : (f : Edge → ℕ) → maxEdges ≤ length (column f es)
+      wide f = omega (arith, column-length f es l)
+
+      roomy : shortTable (holding es ls n .memory .table) ≡ accept
+      roomy = accept-if 2 0 (or-false (le-ltb _ maxEdges (wide (λ e. e .tail))) (or-false (le-ltb _ maxEdges (wide (λ e. e .head))) (le-ltb _ maxEdges (wide (λ e. e .weight)))))
+
+      row-list : rowCount ls * n ≤ length (replicate {A = ℕ} (rowCount ls * n) 0)
+      row-list = omega (arith, length-replicate {A = ℕ} (rowCount ls * n) 0)
+
+      long : shortRows n ls (holding es ls n .memory .rows) ≡ accept
+      long = accept-if 2 0 (or-false (le-ltb _ (rowCount ls * n) row-list) (le-ltb _ (rowCount ls * n) row-list))
+
+      kept : table n (holding es ls n .memory .table) (length es) ≡ accept
+      kept = accept-then (accept-if 4 0 (le-ltb maxEdges (length es) l)) ∙ rw holding-edges r
+
+-- ---- its opening, and queries on it
+
+reply-given : {A : Type 0} (r : Reply A) → verdictOf r ≡ accept → (a : A) × (r ≡ accepted a)
+unfolding verdictOf
+reply-given (accepted a) h = (a, refl)
+reply-given (refused k i) h = absurd (not-accept h)
+
+module _ (n : ℕ) (ls : List ℕ) (w : Network) (h : faults n ls w ≡ accept) where
+  pub opening-accepted : verdictOf ((openCall n ls w) .reply) ≡ accept
+  opening-accepted = (history n ls w) .judged ∙ h
+
+  -- the moment after the opening and no batch
+  begun : Holds n ls (edgesIn w) (opened n ls w)
+  begun = ((history n ls w) .later h []) .holds [] [] refl
+
+  module _ (q : Query) (out : Words) (g : queryBack n q out ≡ accept) where
+    pub query-accepted : verdictOf ((queryCall n ls (opened n ls w) q out) .reply) ≡ accept
+    query-accepted = begun .judged q out ∙ g
+
+    pub query-best : (t : ℕ) → t < n
+        → Best (property (q .property)) (edgesIn w) (q .source) t (word (property (q .property)) ((queryCall n ls (opened n ls w) q out) .memory .settled) t)
+    query-best t l = let (tally, e) = reply-given ((queryCall n ls (opened n ls w) q out) .reply) query-accepted in (begun .query q out tally e) .best t l
