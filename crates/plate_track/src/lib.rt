@@ -1,6 +1,7 @@
 // The calls for C. Each calls the proved call and spells its reply: the refusal number is returned, 0 where the call is accepted, and
 // the reply list gets the words of the answer, or the place of a refusal. A reply list of fewer than 8 words is number 2.
 use graph::Judged;
+use spelling::REPLY_WORDS;
 use spelling::spell;
 use spelling::unpack;
 ghost use mathlib.Core.Path.{_≡_};
@@ -31,7 +32,7 @@ pub extern "C" fn plate_track_open(
 ) -> u32
     ensures { λ k. ⌜ record { number = k; reply = now (reply .exit); memory = lists (now (tails .entry)) (now (heads .entry)) (now (weights .entry)) (now (forward .exit)) (now (backward .exit)) } ≡ spelled openWords (openCall n (now (landmarks .entry)) (network (now (tails .entry)) (now (heads .entry)) (now (weights .entry)) (now (forward .entry)) (now (backward .entry)) count)) (lists (now (tails .entry)) (now (heads .entry)) (now (weights .entry)) (now (forward .entry)) (now (backward .entry))) (now (reply .entry)) ⌝ }
 {
-    if reply.len() < 8 {
+    if reply.len() < REPLY_WORDS {
         return 2;
     }
     let r = open::open(
@@ -67,7 +68,7 @@ pub extern "C" fn plate_track_query(
 ) -> u32
     ensures { λ k. ⌜ record { number = k; reply = now (reply .exit); memory = wordsOf (now (starts .exit)) (now (settled .exit)) } ≡ spelled tallyWords (queryCall n (now (landmarks .entry)) (network (now (tails .entry)) (now (heads .entry)) (now (weights .entry)) (now (forward .entry)) (now (backward .entry)) count) (asking property source (now (schedule .entry))) (wordsOf (now (starts .entry)) (now (settled .entry)))) (wordsOf (now (starts .entry)) (now (settled .entry))) (now (reply .entry)) ⌝ }
 {
-    if reply.len() < 8 {
+    if reply.len() < REPLY_WORDS {
         return 2;
     }
     let r = query::query(
@@ -104,7 +105,7 @@ pub extern "C" fn plate_track_batch(
 ) -> u32
     ensures { λ k. ⌜ record { number = k; reply = now (reply .exit); memory = lists (now (tails .exit)) (now (heads .exit)) (now (weights .exit)) (now (forward .exit)) (now (backward .exit)) } ≡ spelled reportWords (batchCall n (now (landmarks .entry)) (network (now (tails .entry)) (now (heads .entry)) (now (weights .entry)) (now (forward .entry)) (now (backward .entry)) count) (changesOf (now (changes .entry)))) (lists (now (tails .entry)) (now (heads .entry)) (now (weights .entry)) (now (forward .entry)) (now (backward .entry))) (now (reply .entry)) ⌝ }
 {
-    if reply.len() < 8 {
+    if reply.len() < REPLY_WORDS {
         return 2;
     }
     let r = unpack::batch(
@@ -136,7 +137,7 @@ pub extern "C" fn plate_track_settled(
 ) -> u32
     ensures { λ k. ⌜ record { number = k; reply = now (reply .exit); memory = tt } ≡ spelled checkWords (alone (settledCall n (now (landmarks .entry)) (network (now (tails .entry)) (now (heads .entry)) (now (weights .entry)) (now (forward .entry)) (now (backward .entry)) count))) tt (now (reply .entry)) ⌝ }
 {
-    if reply.len() < 8 {
+    if reply.len() < REPLY_WORDS {
         return 2;
     }
     let r = inspect::settled::find_relaxable(
@@ -165,7 +166,7 @@ pub extern "C" fn plate_track_choose(
 ) -> u32
     ensures { λ number. ⌜ record { number = number; reply = now (reply .exit); memory = tt } ≡ spelled choiceWords (alone (choiceCall n (columns (now (tails .entry)) (now (heads .entry)) (now (weights .entry))) count k)) tt (now (reply .entry)) ⌝ }
 {
-    if reply.len() < 8 {
+    if reply.len() < REPLY_WORDS {
         return 2;
     }
     let r = inspect::choose::choose_landmarks(n, tails, heads, weights, count, k);
@@ -186,7 +187,7 @@ pub extern "C" fn plate_track_row(
 ) -> u32
     ensures { λ k. ⌜ record { number = k; reply = now (reply .exit); memory = tt } ≡ spelled oneWord (alone (lookupStart n (now (landmarks .entry)) (rowLists (now (forward .entry)) (now (backward .entry))) side landmark property)) tt (now (reply .entry)) ⌝ }
 {
-    if reply.len() < 8 {
+    if reply.len() < REPLY_WORDS {
         return 2;
     }
     let r = inspect::lookup::row_number(n, landmarks, forward, backward, side, landmark, property);
@@ -210,7 +211,7 @@ pub extern "C" fn plate_track_read(
 ) -> u32
     ensures { λ k. ⌜ record { number = k; reply = now (reply .exit); memory = columns (now (tails .exit)) (now (heads .exit)) (now (weights .exit)) } ≡ spelled sizeWords (readCall (now (text .entry)) (columns (now (tails .entry)) (now (heads .entry)) (now (weights .entry)))) (columns (now (tails .entry)) (now (heads .entry)) (now (weights .entry))) (now (reply .entry)) ⌝ }
 {
-    if reply.len() < 8 {
+    if reply.len() < REPLY_WORDS {
         return 2;
     }
     let r = reader::network::read_network(text, tails, heads, weights);
@@ -230,7 +231,7 @@ pub extern "C" fn plate_track_write(
 ) -> u32
     ensures { λ k. ⌜ record { number = k; reply = now (reply .exit); memory = now (text .exit) } ≡ spelled oneWord (writeCall n (columns (now (tails .entry)) (now (heads .entry)) (now (weights .entry))) count (now (text .entry))) (now (text .entry)) (now (reply .entry)) ⌝ }
 {
-    if reply.len() < 8 {
+    if reply.len() < REPLY_WORDS {
         return 2;
     }
     let r = writer::network::write_network(n, tails, heads, weights, count, text);
@@ -247,7 +248,7 @@ pub extern "C" fn plate_track_read_sources(
 ) -> u32
     ensures { λ k. ⌜ record { number = k; reply = now (reply .exit); memory = now (sources .exit) } ≡ spelled oneWord (sourcesCall n (now (text .entry)) (now (sources .entry))) (now (sources .entry)) (now (reply .entry)) ⌝ }
 {
-    if reply.len() < 8 {
+    if reply.len() < REPLY_WORDS {
         return 2;
     }
     let r = reader::sources::read_sources(n, text, sources);

@@ -17,6 +17,10 @@ ghost use Rattle.dimacs.specs.Call.{sourcesCall};
 ghost use Rattle.reader.specs.Capped.{capSources};
 ghost use Rattle.reader.specs.SourcesCode.{itemSaid, stateOf, stepOf, readOf, Held, Keeps, Whole, sourcesOutcome};
 
+// COUNT is at most this, and the lent list has at least as many words: `maxSources` of the definitions. It is a limit of the format, apart
+// from the number of vertices.
+pub const MAX_SOURCES: usize = 256;
+
 // What a line says that is no comment. Vertices count from 0.
 pub enum Said {
     Header(u32),
@@ -92,7 +96,7 @@ fn take_header(state: State, k: u32) -> Step
     let State::Start = state else {
         return Step::Stop;
     };
-    if 256 < k {
+    if MAX_SOURCES < k as usize {
         return Step::Stop;
     }
     Step::Next(State::Within(k, 0))
@@ -192,7 +196,7 @@ fn read_in(n: u32, text: &[u8], sources: &mut [u32], list: &mut [u32]) -> Source
     if let Judged::Refused(number, place) = size {
         return SourcesReply::Refused(number, place);
     }
-    if sources.len() < 256 {
+    if sources.len() < MAX_SOURCES {
         return SourcesReply::Refused(2, 0);
     }
     match read_text(n, text, list) {
@@ -204,10 +208,10 @@ fn read_in(n: u32, text: &[u8], sources: &mut [u32], list: &mut [u32]) -> Source
     }
 }
 
-// A source file of a network with `n` vertices into a list of at least 256 words: numbers 1, 2 and 14, or the count; vertices from 0.
+// A source file of a network with `n` vertices into a list of at least `MAX_SOURCES` words: numbers 1, 2 and 14, or the count; vertices from 0.
 pub fn read_sources(n: u32, text: &[u8], sources: &mut [u32]) -> SourcesReply
     ensures { λ r. ⌜ sourcesOutcome r (now (sources .exit)) ≡ sourcesCall n (now (text .entry)) (now (sources .entry)) ⌝ }
 {
-    let mut list = [0u32; 256];
+    let mut list = [0u32; MAX_SOURCES];
     read_in(n, text, sources, &mut list)
 }

@@ -1,4 +1,4 @@
-// Numbers and fields of a line, by positions. A number is held at 65,536 where it is greater: every limit lies below, and it never wraps.
+// Numbers and fields of a line, by positions. A number is held at `CAP` where it is greater, so that it never wraps.
 ghost use mathlib.Core.Path.{_≡_};
 ghost use mathlib.Core.Bool.{true};
 ghost use Prim.Native.Nat.{_+_, _-_, _*_, _≤_};
@@ -7,6 +7,10 @@ ghost use Rattle.dimacs.specs.Decimal.{isDigit, number};
 ghost use Rattle.dimacs.specs.Read.{fields};
 ghost use Rattle.scanner.specs.Capped.{cap, capScan, capNumber, capFields, starts, field};
 ghost use Rattle.scanner.specs.Code.{scanned, parsed, endOf, oneOf, twoOf, threeOf};
+
+// Any number above every limit serves, since no limit tells it from a greater one, and the greatest limit is a weight's 65,535. `cap` of
+// specs/Capped.antt goes by the same number.
+const CAP: u32 = 65536;
 
 // A number and the position after its last digit.
 pub struct Scanned {
@@ -52,7 +56,7 @@ fn push(value: u32, b: u8) -> u32
     ensures { λ r. ⌜ r ≡ cap (value * 10 + (b - 48)) ⌝ }
 {
     let x = value * 10 + (b as u32 - 48);
-    if x < 65536 { x } else { 65536 }
+    if x < CAP { x } else { CAP }
 }
 
 // The digits from `start` on, after a first one of that value.

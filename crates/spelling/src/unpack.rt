@@ -36,13 +36,13 @@ pub fn batch(
     ensures { λ r. ⌜ batchOutcome r (now (tails .exit)) (now (heads .exit)) (now (weights .exit)) (now (forward .exit)) (now (backward .exit)) ≡ batchCall n (now (landmarks .entry)) (network (now (tails .entry)) (now (heads .entry)) (now (weights .entry)) (now (forward .entry)) (now (backward .entry)) count) (changesOf (now (changes .entry))) ⌝ }
 {
     let m = changes.len();
-    if m > 1024 {
+    if m > graph::MAX_BATCH {
         return Applied::Refused(1, 0);
     }
-    let mut kinds = [0u32; 1024];
-    let mut froms = [0u32; 1024];
-    let mut tos = [0u32; 1024];
-    let mut values = [0u32; 1024];
+    let mut kinds = [0u32; graph::MAX_BATCH];
+    let mut froms = [0u32; graph::MAX_BATCH];
+    let mut tos = [0u32; graph::MAX_BATCH];
+    let mut values = [0u32; graph::MAX_BATCH];
     column(changes, 0, &mut kinds);
     column(changes, 1, &mut froms);
     column(changes, 2, &mut tos);

@@ -4,6 +4,7 @@ use mathlib.Core.Path.{ap, _∙_}
 use mathlib.Core.List.{List}
 use Prim.Native.Nat.{ℕ}
 use lib.ListN.{replicate}
+use Rattle.graph.specs.Limits.{maxBatch}
 use Rattle.network.specs.Change.{Change}
 use Rattle.network.specs.Batch.{batchCall}
 use Rattle.calls.specs.Code.{network}
@@ -42,25 +43,25 @@ array-share-prefix-kinds : tie.Need-array-share-prefix-kinds
 array-share-prefix-kinds c = search needs
 
 slice-aggregate-batch-lists : tie.Need-slice-aggregate-batch-lists
-slice-aggregate-batch-lists c = column-length (c .before .before .before .before .before .before .before .before .before .before .before .before .before .before .before .before .before .before .before .before .before .before .before .before .before .args .changes .now) _ (replicate 1024 0) (c .before .before .before .before .before .before .before .before .before .before .before .before .before .before .before .before .column .ensures)
+slice-aggregate-batch-lists c = column-length (c .before .before .before .before .before .before .before .before .before .before .before .before .before .before .before .before .before .before .before .before .before .before .before .before .before .args .changes .now) _ (replicate maxBatch 0) (c .before .before .before .before .before .before .before .before .before .before .before .before .before .before .before .before .column .ensures)
 
 array-share-prefix-froms : tie.Need-array-share-prefix-froms
 array-share-prefix-froms c = search needs
 
 slice-aggregate-batch-lists-2 : tie.Need-slice-aggregate-batch-lists-2
-slice-aggregate-batch-lists-2 c = column-length (c .before .before .before .before .before .before .before .before .before .before .before .before .before .before .before .before .before .before .before .before .before .before .before .before .before .before .args .changes .now) _ (replicate 1024 0) (c .before .before .before .before .before .before .before .before .before .before .before .before .before .before .column2 .ensures)
+slice-aggregate-batch-lists-2 c = column-length (c .before .before .before .before .before .before .before .before .before .before .before .before .before .before .before .before .before .before .before .before .before .before .before .before .before .before .args .changes .now) _ (replicate maxBatch 0) (c .before .before .before .before .before .before .before .before .before .before .before .before .before .before .column2 .ensures)
 
 array-share-prefix-tos : tie.Need-array-share-prefix-tos
 array-share-prefix-tos c = search needs
 
 slice-aggregate-batch-lists-3 : tie.Need-slice-aggregate-batch-lists-3
-slice-aggregate-batch-lists-3 c = column-length (c .before .before .before .before .before .before .before .before .before .before .before .before .before .before .before .before .before .before .before .before .before .before .before .before .before .before .before .args .changes .now) _ (replicate 1024 0) (c .before .before .before .before .before .before .before .before .before .before .before .before .column3 .ensures)
+slice-aggregate-batch-lists-3 c = column-length (c .before .before .before .before .before .before .before .before .before .before .before .before .before .before .before .before .before .before .before .before .before .before .before .before .before .before .before .args .changes .now) _ (replicate maxBatch 0) (c .before .before .before .before .before .before .before .before .before .before .before .before .column3 .ensures)
 
 array-share-prefix-values : tie.Need-array-share-prefix-values
 array-share-prefix-values c = search needs
 
 slice-aggregate-batch-lists-4 : tie.Need-slice-aggregate-batch-lists-4
-slice-aggregate-batch-lists-4 c = column-length (c .before .before .before .before .before .before .before .before .before .before .before .before .before .before .before .before .before .before .before .before .before .before .before .before .before .before .before .before .args .changes .now) _ (replicate 1024 0) (c .before .before .before .before .before .before .before .before .before .before .column4 .ensures)
+slice-aggregate-batch-lists-4 c = column-length (c .before .before .before .before .before .before .before .before .before .before .before .before .before .before .before .before .before .before .before .before .before .before .before .before .before .before .before .before .args .changes .now) _ (replicate maxBatch 0) (c .before .before .before .before .before .before .before .before .before .before .column4 .ensures)
 
 batch-lists-requires : tie.Need-batch-lists-requires
 batch-lists-requires c κs = search needs
@@ -86,7 +87,7 @@ returns-2 c =
     let v = o .before in
     let a = v .before .before .before .before .before .before .before .before .before .before .before .before .before .before .before .before .before .before .before .before .before .before .before .before .before .before .before .before .args in
     let cs = a .changes .now in
-    let z : List ℕ = replicate 1024 0 in
+    let z : List ℕ = replicate maxBatch 0 in
     let e =
     changes-read cs (column-read cs 0 z (v .before .before .before .before .before .before .before .before .before .before .before .before .before .before .before .before .before .before .before .column .ensures)) (column-read cs 1 z (v .before .before .before .before .before .before .before .before .before .before .before .before .before .before .before .before .column2 .ensures)) (column-read cs 2 z (v .before .before .before .before .before .before .before .before .before .before .before .before .before .column3 .ensures))
     (column-read cs 3 z (v .before .before .before .before .before .before .before .before .before .before .column4 .ensures)) in
