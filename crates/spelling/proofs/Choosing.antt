@@ -11,7 +11,7 @@ use Rattle.graph.proofs.Verdicts.{not-accept}
 use Rattle.inspect.specs.declared.Chosen.{Chosen}
 use Rattle.inspect.specs.Code.{Written, written, choosing, padded}
 use Rattle.spelling.specs.Code.{replyWords, Tells, choiceWords}
-use Rattle.spelling.proofs.Telling.{set-five, refused-tells, accepted-tells}
+use Rattle.spelling.proofs.Telling.{setAll-over, refused-tells, accepted-tells}
 
 -- a list of four words is the list of its four words
 four : (vs : List ℕ) → length vs ≡ 4 → getD vs 0 0 ∷ getD vs 1 0 ∷ getD vs 2 0 ∷ getD vs 3 0 ∷ [] ≡ vs
@@ -50,4 +50,4 @@ module _ (r : Chosen) (xs : List ℕ) (l : replyWords ≤ length xs) where
       ap (λ (ys : List ℕ). r .choice .count ∷ ys) (four vs h)
       ∙ ap (λ (w : Written). w .count ∷ w .vertices) e in
       accepted-tells choiceWords xs l us
-      (set-five xs (r .choice .count) (getD vs 0 0) (getD vs 1 0) (getD vs 2 0) (getD vs 3 0) (omega arith) ∙ ap (λ (ys : List ℕ). over ys xs) z)
+      (setAll-over (r .choice .count ∷ getD vs 0 0 ∷ getD vs 1 0 ∷ getD vs 2 0 ∷ getD vs 3 0 ∷ []) xs (omega arith) ∙ ap (λ (ys : List ℕ). over ys xs) z)

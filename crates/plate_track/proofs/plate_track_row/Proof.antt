@@ -2,11 +2,12 @@
 use borrow.Author.Needs.{needs}
 use native.Mathlib.Omega.{arith}
 use mathlib.Core.Path.{ap, _∙_}
+use mathlib.Core.List.{[], _∷_}
 use Prim.Native.Nat.{ℕ, _*_}
 use Rattle.network.specs.Query.{rowAt}
 use Rattle.inspect.proofs.LookupLaws.{Shown, lookup-accept}
 use Rattle.spelling.specs.Code.{oneWord}
-use Rattle.spelling.proofs.Telling.{set-one, refused-tells, accepted-tells}
+use Rattle.spelling.proofs.Telling.{setAll-over, refused-tells, accepted-tells}
 use Rattle.plate_track.specs.Code.{alone}
 use Rattle.plate_track.proofs.Spelling.{spelled-short, spelled-told}
 use Rattle.plate_track.proofs.Rows.{start-refused, start-shown}
@@ -72,7 +73,7 @@ returns-3 c =
     let e = c .row-start .ensures ∙ ap (λ (i : ℕ). rowAt i (a .property) * a .n) (c .before .index-of .ensures) in
     spelled-told oneWord _ _ _ _ (o .before .if1 .left)
     (ap alone (start-shown _ _ _ _ _ _ _ (o .row-number .ensures) _ (d .enum-told .given .1) e))
-    (accepted-tells oneWord (a .reply .now) (o .before .if1 .left) (c .row-start .result) (set-one (a .reply .now) (c .row-start .result) (omega arith)))
+    (accepted-tells oneWord (a .reply .now) (o .before .if1 .left) (c .row-start .result) (setAll-over (c .row-start .result ∷ []) (a .reply .now) (omega arith)))
 
 pub plate-track-row-spec : {M : Type 1} → statement M
 plate-track-row-spec =

@@ -1,9 +1,10 @@
 -- `spelling::spell::spell_batch` meets its contract. Assumes nothing.
+use mathlib.Core.List.{[], _∷_}
 use borrow.Author.Needs.{needs}
 use native.Mathlib.Omega.{arith}
 use Rattle.apply.specs.Code.{applying, reporting}
 use Rattle.spelling.specs.Code.{reportWords}
-use Rattle.spelling.proofs.Telling.{set-three, refused-tells, accepted-tells, within-one, within-two}
+use Rattle.spelling.proofs.Telling.{setAll-over, setAll-within, refused-tells, accepted-tells}
 use Rattle.spelling.proofs.spell.spell_batch.Statement.{statement}
 use Rattle.spelling.proofs.spell.spell_batch.Tie as tie
 
@@ -17,10 +18,10 @@ slice-write-reply : tie.Need-slice-write-reply
 slice-write-reply c = search needs
 
 slice-write-reply-2 : tie.Need-slice-write-reply-2
-slice-write-reply-2 c = within-one (c .before .before .before .before .args .reply .now) (c .before .before .r .given .0 .0 .count) 1 (omega arith)
+slice-write-reply-2 c = setAll-within (c .before .before .r .given .0 .0 .count ∷ []) (c .before .before .before .before .args .reply .now) 1 (omega arith)
 
 slice-write-reply-3 : tie.Need-slice-write-reply-3
-slice-write-reply-3 c = within-two (c .before .before .before .before .args .reply .now) (c .before .before .r .given .0 .0 .count) (c .before .before .r .given .0 .0 .affected) 2 (omega arith)
+slice-write-reply-3 c = setAll-within (c .before .before .r .given .0 .0 .count ∷ c .before .before .r .given .0 .0 .affected ∷ []) (c .before .before .before .before .args .reply .now) 2 (omega arith)
 
 enum-known-r-2 : tie.Need-enum-known-r-2
 enum-known-r-2 c = search needs
@@ -36,7 +37,7 @@ unfolding applying
 returns c =
     let s = c .before .before .before .before in
     let t = c .before .before .r .given .0 .0 in
-    rw (c .before .before .r .given .1) (accepted-tells reportWords (s .args .reply .now) (omega arith) (reporting t) (set-three (s .args .reply .now) (t .count) (t .affected) (t .stores) (omega arith)))
+    rw (c .before .before .r .given .1) (accepted-tells reportWords (s .args .reply .now) (omega arith) (reporting t) (setAll-over (t .count ∷ t .affected ∷ t .stores ∷ []) (s .args .reply .now) (omega arith)))
 
 same-length-2 : tie.Need-same-length-2
 same-length-2 c = search needs

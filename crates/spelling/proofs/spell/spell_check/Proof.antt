@@ -1,10 +1,11 @@
 -- `spelling::spell::spell_check` meets its contract. Assumes nothing.
+use mathlib.Core.List.{[], _∷_}
 use borrow.Author.Needs.{needs}
 use native.Mathlib.Omega.{arith}
 use Rattle.network.specs.Settled.{settled, found}
 use Rattle.inspect.specs.Code.{checking}
 use Rattle.spelling.specs.Code.{checkWords}
-use Rattle.spelling.proofs.Telling.{set-one, set-four, refused-tells, accepted-tells, within-one, within-two, within-three}
+use Rattle.spelling.proofs.Telling.{setAll-over, setAll-within, refused-tells, accepted-tells}
 use Rattle.spelling.proofs.spell.spell_check.Statement.{statement}
 use Rattle.spelling.proofs.spell.spell_check.Tie as tie
 
@@ -24,13 +25,13 @@ cast-reply : tie.Need-cast-reply
 cast-reply c = search needs
 
 slice-write-reply-3 : tie.Need-slice-write-reply-3
-slice-write-reply-3 c = within-one (c .before .before .before .args .reply .now) 0 1 (omega arith)
+slice-write-reply-3 c = setAll-within (0 ∷ []) (c .before .before .before .args .reply .now) 1 (omega arith)
 
 slice-write-reply-4 : tie.Need-slice-write-reply-4
-slice-write-reply-4 c = within-two (c .before .before .before .args .reply .now) 0 (c .before .r .given .0 .0) 2 (omega arith)
+slice-write-reply-4 c = setAll-within (0 ∷ c .before .r .given .0 .0 ∷ []) (c .before .before .before .args .reply .now) 2 (omega arith)
 
 slice-write-reply-5 : tie.Need-slice-write-reply-5
-slice-write-reply-5 c = within-three (c .before .before .before .args .reply .now) 0 (c .before .r .given .0 .0) (c .before .r .given .0 .1 .0) 3 (omega arith)
+slice-write-reply-5 c = setAll-within (0 ∷ c .before .r .given .0 .0 ∷ c .before .r .given .0 .1 .0 ∷ []) (c .before .before .before .args .reply .now) 3 (omega arith)
 
 enum-known-r-2 : tie.Need-enum-known-r-2
 enum-known-r-2 c = search needs
@@ -45,7 +46,7 @@ returns : tie.Need-returns
 unfolding checking checkWords
 returns c =
     let s = c .before .before in
-    rw (c .enum-told .given .1) (accepted-tells checkWords (s .args .reply .now) (omega arith) settled (set-one (s .args .reply .now) 1 (omega arith)))
+    rw (c .enum-told .given .1) (accepted-tells checkWords (s .args .reply .now) (omega arith) settled (setAll-over (1 ∷ []) (s .args .reply .now) (omega arith)))
 
 same-length-2 : tie.Need-same-length-2
 same-length-2 c = search needs
@@ -55,7 +56,7 @@ unfolding checking checkWords
 returns-2 c =
     let s = c .before .before .before in
     let g = c .before .r .given .0 in
-    rw (c .before .r .given .1) (accepted-tells checkWords (s .args .reply .now) (omega arith) (found (g .0) (g .1 .0) (g .1 .1 .0)) (set-four (s .args .reply .now) 0 (g .0) (g .1 .0) (g .1 .1 .0) (omega arith)))
+    rw (c .before .r .given .1) (accepted-tells checkWords (s .args .reply .now) (omega arith) (found (g .0) (g .1 .0) (g .1 .1 .0)) (setAll-over (0 ∷ g .0 ∷ g .1 .0 ∷ g .1 .1 .0 ∷ []) (s .args .reply .now) (omega arith)))
 
 same-length-3 : tie.Need-same-length-3
 same-length-3 c = search needs

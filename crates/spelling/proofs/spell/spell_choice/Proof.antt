@@ -1,8 +1,9 @@
 -- `spelling::spell::spell_choice` meets its contract. Assumes nothing.
+use mathlib.Core.List.{[], _∷_}
 use borrow.Author.Needs.{needs}
 use native.Mathlib.Omega.{arith}
 use lib.ListN.{getD}
-use Rattle.spelling.proofs.Telling.{within-one, within-two, within-three, within-four}
+use Rattle.spelling.proofs.Telling.{setAll-within}
 use Rattle.spelling.proofs.Choosing.{choice-refused, choice-accepted}
 use Rattle.spelling.proofs.spell.spell_choice.Statement.{statement}
 use Rattle.spelling.proofs.spell.spell_choice.Tie as tie
@@ -32,7 +33,7 @@ cast-reply : tie.Need-cast-reply
 cast-reply c = search needs
 
 slice-write-reply-3 : tie.Need-slice-write-reply-3
-slice-write-reply-3 c = within-one (c .before .before .before .before .args .reply .now) (c .before .before .before .before .args .r .choice .count) 1 (omega arith)
+slice-write-reply-3 c = setAll-within (c .before .before .before .before .args .r .choice .count ∷ []) (c .before .before .before .before .args .reply .now) 1 (omega arith)
 
 array-read-reply-2 : tie.Need-array-read-reply-2
 array-read-reply-2 c = search needs
@@ -41,7 +42,7 @@ cast-reply-2 : tie.Need-cast-reply-2
 cast-reply-2 c = search needs
 
 slice-write-reply-4 : tie.Need-slice-write-reply-4
-slice-write-reply-4 c = within-two (c .before .before .before .before .args .reply .now) (c .before .before .before .before .args .r .choice .count) (getD (c .before .before .before .before .args .r .choice .vertices) 0 0) 2 (omega arith)
+slice-write-reply-4 c = setAll-within (c .before .before .before .before .args .r .choice .count ∷ getD (c .before .before .before .before .args .r .choice .vertices) 0 0 ∷ []) (c .before .before .before .before .args .reply .now) 2 (omega arith)
 
 array-read-reply-3 : tie.Need-array-read-reply-3
 array-read-reply-3 c = search needs
@@ -50,7 +51,7 @@ cast-reply-3 : tie.Need-cast-reply-3
 cast-reply-3 c = search needs
 
 slice-write-reply-5 : tie.Need-slice-write-reply-5
-slice-write-reply-5 c = within-three (c .before .before .before .before .args .reply .now) (c .before .before .before .before .args .r .choice .count) (getD (c .before .before .before .before .args .r .choice .vertices) 0 0) (getD (c .before .before .before .before .args .r .choice .vertices) 1 0) 3 (omega arith)
+slice-write-reply-5 c = setAll-within (c .before .before .before .before .args .r .choice .count ∷ getD (c .before .before .before .before .args .r .choice .vertices) 0 0 ∷ getD (c .before .before .before .before .args .r .choice .vertices) 1 0 ∷ []) (c .before .before .before .before .args .reply .now) 3 (omega arith)
 
 array-read-reply-4 : tie.Need-array-read-reply-4
 array-read-reply-4 c = search needs
@@ -59,7 +60,7 @@ cast-reply-4 : tie.Need-cast-reply-4
 cast-reply-4 c = search needs
 
 slice-write-reply-6 : tie.Need-slice-write-reply-6
-slice-write-reply-6 c = within-four (c .before .before .before .before .args .reply .now) (c .before .before .before .before .args .r .choice .count) (getD (c .before .before .before .before .args .r .choice .vertices) 0 0) (getD (c .before .before .before .before .args .r .choice .vertices) 1 0) (getD (c .before .before .before .before .args .r .choice .vertices) 2 0) 4 (omega arith)
+slice-write-reply-6 c = setAll-within (c .before .before .before .before .args .r .choice .count ∷ getD (c .before .before .before .before .args .r .choice .vertices) 0 0 ∷ getD (c .before .before .before .before .args .r .choice .vertices) 1 0 ∷ getD (c .before .before .before .before .args .r .choice .vertices) 2 0 ∷ []) (c .before .before .before .before .args .reply .now) 4 (omega arith)
 
 same-length-2 : tie.Need-same-length-2
 same-length-2 c = search needs

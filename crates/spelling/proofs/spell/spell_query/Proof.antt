@@ -1,10 +1,11 @@
 -- `spelling::spell::spell_query` meets its contract. Assumes nothing.
+use mathlib.Core.List.{[], _∷_}
 use borrow.Author.Needs.{needs}
 use native.Mathlib.Omega.{arith}
 use Rattle.run.specs.Code.{counts}
 use Rattle.query.specs.Code.{answering}
 use Rattle.spelling.specs.Code.{tallyWords}
-use Rattle.spelling.proofs.Telling.{set-three, refused-tells, accepted-tells, within-one, within-two}
+use Rattle.spelling.proofs.Telling.{setAll-over, setAll-within, refused-tells, accepted-tells}
 use Rattle.spelling.proofs.spell.spell_query.Statement.{statement}
 use Rattle.spelling.proofs.spell.spell_query.Tie as tie
 
@@ -15,10 +16,10 @@ slice-write-reply : tie.Need-slice-write-reply
 slice-write-reply c = search needs
 
 slice-write-reply-2 : tie.Need-slice-write-reply-2
-slice-write-reply-2 c = within-one (c .before .before .before .args .reply .now) (c .before .r .given .0 .0 .taken) 1 (omega arith)
+slice-write-reply-2 c = setAll-within (c .before .r .given .0 .0 .taken ∷ []) (c .before .before .before .args .reply .now) 1 (omega arith)
 
 slice-write-reply-3 : tie.Need-slice-write-reply-3
-slice-write-reply-3 c = within-two (c .before .before .before .args .reply .now) (c .before .r .given .0 .0 .taken) (c .before .r .given .0 .0 .rounds) 2 (omega arith)
+slice-write-reply-3 c = setAll-within (c .before .r .given .0 .0 .taken ∷ c .before .r .given .0 .0 .rounds ∷ []) (c .before .before .before .args .reply .now) 2 (omega arith)
 
 enum-known-r-2 : tie.Need-enum-known-r-2
 enum-known-r-2 c = search needs
@@ -34,7 +35,7 @@ unfolding answering
 returns c =
     let s = c .before .before .before in
     let t = c .before .r .given .0 .0 in
-    rw (c .before .r .given .1) (accepted-tells tallyWords (s .args .reply .now) (omega arith) (counts t) (set-three (s .args .reply .now) (t .taken) (t .rounds) (t .stores) (omega arith)))
+    rw (c .before .r .given .1) (accepted-tells tallyWords (s .args .reply .now) (omega arith) (counts t) (setAll-over (t .taken ∷ t .rounds ∷ t .stores ∷ []) (s .args .reply .now) (omega arith)))
 
 same-length-2 : tie.Need-same-length-2
 same-length-2 c = search needs

@@ -1,9 +1,10 @@
 -- `spelling::spell::spell_read` meets its contract. Assumes nothing.
+use mathlib.Core.List.{[], _∷_}
 use borrow.Author.Needs.{needs}
 use native.Mathlib.Omega.{arith}
 use Rattle.reader.specs.NetworkCode.{reading}
 use Rattle.spelling.specs.Code.{sizeWords}
-use Rattle.spelling.proofs.Telling.{set-two, refused-tells, accepted-tells, within-one}
+use Rattle.spelling.proofs.Telling.{setAll-over, setAll-within, refused-tells, accepted-tells}
 use Rattle.spelling.proofs.spell.spell_read.Statement.{statement}
 use Rattle.spelling.proofs.spell.spell_read.Tie as tie
 
@@ -20,7 +21,7 @@ cast-reply-2 : tie.Need-cast-reply-2
 cast-reply-2 c = search needs
 
 slice-write-reply-2 : tie.Need-slice-write-reply-2
-slice-write-reply-2 c = within-one (c .before .before .before .args .reply .now) (c .before .r .given .0 .0) 1 (omega arith)
+slice-write-reply-2 c = setAll-within (c .before .r .given .0 .0 ∷ []) (c .before .before .before .args .reply .now) 1 (omega arith)
 
 enum-known-r-2 : tie.Need-enum-known-r-2
 enum-known-r-2 c = search needs
@@ -36,7 +37,7 @@ unfolding reading
 returns c =
     let s = c .before .before .before in
     let t = c .before .r .given .0 in
-    rw (c .before .r .given .1) (accepted-tells sizeWords (s .args .reply .now) (omega arith) (record { vertices = t .0; count = t .1 .0 }) (set-two (s .args .reply .now) (t .0) (t .1 .0) (omega arith)))
+    rw (c .before .r .given .1) (accepted-tells sizeWords (s .args .reply .now) (omega arith) (record { vertices = t .0; count = t .1 .0 }) (setAll-over (t .0 ∷ t .1 .0 ∷ []) (s .args .reply .now) (omega arith)))
 
 same-length-2 : tie.Need-same-length-2
 same-length-2 c = search needs

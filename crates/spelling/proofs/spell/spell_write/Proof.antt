@@ -1,9 +1,10 @@
 -- `spelling::spell::spell_write` meets its contract. Assumes nothing.
+use mathlib.Core.List.{[], _∷_}
 use borrow.Author.Needs.{needs}
 use native.Mathlib.Omega.{arith}
 use Rattle.writer.specs.Code.{writing}
 use Rattle.spelling.specs.Code.{oneWord}
-use Rattle.spelling.proofs.Telling.{set-one, refused-tells, accepted-tells}
+use Rattle.spelling.proofs.Telling.{setAll-over, refused-tells, accepted-tells}
 use Rattle.spelling.proofs.spell.spell_write.Statement.{statement}
 use Rattle.spelling.proofs.spell.spell_write.Tie as tie
 
@@ -27,7 +28,7 @@ unfolding writing
 returns c =
     let s = c .before .before .before in
     let t = c .before .r .given .0 .0 in
-    rw (c .before .r .given .1) (accepted-tells oneWord (s .args .reply .now) (omega arith) t (set-one (s .args .reply .now) t (omega arith)))
+    rw (c .before .r .given .1) (accepted-tells oneWord (s .args .reply .now) (omega arith) t (setAll-over (t ∷ []) (s .args .reply .now) (omega arith)))
 
 same-length-2 : tie.Need-same-length-2
 same-length-2 c = search needs
