@@ -3,8 +3,12 @@
 --   rowWords                           == the words of a row list, enough for any network: 5,120
 --   maxLine                            == the longest line has 77 bytes: seven numbers of at most ten digits, six spaces and a line feed
 --   maxFirst                           == the first line has at most 51 bytes: the header, while a refusal has at most 50
+--   TableLists ts hs ws                == three lists of 2,048 words
+--   RowLists f b                       == two lists with room for the rows of any network
+--   LinesFit n xs                      == n is at most 256, and xs has room for a line of each of n vertices
 --   settledRow n ls w s p              == the settled words of a query for property p from s, with an empty schedule
 --   Rows n a b c d e                   == five rows have a word for each of n vertices
+--   Whole n a b c d e                  == they have no more
 --   rowsLine s t rs                    == the line of source s and vertex t, with the vertex's word of each row of rs
 --   rowsLines s ts rs                  == the lines of source s and the vertices ts
 --   Loaded n es ts hs ws m             == three lists of 2,048 words hold the table of the edges es, m of them, and zeros past them
@@ -13,7 +17,9 @@
 --   SourcesRead n ss r xs              == the reply r to reading deck.ss tells its verdict, and where it is read, its sources stand in front of xs
 --   partsOf v d ss                     == what is printed under the verdict v, piece by piece: a refusal, or the header and each source's lines
 --   parts gr ss                        == the output for two files, piece by piece
+--   Refuses k i p                      == a Prepared of a refused file: number k at place i, and nothing to list
 --   Bounded p xs f b                   == the numbers of a Prepared are within the lists that belong to it
+--   Printable p xs f b out             == so they are, and out has room for the lines of a source
 --   Running gr ss p ts hs ws xs f b    == the lists hold the opened network and the sources of two good files
 --   Shown gr ss p ts hs ws xs f b      == a Prepared tells the verdict of two files, and where it accepts, the lists hold them
 use mathlib.Core.Path.{_≡_}
@@ -21,6 +27,7 @@ use mathlib.Core.List.{List, [], _∷_, _++_, map}
 use Prim.Native.Nat.{ℕ, suc, _*_, _≤_}
 use lib.ListN.{length, getD, take, replicate}
 use Rattle.property.specs.Property.{properties}
+use Rattle.graph.specs.declared.Judged.the-variants.{Refused}
 use Rattle.graph.specs.Limits.{maxVertices, maxEdges, maxLandmarks}
 use Rattle.graph.specs.Refusal.{Verdict, accept, refuse}
 use Rattle.graph.specs.Edge.{Edge, range}
@@ -50,6 +57,19 @@ maxLine = 77
 abbrev pub maxFirst : ℕ
 maxFirst = 51
 
+pub record TableLists (ts hs ws : List ℕ) : Type 0 where
+  pub tails : length ts ≡ maxEdges
+  pub heads : length hs ≡ maxEdges
+  pub weights : length ws ≡ maxEdges
+
+pub record RowLists (f b : List ℕ) : Type 0 where
+  pub forward : rowWords ≤ length f
+  pub backward : rowWords ≤ length b
+
+pub record LinesFit (n : ℕ) (xs : List ℕ) : Type 0 where
+  pub vertices : n ≤ maxVertices
+  pub room : maxLine * n ≤ length xs
+
 -- ---- the lines of a source
 
 abbrev pub settledRow : ℕ → List ℕ → Network → ℕ → ℕ → List ℕ
@@ -62,6 +82,13 @@ pub record Rows (n : ℕ) (a b c d e : List ℕ) : Type 0 where
   pub sswp : n ≤ length c
   pub ssnp : n ≤ length d
   pub ssr : n ≤ length e
+
+pub record Whole (n : ℕ) (a b c d e : List ℕ) : Type 0 where
+  pub sssp : length a ≡ n
+  pub bfs : length b ≡ n
+  pub sswp : length c ≡ n
+  pub ssnp : length d ≡ n
+  pub ssr : length e ≡ n
 
 abbrev pub rowsLine : ℕ → ℕ → List (List ℕ) → List ℕ
 rowsLine s t rs = spaced (suc s ∷ suc t ∷ map (λ r. getD r t 0) rs)
@@ -100,13 +127,23 @@ partsOf (refuse k i) d ss = refusedLine k i ∷ []
 abbrev pub parts : List ℕ → List ℕ → List (List ℕ)
 parts gr ss = let r = readNetwork gr in partsOf (filesVerdict gr ss) (graphOf r) (sourcesRead (readSources (vertexCount r) ss))
 
+pub record Refuses (k i : ℕ) (p : Prepared) : Type 0 where
+  pub verdict : p .verdict ≡ Refused k i
+  pub vertices : p .n ≡ 0
+  pub landmarks : p .choice .count ≡ 0
+  pub places : length (p .choice .vertices) ≡ maxLandmarks
+  pub sources : p .sources ≡ 0
+
 pub record Bounded (p : Prepared) (xs f b : List ℕ) : Type 0 where
   pub vertices : p .n ≤ maxVertices
   pub landmarks : p .choice .count ≤ maxLandmarks
   pub places : length (p .choice .vertices) ≡ maxLandmarks
   pub sources : p .sources ≤ length xs
-  pub forward : rowWords ≤ length f
-  pub backward : rowWords ≤ length b
+  pub rows : RowLists f b
+
+pub record Printable (p : Prepared) (xs f b out : List ℕ) : Type 0 where
+  pub bounded : Bounded p xs f b
+  pub room : maxLine * maxVertices ≤ length out
 
 pub record Running (gr ss : List ℕ) (p : Prepared) (ts hs ws xs f b : List ℕ) : Type 0 where
   pub vertices : p .n ≡ vertexCount (readNetwork gr)

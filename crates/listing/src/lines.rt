@@ -3,14 +3,14 @@ use graph::words;
 use writer::put;
 ghost use mathlib.Core.Path.{_≡_};
 ghost use mathlib.Core.List.{List, [], _∷_};
-ghost use Prim.Native.Nat.{_+_, _*_, _≤_};
+ghost use Prim.Native.Nat.{_+_, _≤_};
 ghost use lib.ListN.{length};
 ghost use Rattle.graph.specs.Limits.{maxVertices};
 ghost use Rattle.graph.specs.Edge.{Edge, range};
 ghost use Rattle.calls.specs.Code.{network};
 ghost use Rattle.writer.specs.Code.{Fits, Wrote};
 ghost use Rattle.listing.specs.Listing.{graph, landmarksOf, linesOf, refusedLine, header};
-ghost use Rattle.listing.specs.Code.{maxLine, maxFirst, settledRow, Rows, rowsLine, rowsLines};
+ghost use Rattle.listing.specs.Code.{maxFirst, LinesFit, settledRow, Rows, Whole, rowsLine, rowsLines};
 
 // The settled words of a query with an empty schedule.
 fn settle_row(
@@ -88,7 +88,7 @@ fn put_vertices(
     out: &mut [u8],
 ) -> usize
     requires { ⌜ Rows n (now sssp) (now bfs) (now sswp) (now ssnp) (now ssr) ⌝ }
-    requires { ⌜ (n ≤ maxVertices) × (maxLine * n ≤ length (now out)) ⌝ }
+    requires { ⌜ LinesFit n (now out) ⌝ }
     ensures { λ r. ⌜ Wrote (rowsLines source (range 0 n) (now (sssp .entry) ∷ now (bfs .entry) ∷ now (sswp .entry) ∷ now (ssnp .entry) ∷ now (ssr .entry) ∷ [])) 0 (now (out .entry)) r (now (out .exit)) ⌝ }
     ensures { λ r. ⌜ r ≤ length (now (out .exit)) ⌝ }
 {
@@ -119,8 +119,8 @@ fn put_source_in(
     ssr: &mut [u32],
     out: &mut [u8],
 ) -> usize
-    requires { ⌜ (n ≤ maxVertices) × (maxLine * n ≤ length (now out)) ⌝ }
-    requires { ⌜ (length (now sssp) ≡ n) × (length (now bfs) ≡ n) × (length (now sswp) ≡ n) × (length (now ssnp) ≡ n) × (length (now ssr) ≡ n) ⌝ }
+    requires { ⌜ LinesFit n (now out) ⌝ }
+    requires { ⌜ Whole n (now sssp) (now bfs) (now sswp) (now ssnp) (now ssr) ⌝ }
     ensures { λ r. ⌜ ((es : List Edge) → landmarksOf (graph n es) ≡ now (landmarks .entry) → Wrote (linesOf (graph n es) (network (now (tails .entry)) (now (heads .entry)) (now (weights .entry)) (now (forward .entry)) (now (backward .entry)) count) source (range 0 n)) 0 (now (out .entry)) r (now (out .exit))) ⌝ }
     ensures { λ r. ⌜ r ≤ length (now (out .exit)) ⌝ }
 {
@@ -205,7 +205,7 @@ pub fn put_source(
     source: u32,
     out: &mut [u8],
 ) -> usize
-    requires { ⌜ (n ≤ maxVertices) × (maxLine * n ≤ length (now out)) ⌝ }
+    requires { ⌜ LinesFit n (now out) ⌝ }
     ensures { λ r. ⌜ ((es : List Edge) → landmarksOf (graph n es) ≡ now (landmarks .entry) → Wrote (linesOf (graph n es) (network (now (tails .entry)) (now (heads .entry)) (now (weights .entry)) (now (forward .entry)) (now (backward .entry)) count) source (range 0 n)) 0 (now (out .entry)) r (now (out .exit))) ⌝ }
     ensures { λ r. ⌜ r ≤ length (now (out .exit)) ⌝ }
 {

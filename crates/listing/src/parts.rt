@@ -4,14 +4,13 @@ use graph::Judged;
 use inspect::Choice;
 ghost use mathlib.Core.Path.{_≡_};
 ghost use mathlib.Core.List.{List, []};
-ghost use Prim.Native.Nat.{ℕ, _+_, _*_, _<_, _≤_};
+ghost use Prim.Native.Nat.{ℕ, _+_, _<_, _≤_};
 ghost use lib.ListN.{length, getD};
-ghost use Rattle.graph.specs.Limits.{maxVertices};
 ghost use Rattle.dimacs.specs.Sources.{maxSources};
 ghost use Rattle.writer.specs.Code.{Wrote};
 ghost use Rattle.graph.specs.Refusal.{accept};
 ghost use Rattle.listing.specs.Listing.{filesVerdict};
-ghost use Rattle.listing.specs.Code.{maxLine, parts, Bounded, Shown};
+ghost use Rattle.listing.specs.Code.{parts, Bounded, Printable, Shown};
 
 // Two files that were read: the verdict, and where it is fine the numbers of the network and of its sources.
 pub struct Prepared {
@@ -47,7 +46,7 @@ fn put_lines(
     backward: &[u32],
     out: &mut [u8],
 ) -> usize
-    requires { ⌜ (i < prepared .sources) × Bounded prepared (now sources) (now forward) (now backward) × (maxLine * maxVertices ≤ length (now out)) ⌝ }
+    requires { ⌜ (i < prepared .sources) × Printable prepared (now sources) (now forward) (now backward) (now out) ⌝ }
     ensures { λ r. ⌜ ((gr ss : List ℕ) → Shown gr ss prepared (now (tails .entry)) (now (heads .entry)) (now (weights .entry)) (now (sources .entry)) (now (forward .entry)) (now (backward .entry)) → filesVerdict gr ss ≡ accept → Wrote (getD (parts gr ss) (i + 1) []) 0 (now (out .entry)) r (now (out .exit))) ⌝ }
     ensures { λ r. ⌜ r ≤ length (now (out .exit)) ⌝ }
 {
@@ -82,7 +81,7 @@ pub fn put_part(
     backward: &[u32],
     out: &mut [u8],
 ) -> usize
-    requires { ⌜ (i ≤ prepared .sources) × Bounded prepared (now sources) (now forward) (now backward) × (maxLine * maxVertices ≤ length (now out)) ⌝ }
+    requires { ⌜ (i ≤ prepared .sources) × Printable prepared (now sources) (now forward) (now backward) (now out) ⌝ }
     ensures { λ r. ⌜ ((gr ss : List ℕ) → Shown gr ss prepared (now (tails .entry)) (now (heads .entry)) (now (weights .entry)) (now (sources .entry)) (now (forward .entry)) (now (backward .entry)) → i < length (parts gr ss) → Wrote (getD (parts gr ss) i []) 0 (now (out .entry)) r (now (out .exit))) ⌝ }
     ensures { λ r. ⌜ r ≤ length (now (out .exit)) ⌝ }
 {

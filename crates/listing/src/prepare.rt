@@ -10,13 +10,12 @@ ghost use mathlib.Core.Path.{_≡_};
 ghost use mathlib.Core.List.{List};
 ghost use Prim.Native.Nat.{_≤_};
 ghost use lib.ListN.{length};
-ghost use Rattle.graph.specs.Limits.{maxVertices, maxEdges, maxLandmarks};
+ghost use Rattle.graph.specs.Limits.{maxVertices, maxLandmarks};
 ghost use Rattle.graph.specs.Edge.{Edge};
 ghost use Rattle.graph.specs.Refusal.{accept};
 ghost use Rattle.graph.specs.Table.{size};
-ghost use Rattle.graph.specs.declared.Judged.the-variants as judged;
 ghost use Rattle.dimacs.specs.Sources.{maxSources};
-ghost use Rattle.listing.specs.Code.{rowWords, Loaded, Ready, GraphRead, SourcesRead, Bounded, Shown};
+ghost use Rattle.listing.specs.Code.{TableLists, RowLists, Loaded, Ready, GraphRead, SourcesRead, Refuses, Bounded, Shown};
 
 // The network of a table opened: the landmarks of choice, four or n if fewer, and the rows in front of two lists.
 pub fn open_network(
@@ -28,7 +27,7 @@ pub fn open_network(
     forward: &mut [u32],
     backward: &mut [u32],
 ) -> Choice
-    requires { ⌜ (n ≤ maxVertices) × (rowWords ≤ length (now forward)) × (rowWords ≤ length (now backward)) ⌝ }
+    requires { ⌜ (n ≤ maxVertices) × RowLists (now forward) (now backward) ⌝ }
     ensures { λ r. ⌜ (r .count ≤ maxLandmarks) × (length (r .vertices) ≡ maxLandmarks) ⌝ }
     ensures { λ r. ⌜ ((es : List Edge) → Loaded n es (now (tails .entry)) (now (heads .entry)) (now (weights .entry)) count → Ready n es (now (tails .entry)) (now (heads .entry)) (now (weights .entry)) count (r .count) (r .vertices) (now (forward .exit)) (now (backward .exit))) ⌝ }
 {
@@ -61,7 +60,7 @@ pub fn open_network(
 
 // Network text of at most 65,536 bytes into table lists, with zeros past its edges.
 fn read_graph(gr: &[u8], tails: &mut [u32], heads: &mut [u32], weights: &mut [u32]) -> ReadReply
-    requires { ⌜ (length (now tails) ≡ maxEdges) × (length (now heads) ≡ maxEdges) × (length (now weights) ≡ maxEdges) ⌝ }
+    requires { ⌜ TableLists (now tails) (now heads) (now weights) ⌝ }
     ensures { λ r. ⌜ GraphRead (now (gr .entry)) r (now (tails .exit)) (now (heads .exit)) (now (weights .exit)) ⌝ }
 {
     if gr.len() > super::MAX_FILE {
@@ -86,7 +85,7 @@ fn read_list(n: u32, ss: &[u8], list: &mut [u32]) -> SourcesReply
 
 // What a refused file leaves to print.
 fn refused(number: u32, place: usize) -> Prepared
-    ensures { λ r. ⌜ (r .verdict ≡ judged.Refused number place) × (r .n ≡ 0) × (r .choice .count ≡ 0) × (length (r .choice .vertices) ≡ maxLandmarks) × (r .sources ≡ 0) ⌝ }
+    ensures { λ r. ⌜ Refuses number place r ⌝ }
 {
     Prepared {
         verdict: Judged::Refused(number, place),
@@ -111,8 +110,8 @@ pub fn prepare(
     forward: &mut [u32],
     backward: &mut [u32],
 ) -> Prepared
-    requires { ⌜ (length (now tails) ≡ maxEdges) × (length (now heads) ≡ maxEdges) × (length (now weights) ≡ maxEdges) ⌝ }
-    requires { ⌜ (length (now list) ≡ maxSources) × (rowWords ≤ length (now forward)) × (rowWords ≤ length (now backward)) ⌝ }
+    requires { ⌜ TableLists (now tails) (now heads) (now weights) ⌝ }
+    requires { ⌜ (length (now list) ≡ maxSources) × RowLists (now forward) (now backward) ⌝ }
     ensures { λ r. ⌜ Bounded r (now (list .exit)) (now (forward .exit)) (now (backward .exit)) ⌝ }
     ensures { λ r. ⌜ Shown (now (gr .entry)) (now (ss .entry)) r (now (tails .exit)) (now (heads .exit)) (now (weights .exit)) (now (list .exit)) (now (forward .exit)) (now (backward .exit)) ⌝ }
 {

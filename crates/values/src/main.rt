@@ -3,13 +3,13 @@ use listing::parts;
 use listing::parts::Prepared;
 use listing::prepare;
 ghost use mathlib.Core.Path.{_≡_};
-ghost use Prim.Native.Nat.{_+_, _*_, _≤_};
+ghost use Prim.Native.Nat.{_+_, _*_};
 ghost use lib.ListN.{length};
 ghost use Rattle.io.specs.Counts.{Counts};
 ghost use Rattle.graph.specs.Limits.{maxVertices, maxEdges};
 ghost use Rattle.dimacs.specs.Sources.{maxSources};
 ghost use Rattle.listing.specs.Listing.{maxFile};
-ghost use Rattle.listing.specs.Code.{maxLine, rowWords, Bounded};
+ghost use Rattle.listing.specs.Code.{maxLine, rowWords, Printable};
 
 // Room for one byte more than a file may have: nothing past it matters.
 const FILE_BYTES: usize = listing::MAX_FILE + 1;
@@ -66,7 +66,7 @@ fn print_parts(
     backward: &[u32],
     out: &mut [u8],
 )
-    requires { ⌜ (length (now list) ≡ maxSources) × Bounded prepared (now list) (now forward) (now backward) × (maxLine * maxVertices ≤ length (now out)) ⌝ }
+    requires { ⌜ (length (now list) ≡ maxSources) × Printable prepared (now list) (now forward) (now backward) (now out) ⌝ }
 {
     let count = parts::part_count(prepared);
     let mut i = 0;

@@ -9,7 +9,7 @@ use Rattle.listing.proofs.lines.put_source.Statement.{statement}
 use Rattle.listing.proofs.lines.put_source.Tie as tie
 
 row-length : (s : tie.Start) → length (take {A = ℕ} (s .args .n) (replicate maxVertices 0)) ≡ s .args .n
-row-length s = length-take-le (s .args .n) (replicate maxVertices 0) (s .pre .0)
+row-length s = length-take-le (s .args .n) (replicate maxVertices 0) (s .pre .vertices)
 
 array-borrow-prefix-sssp : tie.Need-array-borrow-prefix-sssp
 array-borrow-prefix-sssp c = search needs
@@ -45,7 +45,7 @@ put-source-in-requires : tie.Need-put-source-in-requires
 put-source-in-requires c κs =
     let s = c .before .before .before .before .before .before .before .before .before .before .before .before .before in
     let l = row-length s in
-    (s .pre, (l, l, l, l, l))
+    (s .pre, record { sssp = l; bfs = l; sswp = l; ssnp = l; ssr = l })
 
 same-length : tie.Need-same-length
 same-length c = search needs

@@ -24,17 +24,17 @@ settle-row-requires-2 c κs = search needs
 settle-row-requires-3 : tie.Need-settle-row-requires-3
 settle-row-requires-3 c κs =
     let s = c .before .before .before .before .before .before .before .before .before .before .before .before .before .before .before .before .before .before .before .before .before in
-    (s .pre .0 .0, s .pre .1 .2)
+    (s .pre .0 .vertices, s .pre .1 .sswp)
 
 settle-row-requires-4 : tie.Need-settle-row-requires-4
 settle-row-requires-4 c κs =
     let s = c .before .before .before .before .before .before .before .before .before .before .before .before .before .before .before .before .before .before .before .before .before .before .before .before .before in
-    (s .pre .0 .0, s .pre .1 .3)
+    (s .pre .0 .vertices, s .pre .1 .ssnp)
 
 settle-row-requires-5 : tie.Need-settle-row-requires-5
 settle-row-requires-5 c κs =
     let s = c .before .before .before .before .before .before .before .before .before .before .before .before .before .before .before .before .before .before .before .before .before .before .before .before .before .before .before .before .before in
-    (s .pre .0 .0, s .pre .1 .4)
+    (s .pre .0 .vertices, s .pre .1 .ssr)
 
 put-vertices-requires : tie.Need-put-vertices-requires
 put-vertices-requires c κs =
@@ -46,13 +46,13 @@ put-vertices-requires c κs =
     let s = begin r1 in
     let l = s .pre .1 in (
       record {
-        sssp = omega (arith, r1 .settle-row .kept .1 .1 .1 .1 .1 .1 .1 .1 .1 .1 .0, l .0);
-        bfs = omega (arith, r2 .settle-row2 .kept .1 .1 .1 .1 .1 .1 .1 .1 .1 .1 .0, l .1);
-        sswp = omega (arith, r3 .settle-row3 .kept .1 .1 .1 .1 .1 .1 .1 .1 .1 .1 .0, l .2);
-        ssnp = omega (arith, r4 .settle-row4 .kept .1 .1 .1 .1 .1 .1 .1 .1 .1 .1 .0, l .3);
-        ssr = omega (arith, r5 .settle-row5 .kept .1 .1 .1 .1 .1 .1 .1 .1 .1 .1 .0, l .4);
+        sssp = omega (arith, r1 .settle-row .kept .1 .1 .1 .1 .1 .1 .1 .1 .1 .1 .0, l .sssp);
+        bfs = omega (arith, r2 .settle-row2 .kept .1 .1 .1 .1 .1 .1 .1 .1 .1 .1 .0, l .bfs);
+        sswp = omega (arith, r3 .settle-row3 .kept .1 .1 .1 .1 .1 .1 .1 .1 .1 .1 .0, l .sswp);
+        ssnp = omega (arith, r4 .settle-row4 .kept .1 .1 .1 .1 .1 .1 .1 .1 .1 .1 .0, l .ssnp);
+        ssr = omega (arith, r5 .settle-row5 .kept .1 .1 .1 .1 .1 .1 .1 .1 .1 .1 .0, l .ssr);
       },
-      (s .pre .0 .0, s .pre .0 .1),
+      s .pre .0,
     )
 
 same-length : tie.Need-same-length
@@ -89,11 +89,11 @@ returns c =
           let g = graph (s .args .n) es in
           rw
           (lines-rows g (net s) (s .args .source) _ _ _ _ _
-          (settled-row g (net s) (s .args .source) 1 _ (s .args .n) (s .args .landmarks .now) refl ls (r1 .settle-row .ensures) (r1 .settle-row .kept .1 .1 .1 .1 .1 .1 .1 .1 .1 .1 .0 ∙ l .0))
-          (settled-row g (net s) (s .args .source) 2 _ (s .args .n) (s .args .landmarks .now) refl ls (r2 .settle-row2 .ensures) (r2 .settle-row2 .kept .1 .1 .1 .1 .1 .1 .1 .1 .1 .1 .0 ∙ l .1))
-          (settled-row g (net s) (s .args .source) 3 _ (s .args .n) (s .args .landmarks .now) refl ls (r3 .settle-row3 .ensures) (r3 .settle-row3 .kept .1 .1 .1 .1 .1 .1 .1 .1 .1 .1 .0 ∙ l .2))
-          (settled-row g (net s) (s .args .source) 4 _ (s .args .n) (s .args .landmarks .now) refl ls (r4 .settle-row4 .ensures) (r4 .settle-row4 .kept .1 .1 .1 .1 .1 .1 .1 .1 .1 .1 .0 ∙ l .3))
-          (settled-row g (net s) (s .args .source) 5 _ (s .args .n) (s .args .landmarks .now) refl ls (r5 .settle-row5 .ensures) (r5 .settle-row5 .kept .1 .1 .1 .1 .1 .1 .1 .1 .1 .1 .0 ∙ l .4))
+          (settled-row g (net s) (s .args .source) 1 _ (s .args .n) (s .args .landmarks .now) refl ls (r1 .settle-row .ensures) (r1 .settle-row .kept .1 .1 .1 .1 .1 .1 .1 .1 .1 .1 .0 ∙ l .sssp))
+          (settled-row g (net s) (s .args .source) 2 _ (s .args .n) (s .args .landmarks .now) refl ls (r2 .settle-row2 .ensures) (r2 .settle-row2 .kept .1 .1 .1 .1 .1 .1 .1 .1 .1 .1 .0 ∙ l .bfs))
+          (settled-row g (net s) (s .args .source) 3 _ (s .args .n) (s .args .landmarks .now) refl ls (r3 .settle-row3 .ensures) (r3 .settle-row3 .kept .1 .1 .1 .1 .1 .1 .1 .1 .1 .1 .0 ∙ l .sswp))
+          (settled-row g (net s) (s .args .source) 4 _ (s .args .n) (s .args .landmarks .now) refl ls (r4 .settle-row4 .ensures) (r4 .settle-row4 .kept .1 .1 .1 .1 .1 .1 .1 .1 .1 .1 .0 ∙ l .ssnp))
+          (settled-row g (net s) (s .args .source) 5 _ (s .args .n) (s .args .landmarks .now) refl ls (r5 .settle-row5 .ensures) (r5 .settle-row5 .kept .1 .1 .1 .1 .1 .1 .1 .1 .1 .1 .0 ∙ l .ssr))
           (s .args .n) 0 (omega arith))
           (v .put-vertices .ensures .0),
       v .put-vertices .ensures .1,

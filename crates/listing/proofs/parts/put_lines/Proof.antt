@@ -17,7 +17,7 @@ abbrev cells : tie.Start → ℕ
 cells s = s .args .prepared .choice .count * properties * s .args .prepared .n
 
 most : (s : tie.Start) → cells s ≤ rowWords
-most s = let h = s .pre .1 in rows-most (s .args .prepared .choice .count) (s .args .prepared .n) (h .landmarks) (h .vertices)
+most s = let h = s .pre .1 .bounded in rows-most (s .args .prepared .choice .count) (s .args .prepared .n) (h .landmarks) (h .vertices)
 
 mul-k : tie.Need-mul-k
 mul-k c = search needs
@@ -29,23 +29,23 @@ mul-k-2 : tie.Need-mul-k-2
 mul-k-2 c = omega (arith, most (c .before .before .before .before .before .before .before .before .before))
 
 array-share-prefix-vertices : tie.Need-array-share-prefix-vertices
-array-share-prefix-vertices c = let h = c .before .before .before .before .before .before .before .before .before .pre .1 in omega (arith, h .landmarks, h .places)
+array-share-prefix-vertices c = let h = c .before .before .before .before .before .before .before .before .before .pre .1 .bounded in omega (arith, h .landmarks, h .places)
 
 slice-aggregate-put-source : tie.Need-slice-aggregate-put-source
 slice-aggregate-put-source c =
     let s = c .before .before .before .before .before .before .before .before .before .before in
-    let h = s .pre .1 in
+    let h = s .pre .1 .bounded in
     sym (length-take-le (s .args .prepared .choice .count) (s .args .prepared .choice .vertices) (omega (arith, h .landmarks, h .places)))
 
 slice-aggregate-put-source-2 : tie.Need-slice-aggregate-put-source-2
 slice-aggregate-put-source-2 c =
     let s = c .before .before .before .before .before .before .before .before .before .before .before in
-    sym (length-take-le (cells s) (s .args .forward .now) (omega (arith, most s, s .pre .1 .forward)))
+    sym (length-take-le (cells s) (s .args .forward .now) (omega (arith, most s, s .pre .1 .bounded .rows .forward)))
 
 slice-aggregate-put-source-3 : tie.Need-slice-aggregate-put-source-3
 slice-aggregate-put-source-3 c =
     let s = c .before .before .before .before .before .before .before .before .before .before .before .before in
-    sym (length-take-le (cells s) (s .args .backward .now) (omega (arith, most s, s .pre .1 .backward)))
+    sym (length-take-le (cells s) (s .args .backward .now) (omega (arith, most s, s .pre .1 .bounded .rows .backward)))
 
 mul-put-source : tie.Need-mul-put-source
 mul-put-source c = search needs
@@ -65,7 +65,7 @@ returns c =
     let s = p .before .before .before .before .before .before .before .before .before .before .before .before .before .before .before in
     let a = s .args in (
       λ gr ss h e.
-          rw (parts-lines gr ss (a .prepared) (a .tails .now) (a .heads .now) (a .weights .now) (a .sources .now) (a .forward .now) (a .backward .now) h e (s .pre .1 .sources) (a .i) (s .pre .0))
+          rw (parts-lines gr ss (a .prepared) (a .tails .now) (a .heads .now) (a .weights .now) (a .sources .now) (a .forward .now) (a .backward .now) h e (s .pre .1 .bounded .sources) (a .i) (s .pre .0))
           (p .put-source .ensures .0 (edgesRead (readNetwork gr)) (h .running e .ready .landmarks)),
       p .put-source .ensures .1,
     )

@@ -34,10 +34,10 @@ most k = rows-most (held k) (begin k .args .n) (few k .0) (begin k .pre .0)
 
 -- the rows fit both lists
 ahead : (f : tie.After-fill) → cells (f .before .before .before .before) ≤ length (f .fill .last .0)
-ahead f = let s = begin (f .before .before .before .before) in omega (arith, most (f .before .before .before .before), f .fill .kept .0, s .pre .1)
+ahead f = let s = begin (f .before .before .before .before) in omega (arith, most (f .before .before .before .before), f .fill .kept .0, s .pre .1 .forward)
 
 back : (f : tie.After-fill2) → cells (f .before .before .before .before .before .before .before .before) ≤ length (f .fill2 .last .0)
-back f = let s = begin (f .before .before .before .before .before .before .before .before) in omega (arith, most (f .before .before .before .before .before .before .before .before), f .fill2 .kept .0, s .pre .2)
+back f = let s = begin (f .before .before .before .before .before .before .before .before) in omega (arith, most (f .before .before .before .before .before .before .before .before), f .fill2 .kept .0, s .pre .1 .backward)
 
 cast-choose-landmarks : tie.Need-cast-choose-landmarks
 cast-choose-landmarks c = search needs
@@ -99,8 +99,8 @@ returns c =
     let k = f .before .before .before .before in
     let s = begin k in
     let a = s .args in
-    let zf = ap (λ (xs : List ℕ). take (cells k) xs) (f .fill .ensures) ∙ take-replicate {A = ℕ} (cells k) (length (a .forward .now)) 0 (omega (arith, most k, s .pre .1)) in
-    let zb = ap (λ (xs : List ℕ). take (cells k) xs) (b .fill2 .ensures) ∙ take-replicate {A = ℕ} (cells k) (length (a .backward .now)) 0 (omega (arith, most k, s .pre .2)) in (
+    let zf = ap (λ (xs : List ℕ). take (cells k) xs) (f .fill .ensures) ∙ take-replicate {A = ℕ} (cells k) (length (a .forward .now)) 0 (omega (arith, most k, s .pre .1 .forward)) in
+    let zb = ap (λ (xs : List ℕ). take (cells k) xs) (b .fill2 .ensures) ∙ take-replicate {A = ℕ} (cells k) (length (a .backward .now)) 0 (omega (arith, most k, s .pre .1 .backward)) in (
       few k,
       λ es h.
           ready (a .n) es (a .tails .now) (a .heads .now) (a .weights .now) (a .count) h (k .choose-landmarks .result) (k .choose-landmarks .ensures)

@@ -56,7 +56,7 @@ open-network-requires : tie.Need-open-network-requires
 open-network-requires c κs =
     let f = c .before .before .before .before .before .before .before .before .before .before .before .before .before in
     let s = begin (f .before .before .before .before .before .before .before .before) in
-    (few f, s .pre .1 .1, s .pre .1 .2)
+    (few f, s .pre .1 .1)
 
 cast-t40 : tie.Need-cast-t40
 cast-t40 c = search needs
@@ -77,9 +77,9 @@ returns c =
     let s = begin g in
     let a = s .args in
     let e = c .refused .ensures in (
-      record { vertices = omega (arith, e .1); landmarks = omega (arith, e .2); places = e .3; sources = omega (arith, e .4); forward = s .pre .1 .1; backward = s .pre .1 .2 },
+      record { vertices = omega (arith, e .vertices); landmarks = omega (arith, e .landmarks); places = e .places; sources = omega (arith, e .sources); rows = s .pre .1 .1 },
       shown-refused (a .gr .now) (a .ss .now) (c .refused .result) _ _ _ _ _ _ _ _
-          (files-first (a .gr .now) (a .ss .now) _ _ (graph-refused (a .gr .now) _ _ _ _ (g .read-graph .ensures) _ _ (f .first .given .1))) (e .0),
+          (files-first (a .gr .now) (a .ss .now) _ _ (graph-refused (a .gr .now) _ _ _ _ (g .read-graph .ensures) _ _ (f .first .given .1))) (e .verdict),
     )
 
 same-length-4 : tie.Need-same-length-4
@@ -102,9 +102,9 @@ returns-2 c =
     let a = s .args in
     let k = known f in
     let e = c .refused2 .ensures in (
-      record { vertices = omega (arith, e .1); landmarks = omega (arith, e .2); places = e .3; sources = omega (arith, e .4); forward = s .pre .1 .1; backward = s .pre .1 .2 },
+      record { vertices = omega (arith, e .vertices); landmarks = omega (arith, e .landmarks); places = e .places; sources = omega (arith, e .sources); rows = s .pre .1 .1 },
       shown-refused (a .gr .now) (a .ss .now) (c .refused2 .result) _ _ _ _ _ _ _ _
-          (files-second (a .gr .now) (a .ss .now) _ _ (k .0) (k .1) (sources-refused (f .first2 .given .0 .0) (a .ss .now) _ _ (l .read-list .ensures) _ _ (c .before .before .second .given .1))) (e .0),
+          (files-second (a .gr .now) (a .ss .now) _ _ (k .0) (k .1) (sources-refused (f .first2 .given .0 .0) (a .ss .now) _ _ (l .read-list .ensures) _ _ (c .before .before .second .given .1))) (e .verdict),
     )
 
 same-length-8 : tie.Need-same-length-8
@@ -141,8 +141,10 @@ returns-3 c =
         landmarks = e .0 .0;
         places = e .0 .1;
         sources = t .2;
-        forward = omega (arith, o .open-network .kept .1 .1 .1 .1 .1 .0, s .pre .1 .1);
-        backward = omega (arith, o .open-network .kept .1 .1 .1 .1 .1 .1 .0, s .pre .1 .2);
+        rows = record {
+          forward = omega (arith, o .open-network .kept .1 .1 .1 .1 .1 .0, s .pre .1 .1 .forward);
+          backward = omega (arith, o .open-network .kept .1 .1 .1 .1 .1 .1 .0, s .pre .1 .1 .backward);
+        };
       },
       shown-running (a .gr .now) (a .ss .now) _ _ _ _ _ _ _ (files-second (a .gr .now) (a .ss .now) _ _ (k .0) (k .1) (t .0)) refl
           (record {

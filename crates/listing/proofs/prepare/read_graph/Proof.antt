@@ -40,7 +40,7 @@ returns-2 c =
     let t = h .before .before .before .before in
     let s = t .before .before .before .before .before .before .before in
     graph-read (s .args .gr .now) _ _ _ (omega arith) _
-    (r .read-network .ensures ∙ ap (λ (cs : Columns). readCall (s .args .gr .now) cs) (zero-columns (s .args .tails .now) (s .args .heads .now) (s .args .weights .now) (t .fill .ensures) (h .fill2 .ensures) (w .fill3 .ensures) (s .pre .0) (s .pre .1) (s .pre .2)))
+    (r .read-network .ensures ∙ ap (λ (cs : Columns). readCall (s .args .gr .now) cs) (zero-columns (s .args .tails .now) (s .args .heads .now) (s .args .weights .now) (t .fill .ensures) (h .fill2 .ensures) (w .fill3 .ensures) (s .pre .tails) (s .pre .heads) (s .pre .weights)))
 
 pub read-graph-spec : {M : Type 1} → statement M
 read-graph-spec =
