@@ -131,7 +131,7 @@ pub fn apply(
     requires { ⌜ Tabled n count2 (now tails2) (now heads2) (now weights2) ⌝ }
     ensures { λ r. ⌜ batchOutcome r (now (tails .exit)) (now (heads .exit)) (now (weights .exit)) (now (forward .exit)) (now (backward .exit)) ≡ applyCall n (now (landmarks .entry)) (network (now (tails .entry)) (now (heads .entry)) (now (weights .entry)) (now (forward .entry)) (now (backward .entry)) count) (edges (now (tails2 .entry)) (now (heads2 .entry)) (now (weights2 .entry)) count2) ⌝ }
 {
-    let k = landmarks.len() * 5 * (n as usize);
+    let k = landmarks.len() * property::PROPERTIES * (n as usize);
     let mut removed = [0u32; graph::MAX_EDGES];
     let mut added = [0u32; graph::MAX_EDGES];
     let mut ahead = [0u32; graph::ROW_WORDS];

@@ -6,9 +6,6 @@ pub mod prepare;
 // A file of more bytes is refused with number 2.
 pub const MAX_FILE: usize = 65536;
 
-// A source file has at most as many sources.
-pub const MAX_SOURCES: usize = 256;
-
 // The longest line: seven numbers of at most ten digits, six spaces and a line feed.
 pub const MAX_LINE: usize = 77;
 

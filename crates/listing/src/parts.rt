@@ -54,7 +54,7 @@ fn put_lines(
     let choice = prepared.choice;
     let held = choice.count;
     let vertices = choice.vertices;
-    let k = held * 5 * (n as usize);
+    let k = held * property::PROPERTIES * (n as usize);
     lines::put_source(
         n,
         &vertices[..held],

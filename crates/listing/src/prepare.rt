@@ -42,7 +42,7 @@ pub fn open_network(
     let choice = chosen.choice;
     let held = choice.count;
     let vertices = choice.vertices;
-    let k = held * 5 * (n as usize);
+    let k = held * property::PROPERTIES * (n as usize);
     words::fill(forward, 0);
     words::fill(backward, 0);
     open::open(

@@ -1,14 +1,13 @@
 -- One row of a batch as its functions leave it. Assumes nothing.
 use mathlib.Core.Path.{_≡_, sym, ap, _∙_}
 use mathlib.Core.List.{List}
-use Prim.Native.Nat.{ℕ, _+_, _/_, _%_, _≤_}
-use native.Mathlib.Numerals.{add-one}
+use Prim.Native.Nat.{ℕ, suc, _+_, _*_, _/_, _%_, _≤_}
 use native.Mathlib.Omega.{arith}
 use lib.ListN.{getD}
-use Rattle.property.specs.Property.{property}
+use Rattle.property.specs.Property.{property, properties}
 use Rattle.frontier.specs.Waiting.{waitingOf, anyOf, countOf}
 use Rattle.frontier.proofs.Counts.{count-le}
-use Rattle.graph.specs.Limits.{maxVertices}
+use Rattle.graph.specs.Limits.{maxVertices, maxEdges}
 use Rattle.graph.specs.Edge.{Edge}
 use Rattle.run.specs.declared.Tally.{Tally}
 use Rattle.run.specs.Run.{State, settle, noTally}
@@ -22,14 +21,14 @@ use Rattle.network.specs.Batch.{rowAffected, rowEnd}
 use Rattle.rows.specs.Code.{RowDone}
 
 -- row r is prepared, and then settled
-module _ (n r : ℕ) (ls : List ℕ) (es fs : List Edge) (vs ws bs ws′ bs′ : List ℕ) (t : Tally)
-    (start : _≡_ {A = State} (record { words = ws; waiting = bits n bs; tally = noTally }) (prepared (property (r % 5 + 1)) es fs (getD ls (r / 5) 0) vs n))
-    (run : state n ws′ bs′ t ≡ settle (property (r % 5 + 1)) fs n n (state n ws bs noCounts)) where
+module _ (n r : ℕ) {p i : ℕ} (ls : List ℕ) (es fs : List Edge) (vs ws bs ws′ bs′ : List ℕ) (t : Tally) (ep : p ≡ suc (r % properties)) (ei : i ≡ r / properties)
+    (start : _≡_ {A = State} (record { words = ws; waiting = bits n bs; tally = noTally }) (prepared (property p) es fs (getD ls i 0) vs n))
+    (run : state n ws′ bs′ t ≡ settle (property p) fs n n (state n ws bs noCounts)) where
   row-run : state n ws′ bs′ t ≡ rowEnd n ls es fs vs r
-  row-run = run ∙ rw (start, add-one)
+  row-run = run ∙ rw (start, ep, ei)
 
-  pub row-done : (a : Rowed) → n ≤ maxVertices → Ran n ws′ bs′ noCounts t 0 n 134217728
-      → a .unsettled ≡ anyOf (waitingOf bs′) → a .affected ≡ countOf (affected (property (r % 5 + 1)) es fs (getD ls (r / 5) 0) vs n) → a .stores ≡ t .stores
+  pub row-done : (a : Rowed) → n ≤ maxVertices → Ran n ws′ bs′ noCounts t 0 n (maxVertices * maxVertices * maxEdges)
+      → a .unsettled ≡ anyOf (waitingOf bs′) → a .affected ≡ countOf (affected (property p) es fs (getD ls i 0) vs n) → a .stores ≡ t .stores
       → RowDone n ls es fs vs r ws′ a
   row-done a few ran u c s = record {
     words = ap (λ st. st .words) row-run;
@@ -37,14 +36,14 @@ module _ (n r : ℕ) (ls : List ℕ) (es fs : List Edge) (vs ws bs ws′ bs′ :
     affected = c ∙ counted;
     stores = s ∙ ap (λ st. st .tally .stores) row-run;
     few = low;
-    low = (let z : t .stores ≤ 0 + 134217728 = ran .stores in omega arith);
+    low = (let z : t .stores ≤ 0 + maxVertices * maxVertices * maxEdges = ran .stores in omega arith);
   }
     where
-      counted : countOf (affected (property (r % 5 + 1)) es fs (getD ls (r / 5) 0) vs n) ≡ countOf (rowAffected n ls es fs vs r)
-      counted = rw add-one
+      counted : countOf (affected (property p) es fs (getD ls i 0) vs n) ≡ countOf (rowAffected n ls es fs vs r)
+      counted = rw (ep, ei)
 
       low : a .affected ≤ maxVertices
       low =
-          let x = count-le (affected (property (r % 5 + 1)) es fs (getD ls (r / 5) 0) vs n) in
-          let y = affected-length (property (r % 5 + 1)) es fs (getD ls (r / 5) 0) vs n in
+          let x = count-le (affected (property p) es fs (getD ls i 0) vs n) in
+          let y = affected-length (property p) es fs (getD ls i 0) vs n in
           omega arith

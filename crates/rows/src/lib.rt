@@ -52,8 +52,8 @@ fn batch_row(
     requires { ⌜ Lined n count1 (now tails1) (now heads1) (now weights1) (now removed) nremoved (now firsts1) (now iheads1) (now iweights1) count2 (now tails2) (now heads2) (now weights2) (now added) nadded (now firsts2) (now iheads2) (now iweights2) (now rfirsts2) (now rheads2) ⌝ }
     ensures { λ a. ⌜ RowDone n (now (landmarks .entry)) (edges (now (tails1 .entry)) (now (heads1 .entry)) (now (weights1 .entry)) count1) (edges (now (tails2 .entry)) (now (heads2 .entry)) (now (weights2 .entry)) count2) (now (words .entry)) r (now (out .exit)) a ⌝ }
 {
-    let p = (r % 5) as u32 + 1;
-    let i = r / 5;
+    let p = calls::row_property(r);
+    let i = calls::row_landmark(r);
     let mut waiting = frontier::empty();
     let affected = prepare::prepare(
         p,
@@ -119,7 +119,7 @@ pub fn batch_rows(
     requires { ⌜ Lined n count1 (now tails1) (now heads1) (now weights1) (now removed) nremoved (now firsts1) (now iheads1) (now iweights1) count2 (now tails2) (now heads2) (now weights2) (now added) nadded (now firsts2) (now iheads2) (now iweights2) (now rfirsts2) (now rheads2) ⌝ }
     ensures { λ a. ⌜ RowsDone n (now (landmarks .entry)) (edges (now (tails1 .entry)) (now (heads1 .entry)) (now (weights1 .entry)) count1) (edges (now (tails2 .entry)) (now (heads2 .entry)) (now (weights2 .entry)) count2) (now (rows .entry)) (now (out .exit)) a ⌝ }
 {
-    let size = landmarks.len() * 5;
+    let size = landmarks.len() * property::PROPERTIES;
     let mut unsettled = false;
     let mut affected = 0;
     let mut stores = 0;

@@ -6,13 +6,13 @@ use Rattle.rows.proofs.batch_row.Statement.{statement}
 use Rattle.rows.proofs.batch_row.Tie as tie
 
 abbrev start : tie.After-empty → tie.Start
-start e = e .before .before .before .before .before .before .before .before .before .before .before .before .before .before .before .before .before .before .before .before
+start e = e .before .before .before .before .before .before .before .before .before .before .before .before .before .before .before .before .before .before .before .before .before .before
 
-cast-p : tie.Need-cast-p
-cast-p c = search needs
+row-property-requires : tie.Need-row-property-requires
+row-property-requires c κs = search needs
 
-add-p : tie.Need-add-p
-add-p c = search needs
+row-landmark-requires : tie.Need-row-landmark-requires
+row-landmark-requires c κs = search needs
 
 empty-requires : tie.Need-empty-requires
 empty-requires c κs = search needs
@@ -48,15 +48,16 @@ returns c =
     let q = c .before .before .before .before in
     let p = q .before .before .before .before .before in
     let s = start (p .before .before .before .before) in
-    row-done (s .args .n) (s .args .r) (s .args .landmarks .now) _ _ _ _ _ _ _ (q .run-unscheduled .result) (p .prepare .ensures .0) (q .run-unscheduled .ensures .0 _ (s .pre .1 .index .own))
+    let i = p .before .before .before .before .before in
+    row-done (s .args .n) (s .args .r) (s .args .landmarks .now) _ _ _ _ _ _ _ (q .run-unscheduled .result) (i .before .row-property .ensures) (i .row-landmark .ensures) (p .prepare .ensures .0) (q .run-unscheduled .ensures .0 _ (s .pre .1 .index .own))
     _ (s .pre .1 .index .fit .few) (q .run-unscheduled .ensures .1) (c .any .ensures) (p .prepare .ensures .1 .0) refl
 
 pub batch-row-spec : {M : Type 1} → statement M
 batch-row-spec =
     tie.close
     (tie.spec
-    cast-p
-    add-p
+    row-property-requires
+    row-landmark-requires
     empty-requires
     mul-prepare
     shared-slice-read-prepare
