@@ -1,8 +1,7 @@
 -- The network that is opened by the code is the one of the definition. Assumes nothing.
 use mathlib.Core.Path.{_≡_, refl, sym, ap, ap₂, _∙_}
 use mathlib.Core.List.{List, [], _++_, map}
-use Prim.Native.Nat.{ℕ, zero, suc, _-_, _*_, _≤_}
-use native.Mathlib.Nat.{mul-le-mul, sub-zero}
+use Prim.Native.Nat.{ℕ, _-_, _*_, _≤_}
 use native.Mathlib.Omega.{arith}
 use lib.ListN.{length, take, drop, replicate, length-append, length-take, length-map, length-replicate}
 use lib.Seq.{take-at, take-append-seam}
@@ -13,6 +12,7 @@ use Rattle.graph.specs.Limits.{maxVertices, maxEdges, maxLandmarks}
 use Rattle.graph.specs.Edge.{Edge, range}
 use Rattle.graph.specs.Table.{Columns, edgesOf, rules, shortTable, table}
 use Rattle.graph.specs.Code.{columns}
+use Rattle.graph.proofs.Lists.{drop-replicate}
 use Rattle.graph.proofs.Tests.{or-false}
 use Rattle.graph.proofs.Verdicts.{accept-then, accept-if}
 use Rattle.network.specs.Network.{Memory, Network}
@@ -20,7 +20,7 @@ use Rattle.network.specs.Open.{openCall}
 use Rattle.network.specs.Batch.{column}
 use Rattle.network.specs.Choice.{ranked, choice, choiceVerdict, choiceCall}
 use Rattle.network.specs.Caller.{holding, opened}
-use Rattle.network.proofs.Held.{column-length}
+use Rattle.network.proofs.Items.{length-column}
 use Rattle.calls.specs.Code.{network}
 use Rattle.open.specs.declared.Opened.{Opened}
 use Rattle.open.specs.Code.{openOutcome}
@@ -48,24 +48,15 @@ chosen-few n cs m r e =
     let l = choose-most (choiceVerdict n cs m maxLandmarks) (ranked (edgesOf cs m) (range 0 n)) in
     (rw (p .count) l, ap length (p .vertices) ∙ padded-length (choose (choiceVerdict n cs m maxLandmarks) (choice n (edgesOf cs m) maxLandmarks) []) l)
 
-pub rows-most : (k n : ℕ) → k ≤ maxLandmarks → n ≤ maxVertices → k * properties * n ≤ rowWords
-rows-most k n a b = let l : k * properties ≤ maxLandmarks * properties = omega arith in mul-le-mul l b
-
 -- ---- the table
 
-abbrev zeros : Columns
+-- three lists of zeros
+abbrev pub zeros : Columns
 zeros = columns (replicate maxEdges 0) (replicate maxEdges 0) (replicate maxEdges 0)
-
-drop-zeros : (i q : ℕ) → i ≤ q → drop {A = ℕ} i (replicate q 0) ≡ replicate (q - i) 0
-drop-zeros zero q l = rw sub-zero
-drop-zeros (suc i) zero l = absurd (omega arith)
-drop-zeros (suc i) (suc q) l =
-    let e : q - i ≡ suc q - suc i = omega arith in
-    drop-zeros i q (omega arith) ∙ ap (λ (k : ℕ). replicate k 0) e
 
 over-column : (f : Edge → ℕ) (es : List Edge) → length es ≤ maxEdges → over (map f es) (replicate maxEdges 0) ≡ column f es
 over-column f es l =
-    ap (λ (xs : List ℕ). map f es ++ xs) (drop-zeros (length (map f es)) maxEdges (omega (arith, length-map es f)) ∙ ap (λ (k : ℕ). replicate (maxEdges - k) 0) (length-map es f))
+    ap (λ (xs : List ℕ). map f es ++ xs) (drop-replicate (length (map f es)) maxEdges 0 ∙ ap (λ (k : ℕ). replicate (maxEdges - k) 0) (length-map es f))
 
 same-network : {cs ds : Columns} {f g b c : List ℕ} {k m : ℕ} → cs ≡ ds → f ≡ g → b ≡ c → k ≡ m
     → _≡_ {A = Network} (record { memory = record { table = cs; rows = record { forward = f; backward = b } }; count = k })
@@ -89,9 +80,9 @@ module _ (n : ℕ) (es : List Edge) (ts hs ws : List ℕ) (m : ℕ) (h : Loaded 
   short : shortTable (columns ts hs ws) ≡ accept
   short =
       accept-if 2 0
-      (or-false (le-ltb (length ts) maxEdges (omega (arith, ap (λ (cs : Columns). length (cs .tails)) columned, column-length (λ e. e .tail) es few)))
-      (or-false (le-ltb (length hs) maxEdges (omega (arith, ap (λ (cs : Columns). length (cs .heads)) columned, column-length (λ e. e .head) es few)))
-      (le-ltb (length ws) maxEdges (omega (arith, ap (λ (cs : Columns). length (cs .weights)) columned, column-length (λ e. e .weight) es few)))))
+      (or-false (le-ltb (length ts) maxEdges (omega (arith, ap (λ (cs : Columns). length (cs .tails)) columned, length-column es few (λ e. e .tail))))
+      (or-false (le-ltb (length hs) maxEdges (omega (arith, ap (λ (cs : Columns). length (cs .heads)) columned, length-column es few (λ e. e .head))))
+      (le-ltb (length ws) maxEdges (omega (arith, ap (λ (cs : Columns). length (cs .weights)) columned, length-column es few (λ e. e .weight))))))
 
   kept : table n (columns ts hs ws) m ≡ accept
   kept = accept-then (accept-if 4 0 (le-ltb maxEdges m (omega (arith, few, h .count)))) ∙ rw loaded-edges (h .good .rules)

@@ -27,6 +27,7 @@ use Rattle.reader.specs.NetworkCode as graph
 use Rattle.reader.specs.declared.sources.SourcesReply.{SourcesReply}
 use Rattle.reader.specs.declared.sources.SourcesReply.the-variants as lists
 use Rattle.reader.specs.SourcesCode as list
+use Rattle.listing.proofs.Opening.{zeros}
 use Rattle.listing.specs.declared.parts.Prepared.{Prepared}
 use Rattle.listing.specs.Listing.{maxFile, graphVerdict, sourcesVerdict, filesVerdict}
 use Rattle.listing.specs.Code.{GraphRead, SourcesRead, Running, Shown}
@@ -39,9 +40,6 @@ graph-long gr l = rw (lt-ltb maxFile (length gr) l)
 
 graph-verdict : (gr : List ℕ) → length gr ≤ maxFile → graphVerdict gr ≡ judged (net.readNetwork gr)
 graph-verdict gr l = accept-then (accept-if 2 0 (le-ltb maxFile (length gr) l))
-
-abbrev zeros : Columns
-zeros = columns (replicate maxEdges 0) (replicate maxEdges 0) (replicate maxEdges 0)
 
 pub zero-columns : (ts hs ws : List ℕ) {t h w : List ℕ} → t ≡ replicate (length ts) 0 → h ≡ replicate (length hs) 0 → w ≡ replicate (length ws) 0
     → length ts ≡ maxEdges → length hs ≡ maxEdges → length ws ≡ maxEdges → columns t h w ≡ zeros

@@ -1,9 +1,9 @@
 -- A network of an edge table and landmarks: its opening is accepted, and so is every good query on it, with best values. Assumes nothing.
 use mathlib.Core.Path.{_≡_, refl, _∙_}
-use mathlib.Core.List.{List, [], map}
-use Prim.Native.Nat.{ℕ, _-_, _*_, _<_, _≤_}
+use mathlib.Core.List.{List, []}
+use Prim.Native.Nat.{ℕ, _*_, _<_, _≤_}
 use native.Mathlib.Omega.{arith}
-use lib.ListN.{length, replicate, length-append, length-map, length-replicate}
+use lib.ListN.{length, replicate, length-replicate}
 use borrow.Author.Tests.{le-ltb}
 use Rattle.property.specs.Property.{property}
 use Rattle.graph.specs.Limits.{maxEdges}
@@ -22,13 +22,10 @@ use Rattle.network.specs.Batch.{column}
 use Rattle.network.specs.Caller.{holding, opened}
 use Rattle.network.specs.Current.{queryBack}
 use Rattle.network.specs.History.{Holds}
+use Rattle.network.proofs.Items.{length-column}
 use Rattle.network.proofs.History.{history}
 
 -- ---- the lists that are held before the opening
-
-pub column-length : (f : Edge → ℕ) (es : List Edge) → length es ≤ maxEdges → length (column f es) ≡ maxEdges
-column-length f es l =
-    length-append (map f es) (replicate (maxEdges - length es) 0) ∙ omega (arith, length-map es f, length-replicate {A = ℕ} (maxEdges - length es) 0)
 
 module _ (es : List Edge) (ls : List ℕ) (n : ℕ) where
   pub holding-edges : edgesIn (holding es ls n) ≡ es
@@ -39,7 +36,7 @@ module _ (es : List Edge) (ls : List ℕ) (n : ℕ) where
   holding-faults s l r c = accept-then s ∙ accept-then roomy ∙ accept-then long ∙ accept-then c ∙ kept
     where
       wide : (f : Edge → ℕ) → maxEdges ≤ length (column f es)
-      wide f = omega (arith, column-length f es l)
+      wide f = omega (arith, length-column es l f)
 
       roomy : shortTable (holding es ls n .memory .table) ≡ accept
       roomy = accept-if 2 0 (or-false (le-ltb _ maxEdges (wide (λ e. e .tail))) (or-false (le-ltb _ maxEdges (wide (λ e. e .head))) (le-ltb _ maxEdges (wide (λ e. e .weight)))))

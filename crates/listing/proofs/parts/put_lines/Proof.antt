@@ -8,7 +8,7 @@ use Rattle.property.specs.Property.{properties}
 use Rattle.dimacs.specs.Network.{readNetwork}
 use Rattle.dimacs.specs.Call.{edgesRead}
 use Rattle.listing.specs.Code.{rowWords}
-use Rattle.listing.proofs.Opening.{rows-most}
+use Rattle.calls.proofs.Rows.{rows-most}
 use Rattle.listing.proofs.Pieces.{parts-lines}
 use Rattle.listing.proofs.parts.put_lines.Statement.{statement}
 use Rattle.listing.proofs.parts.put_lines.Tie as tie

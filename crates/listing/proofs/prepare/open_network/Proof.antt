@@ -11,7 +11,8 @@ use Rattle.graph.specs.Code.{columns}
 use Rattle.graph.specs.Limits.{maxLandmarks}
 use Rattle.graph.proofs.Lists.{take-replicate}
 use Rattle.listing.specs.Code.{rowWords}
-use Rattle.listing.proofs.Opening.{chosen-few, rows-most, ready}
+use Rattle.calls.proofs.Rows.{rows-most}
+use Rattle.listing.proofs.Opening.{chosen-few, ready}
 use Rattle.listing.proofs.prepare.open_network.Statement.{statement}
 use Rattle.listing.proofs.prepare.open_network.Tie as tie
 
