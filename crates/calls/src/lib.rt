@@ -48,7 +48,7 @@ fn are_landmarks(n: u32, vertices: &[u32]) -> bool
     true
 }
 
-// Number 3: no landmark, over 4, not a vertex, repeated.
+// Number 3: no landmark, over `MAX_LANDMARKS`, not a vertex, repeated.
 pub fn judge_landmarks(n: u32, landmarks: &[u32]) -> Judged
     ensures { λ r. ⌜ told r ≡ number.landmarks n (now (landmarks .entry)) ⌝ }
 {

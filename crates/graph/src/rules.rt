@@ -22,7 +22,7 @@ pub fn refuse_if(test: bool, k: u32, i: usize) -> Judged
     }
 }
 
-// Whether a weight is 1 to 65,535.
+// Whether a weight is 1 to `MAX_WEIGHT`.
 pub fn is_weight(w: u32) -> bool
     ensures { λ r. ⌜ r ≡ isWeight w ⌝ }
 {
@@ -43,14 +43,14 @@ pub fn in_order(t: u32, h: u32, w: u32, u: u32, g: u32, x: u32) -> bool
     t < u || (t == u && h < g)
 }
 
-// Number 1: n is 0 or over 256.
+// Number 1: n is 0 or over `MAX_VERTICES`.
 pub fn judge_size(n: u32) -> Judged
     ensures { λ r. ⌜ told r ≡ size n ⌝ }
 {
     refuse_if(n == 0 || n > MAX_VERTICES, 1, 0)
 }
 
-// Number 2: a list of the table has fewer than 2,048 words.
+// Number 2: a list of the table has fewer than `MAX_EDGES` words.
 pub fn judge_lengths(tails: &[u32], heads: &[u32], weights: &[u32]) -> Judged
     ensures { λ r. ⌜ told r ≡ shortTable (columns (now (tails .entry)) (now (heads .entry)) (now (weights .entry))) ⌝ }
 {
@@ -99,7 +99,7 @@ fn judge_rules(n: u32, tails: &[u32], heads: &[u32], weights: &[u32], count: usi
     Judged::Fine
 }
 
-// Number 4: a count over 2,048, or the first record that breaks the rules.
+// Number 4: a count over `MAX_EDGES`, or the first record that breaks the rules.
 pub fn judge_table(n: u32, tails: &[u32], heads: &[u32], weights: &[u32], count: u32) -> Judged
     requires { ⌜ Room maxEdges (now tails) (now heads) (now weights) ⌝ }
     ensures { λ r. ⌜ told r ≡ table n (columns (now (tails .entry)) (now (heads .entry)) (now (weights .entry))) count ⌝ }

@@ -21,7 +21,7 @@ pub enum Edited {
     Refused(u32, usize),
 }
 
-// Whether a weight suits its change: an insert's is 1 to 65,535, a delete's is 0.
+// Whether a weight suits its change: an insert's is 1 to `MAX_WEIGHT`, a delete's is 0.
 fn is_suited(kind: u32, w: u32) -> bool
     ensures { λ r. ⌜ r ≡ cond (eqb kind 1) (isWeight w) (eqb w 0) ⌝ }
 {

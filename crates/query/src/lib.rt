@@ -36,7 +36,7 @@ fn judge_schedule(n: u32, schedule: &[u32]) -> Judged
     Judged::Fine
 }
 
-// Number 1: n is 0 or over 256, or the schedule has over 4,096 entries.
+// Number 1: n is 0 or over `MAX_VERTICES`, or the schedule has over `MAX_SCHEDULE` entries.
 fn judge_sizes(n: u32, entries: usize) -> Judged
     ensures { λ r. ⌜ told r ≡ (size n ▷ longSchedule entries) ⌝ }
 {
