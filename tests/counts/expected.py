@@ -73,6 +73,11 @@ def opened(p, s):
     return words
 
 
+def digest(words):
+    """The sum, over every index, of the words up to it."""
+    return sum((len(words) - i) * word for i, word in enumerate(words))
+
+
 def reverse(table):
     return [(h, t, f) for t, h, f in table]
 
@@ -125,9 +130,10 @@ def main():
     fwd, ahead = open_side(table)
     bwd, back = open_side(reverse(table))
     print("opened")
-    for side, counts in (("forward", ahead), ("backward", back)):
+    for side, counts, rows in (("forward", ahead, fwd), ("backward", back, bwd)):
         for r, (a, b, c, d) in enumerate(counts):
-            print(f"{side} landmark {POSTS[r // 5]} {NAMES[r % 5 + 1]}: rounds {a} handles {b} looks {c} stores {d} same")
+            row = f"{side} landmark {POSTS[r // 5]} {NAMES[r % 5 + 1]}"
+            print(f"{row}: rounds {a} handles {b} looks {c} stores {d} digest {digest(rows[r])} same")
     a, b, c, d = map(sum, zip(*(ahead + back)))
     print(f"all: rounds {a} handles {b} looks {c} stores {d}")
     print(f"scans of the table for each vertex in each round: looks {2048 * 256 * a}")
@@ -139,6 +145,7 @@ def main():
     assert (0, 255) not in {(t, h) for t, h, _ in table}
     sums = [mend(table, new, fwd), mend(reverse(table), reverse(new), bwd)]
     print(f"batch: count {len(new)} affected {sums[0][0] + sums[1][0]} stores {sums[0][1] + sums[1][1]}")
+    print(f"rows after the batch: forward digest {digest(sum(fwd, []))} backward digest {digest(sum(bwd, []))}")
     # each row of the mended network is that of a fresh opening
     assert open_side(new)[0] == fwd and open_side(reverse(new))[0] == bwd
 

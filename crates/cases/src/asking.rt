@@ -1,7 +1,10 @@
-// A query of a lent network, held to its number and place.
+// A query of a lent network, held to its number and place, and to the recomputed run where it is accepted.
+use model::best;
 use model::lent;
 use model::lent::Network;
 use model::lists;
+use model::replay;
+use model::replay::Tally;
 use model::score;
 use model::score::Reply;
 use model::score::Score;
@@ -71,6 +74,14 @@ pub fn told(answered: Answered) -> Reply {
     match answered {
         Answered::Settled(_) => score::fine(),
         Answered::Refused(number, place) => Reply { number, place },
+    }
+}
+
+// The tally of a query. Where it was refused, 99 entries were taken: no case expects that.
+pub fn tally_of(answered: Answered) -> Tally {
+    match answered {
+        Answered::Settled(t) => replay::counts(t.taken, t.rounds, t.stores),
+        Answered::Refused(_, _) => replay::counts(99, 99, 99),
     }
 }
 
@@ -155,6 +166,49 @@ fn are_kept(words: &[u32; 257], start: usize) -> bool {
     lists::all(words, start, 257, 7)
 }
 
+// The start words of property `p`. Every standing word is 7: so is the start word of every vertex, or its sum with itself, but for the
+// source's.
+fn fill_starts(words: &mut [u32; 256], n: u32, p: u32, source: u32) {
+    for i in 0..n {
+        lists::put(words, i as usize, best::join(p, 7, 7));
+    }
+    lists::put(words, source as usize, best::at_source(p));
+}
+
+// Whether the first n words are these.
+fn are_words(xs: &[u32; 257], words: &[u32; 256], n: u32) -> bool {
+    lists::same(xs, words, 0, n as usize)
+}
+
+// Whether start words, settled words and tally are those of the recomputed run.
+fn is_recomputed(
+    c: Network,
+    q: Request,
+    tails: &[u32; 2049],
+    heads: &[u32; 2049],
+    weights: &[u32; 2049],
+    schedule: &[u32; 4097],
+    starts: &[u32; 257],
+    settled: &[u32; 257],
+    answered: Answered,
+) -> bool {
+    let mut words = [0u32; 256];
+    fill_starts(&mut words, c.n, q.property, q.source);
+    let started = are_words(starts, &words, c.n);
+    let tally = replay::run(
+        q.property,
+        c.n,
+        tails,
+        heads,
+        weights,
+        c.count,
+        q.source,
+        lists::part(schedule, q.entries),
+        &mut words,
+    );
+    started && are_words(settled, &words, c.n) && replay::is_same(tally_of(answered), tally)
+}
+
 // Words past `n` stay in any case.
 pub fn case(s: Score, c: Network, q: Request, number: u32, place: usize) -> Score {
     let mut tails = [9u32; 2049];
@@ -181,5 +235,17 @@ pub fn case(s: Score, c: Network, q: Request, number: u32, place: usize) -> Scor
     );
     let written = if number == 0 { c.n as usize } else { 0 };
     let kept = are_kept(&starts, written) && are_kept(&settled, written);
-    s.with(kept && score::meets(told(answered), kept, number, place))
+    let run = number != 0
+        || is_recomputed(
+            c,
+            q,
+            &tails,
+            &heads,
+            &weights,
+            &schedule,
+            &starts,
+            &settled,
+            answered,
+        );
+    s.with(kept && run && score::meets(told(answered), kept, number, place))
 }

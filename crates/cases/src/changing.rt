@@ -3,18 +3,28 @@ use apply::Applied;
 use model::lent;
 use model::lent::Network;
 use model::lists;
+use model::matrix::Change;
 use model::score;
 use model::score::Reply;
 use model::score::Score;
 
-// A batch of `size` changes that take the edge 0→1 and put it back in turn, but for the one at index `item`.
+// A batch of `size` changes that take the edge 0→1 and put it back in turn, but for those at the indices `item` and `other`.
 pub struct Batch {
     pub size: usize,
     pub item: usize,
-    pub kind: u32,
-    pub tail: u32,
-    pub head: u32,
-    pub weight: u32,
+    pub change: Change,
+    pub other: usize,
+    pub second: Change,
+}
+
+// A change of these words.
+fn words(kind: u32, t: u32, h: u32, w: u32) -> Change {
+    Change {
+        kind,
+        tail: t,
+        head: h,
+        weight: w,
+    }
 }
 
 // `size` good changes. 9999 is past them.
@@ -27,10 +37,18 @@ pub fn changed(size: usize, item: usize, kind: u32, t: u32, h: u32, w: u32) -> B
     Batch {
         size,
         item,
-        kind,
-        tail: t,
-        head: h,
-        weight: w,
+        change: words(kind, t, h, w),
+        other: 9999,
+        second: words(0, 0, 0, 0),
+    }
+}
+
+impl Batch {
+    // With another change at index `item` too.
+    pub fn and(mut self, item: usize, kind: u32, t: u32, h: u32, w: u32) -> Batch {
+        self.other = item;
+        self.second = words(kind, t, h, w);
+        self
     }
 }
 
@@ -143,15 +161,12 @@ fn put(
     tos: &mut [u32; 1025],
     values: &mut [u32; 1025],
     i: usize,
-    kind: u32,
-    t: u32,
-    h: u32,
-    w: u32,
+    c: Change,
 ) {
-    lists::put(kinds, i, kind);
-    lists::put(froms, i, t);
-    lists::put(tos, i, h);
-    lists::put(values, i, w);
+    lists::put(kinds, i, c.kind);
+    lists::put(froms, i, c.tail);
+    lists::put(tos, i, c.head);
+    lists::put(values, i, c.weight);
 }
 
 // Takes and adds in turn.
@@ -163,11 +178,26 @@ fn fill_turns(
 ) {
     for i in 0..1025 {
         if i % 2 == 0 {
-            put(kinds, froms, tos, values, i, 2, 0, 1, 0);
+            put(kinds, froms, tos, values, i, words(2, 0, 1, 0));
         } else {
-            put(kinds, froms, tos, values, i, 1, 0, 1, 4);
+            put(kinds, froms, tos, values, i, words(1, 0, 1, 4));
         }
     }
+}
+
+// The changes of a batch.
+fn fill_batch(
+    d: Batch,
+    kinds: &mut [u32; 1025],
+    froms: &mut [u32; 1025],
+    tos: &mut [u32; 1025],
+    values: &mut [u32; 1025],
+) {
+    fill_turns(kinds, froms, tos, values);
+    let change = d.change;
+    put(kinds, froms, tos, values, d.item, change);
+    let second = d.second;
+    put(kinds, froms, tos, values, d.other, second);
 }
 
 // The batch on lists that are made for it.
@@ -184,18 +214,7 @@ fn apply_batch(
     let mut froms = [0u32; 1025];
     let mut tos = [0u32; 1025];
     let mut values = [0u32; 1025];
-    fill_turns(&mut kinds, &mut froms, &mut tos, &mut values);
-    put(
-        &mut kinds,
-        &mut froms,
-        &mut tos,
-        &mut values,
-        d.item,
-        d.kind,
-        d.tail,
-        d.head,
-        d.weight,
-    );
+    fill_batch(d, &mut kinds, &mut froms, &mut tos, &mut values);
     let landmarks = c.landmarks;
     apply_lent(
         c,

@@ -11,11 +11,15 @@ use model::score;
 use model::score::Reply;
 use model::score::Score;
 
-// The replies as number and place.
+// The reply to a settled check as its number and place. An edge found is number 99, which no case expects: the rows here have one word
+// everywhere, of which no edge makes a better one.
 pub fn told_checked(checked: Checked) -> Reply {
     match checked {
         Checked::Settled => score::fine(),
-        Checked::Found(_, _, _) => score::fine(),
+        Checked::Found(_, _, record) => Reply {
+            number: 99,
+            place: record,
+        },
         Checked::Refused(number, place) => Reply { number, place },
     }
 }
@@ -61,7 +65,12 @@ pub fn check_case(s: Score, c: Network, number: u32, place: usize) -> Score {
     s.with(score::meets(told_checked(checked), true, number, place))
 }
 
-// How many vertices a choice gives, by its verdict: none where it is refused.
+// Whether four places have these vertices.
+fn are_vertices(xs: [u32; 4], want: [u32; 4]) -> bool {
+    xs[0] == want[0] && xs[1] == want[1] && xs[2] == want[2] && xs[3] == want[3]
+}
+
+// Whether a choice gives its number and place, and these vertices: how many, and the four places.
 fn choose_lent(
     c: Network,
     tails: &[u32; 2049],
@@ -71,6 +80,7 @@ fn choose_lent(
     number: u32,
     place: usize,
     count: usize,
+    vertices: [u32; 4],
 ) -> bool {
     let chosen = choose::choose_landmarks(
         c.n,
@@ -82,16 +92,38 @@ fn choose_lent(
     );
     let verdict = chosen.verdict;
     let choice = chosen.choice;
-    score::meets(told(verdict), true, number, place) && choice.count == count
+    let listed = choice.vertices;
+    score::meets(told(verdict), true, number, place)
+        && choice.count == count
+        && are_vertices(listed, vertices)
 }
 
-// A choice of `k` landmarks: its number and place, and how many vertices it gives.
-pub fn choose_case(s: Score, c: Network, k: u32, number: u32, place: usize, count: usize) -> Score {
+// A choice of `k` landmarks that is refused: number and place, and no vertex.
+pub fn no_choice(s: Score, c: Network, k: u32, number: u32, place: usize) -> Score {
     let mut tails = [9u32; 2049];
     let mut heads = [9u32; 2049];
     let mut weights = [9u32; 2049];
     lent::fill(c, &mut tails, &mut heads, &mut weights);
-    s.with(choose_lent(c, &tails, &heads, &weights, k, number, place, count))
+    s.with(choose_lent(
+        c,
+        &tails,
+        &heads,
+        &weights,
+        k,
+        number,
+        place,
+        0,
+        [0, 0, 0, 0],
+    ))
+}
+
+// A choice of `k` landmarks: how many vertices it gives, and the four places, of which the unused are 0.
+pub fn choice(s: Score, c: Network, k: u32, count: usize, vertices: [u32; 4]) -> Score {
+    let mut tails = [9u32; 2049];
+    let mut heads = [9u32; 2049];
+    let mut weights = [9u32; 2049];
+    lent::fill(c, &mut tails, &mut heads, &mut weights);
+    s.with(choose_lent(c, &tails, &heads, &weights, k, 0, 0, count, vertices))
 }
 
 // Whether a look-up gives its number, and shows a part of `words` words.

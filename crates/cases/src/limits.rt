@@ -99,19 +99,25 @@ pub fn batch(start: Score) -> Score {
     s
 }
 
-// Landmark choice: k, and no more vertices than there are.
+// Landmark choice: k, and no more vertices than there are. The edges in plus out of deck A's vertices are 2, 3, 3, 2; without its last
+// record 2, 3, 2, 1; with 0→2 for 0→3 they are 2, 3, 4, 1. In the full network 263 for each of the vertices 0 to 7, and fewer for all
+// others.
 pub fn choice(start: Score) -> Score {
     let d = lent::deck();
     let f = lent::full();
     let mut s = start;
-    s = inspecting::choose_case(s, d, 1, 0, 0, 1);
-    s = inspecting::choose_case(s, d, 4, 0, 0, 4);
-    s = inspecting::choose_case(s, d, 0, 3, 0, 0);
-    s = inspecting::choose_case(s, d, 5, 3, 0, 0);
-    s = inspecting::choose_case(s, d.n(1).count(0), 4, 0, 0, 1);
-    s = inspecting::choose_case(s, f, 4, 0, 0, 4);
-    s = inspecting::choose_case(s, f.n(257), 4, 1, 0, 0);
-    s = inspecting::choose_case(s, f.count(2049), 4, 4, 0, 0);
+    s = inspecting::choice(s, d, 1, 1, [1, 0, 0, 0]);
+    s = inspecting::choice(s, d, 2, 2, [1, 2, 0, 0]);
+    s = inspecting::choice(s, d, 4, 4, [1, 2, 0, 3]);
+    s = inspecting::choice(s, d.count(4), 4, 4, [1, 0, 2, 3]);
+    s = inspecting::choice(s, d.record(1, 0, 2, 9), 4, 4, [2, 1, 0, 3]);
+    s = inspecting::no_choice(s, d, 0, 3, 0);
+    s = inspecting::no_choice(s, d, 5, 3, 0);
+    s = inspecting::choice(s, d.n(1).count(0), 4, 1, [0, 0, 0, 0]);
+    s = inspecting::choice(s, d.n(2).count(1), 4, 2, [0, 1, 0, 0]);
+    s = inspecting::choice(s, f, 4, 4, [0, 1, 2, 3]);
+    s = inspecting::no_choice(s, f.n(257), 4, 1, 0);
+    s = inspecting::no_choice(s, f.count(2049), 4, 4, 0);
     s
 }
 

@@ -4,8 +4,10 @@ pub mod changing;
 pub mod deck;
 pub mod inspecting;
 pub mod limits;
+pub mod lines;
 pub mod opening;
 pub mod refusals;
+pub mod spots;
 pub mod traps;
 
 use model::score;
@@ -46,8 +48,8 @@ fn print_limits() {
 // The groups of document 01's small deck, a line each.
 fn print_deck() {
     let none = score::none();
-    score::print(b"deck lines", deck::lines(none));
-    score::print(b"settled check spots", traps::spots(none));
+    score::print(b"deck lines", lines::lines(none));
+    score::print(b"settled check spots", spots::spots(none));
     score::print(b"traps", traps::traps(none));
 }
 

@@ -6,6 +6,7 @@ use super::changing;
 use super::changing::Batch;
 use super::inspecting;
 use super::opening;
+use model::broken;
 use model::lent;
 use model::lent::Network;
 use model::score::Score;
@@ -19,6 +20,9 @@ pub const BATCH: u32 = 2;
 
 pub const CHECK: u32 = 3;
 
+// Landmark choice, which takes the table alone.
+const CHOICE: u32 = 4;
+
 // One of those calls, with nothing wrong but what the network has.
 pub fn case(call: u32, s: Score, c: Network, number: u32, place: usize) -> Score {
     match call {
@@ -29,6 +33,7 @@ pub fn case(call: u32, s: Score, c: Network, number: u32, place: usize) -> Score
             asking::case(s, c, q, number, place)
         }
         BATCH => changing::case(s, c, changing::good(2), number, place),
+        CHOICE => inspecting::no_choice(s, c, 4, number, place),
         _ => inspecting::check_case(s, c, number, place),
     }
 }
@@ -88,38 +93,14 @@ fn repeats(call: u32, start: Score) -> Score {
     s
 }
 
-// Number 4, at the first record that breaks a rule.
+// Number 4, by the tables that every call is given: 21 cases.
 fn tables(call: u32, start: Score) -> Score {
-    let d = lent::deck();
     let mut s = start;
-    s = case(call, s, d.count(2049), 4, 0);
-    s = case(call, s, d.count(4294967295), 4, 0);
-    s = case(call, s, d.count(6), 4, 5);
-    s = case(call, s, d.count(2048), 4, 5);
-    s = case(call, s, d.record(0, 4, 1, 4), 4, 0);
-    s = case(call, s, d.record(0, 0, 4, 4), 4, 0);
-    s = case(call, s, d.record(0, 0, 0, 4), 4, 0);
-    s = case(call, s, d.record(0, 0, 1, 0), 4, 0);
-    s = case(call, s, d.record(0, 0, 1, 65536), 4, 0);
-    s = case(call, s, d.record(4, 4, 2, 2), 4, 4);
-    s = case(call, s, d.record(4, 3, 4, 2), 4, 4);
-    s = case(call, s, d.record(3, 2, 2, 4), 4, 3);
-    s = case(call, s, d.record(1, 0, 3, 0), 4, 1);
-    s = case(call, s, d.record(4, 3, 2, 65536), 4, 4);
-    s
-}
-
-// Number 4, at the later of two records out of order or with one pair.
-fn orders(call: u32, start: Score) -> Score {
-    let d = lent::deck();
-    let mut s = start;
-    s = case(call, s, d.record(1, 0, 1, 5), 4, 1);
-    s = case(call, s, d.record(2, 0, 2, 4), 4, 2);
-    s = case(call, s, d.record(3, 1, 2, 4), 4, 3);
-    s = case(call, s, d.record(4, 2, 0, 2), 4, 4);
-    s = case(call, s, d.record(4, 1, 3, 2), 4, 4);
-    s = case(call, s, d.record(0, 1, 0, 4), 4, 1);
-    s = case(call, s, d.record(0, 3, 2, 2), 4, 1);
+    for i in 0..broken::COUNT {
+        let b = broken::at(i);
+        let c = b.network;
+        s = case(call, s, c, 4, b.place);
+    }
     s
 }
 
@@ -127,8 +108,7 @@ fn orders(call: u32, start: Score) -> Score {
 pub fn network(call: u32, start: Score) -> Score {
     let s = sizes(call, start);
     let t = repeats(call, landmarks(call, s));
-    let u = tables(call, t);
-    orders(call, u)
+    tables(call, t)
 }
 
 // A query of deck A, or of what is wrong with it.
@@ -146,6 +126,7 @@ pub fn query(start: Score) -> Score {
     s = asked(s, d, q.starts(3), 2, 0);
     s = asked(s, d, q.settled(3), 2, 0);
     s = asked(s, d.landmarks(0, [0, 0, 0, 0, 0]), q.starts(0), 2, 0);
+    s = asked(s, d.landmarks(0, [0, 0, 0, 0, 0]), q.settled(3), 2, 0);
     s = asked(s, d.landmarks(0, [0, 0, 0, 0, 0]), q.property(6), 3, 0);
     s = asked(s, d.count(2049), q.property(0), 4, 0);
     s = asked(s, d, q.property(0), 5, 0);
@@ -212,6 +193,52 @@ fn items(start: Score) -> Score {
     s
 }
 
+// A full table: every other number of an add or a take comes before 12.
+fn full(start: Score) -> Score {
+    let f = lent::full();
+    let mut s = start;
+    s = applied(s, f, changing::changed(1, 0, 3, 0, 9, 5), 7, 0);
+    s = applied(s, f, changing::changed(1, 0, 1, 9, 9, 5), 8, 0);
+    s = applied(s, f, changing::changed(1, 0, 1, 0, 9, 0), 9, 0);
+    s = applied(s, f, changing::changed(1, 0, 2, 0, 9, 0), 11, 0);
+    s
+}
+
+// Two bad changes: the first decides, also where the other's number is lower.
+fn pairs(start: Score) -> Score {
+    let d = lent::deck();
+    let mut s = start;
+    s = applied(
+        s,
+        d,
+        changing::changed(3, 0, 3, 0, 1, 0).and(1, 1, 4, 1, 4),
+        7,
+        0,
+    );
+    s = applied(
+        s,
+        d,
+        changing::changed(3, 1, 1, 2, 2, 5).and(2, 3, 0, 1, 0),
+        8,
+        1,
+    );
+    s = applied(
+        s,
+        d,
+        changing::changed(2, 0, 2, 0, 2, 0).and(1, 1, 0, 4, 4),
+        11,
+        0,
+    );
+    s = applied(
+        s,
+        d,
+        changing::changed(4, 1, 1, 0, 3, 9).and(3, 1, 0, 2, 0),
+        10,
+        1,
+    );
+    s
+}
+
 // What a batch alone refuses.
 pub fn batch(start: Score) -> Score {
     let d = lent::deck();
@@ -221,26 +248,23 @@ pub fn batch(start: Score) -> Score {
     s = applied(s, d.backward(19), changing::changed(1, 0, 3, 9, 9, 9), 2, 0);
     s = applied(s, d.count(2049), changing::changed(1, 0, 3, 9, 9, 9), 4, 0);
     s = words(s);
-    items(s)
+    s = items(s);
+    pairs(full(s))
 }
 
-// What a landmark choice refuses.
+// What a landmark choice refuses: 8 cases, and every broken table.
 pub fn choice(start: Score) -> Score {
     let d = lent::deck();
     let mut s = start;
-    s = inspecting::choose_case(s, d.n(0), 1, 1, 0, 0);
-    s = inspecting::choose_case(s, d.n(257).tails(2047), 0, 1, 0, 0);
-    s = inspecting::choose_case(s, d.tails(2047), 1, 2, 0, 0);
-    s = inspecting::choose_case(s, d.heads(2047), 5, 2, 0, 0);
-    s = inspecting::choose_case(s, d.weights(2047), 1, 2, 0, 0);
-    s = inspecting::choose_case(s, d, 0, 3, 0, 0);
-    s = inspecting::choose_case(s, d, 5, 3, 0, 0);
-    s = inspecting::choose_case(s, d.count(2049), 5, 3, 0, 0);
-    s = inspecting::choose_case(s, d.count(2049), 1, 4, 0, 0);
-    s = inspecting::choose_case(s, d.count(6), 1, 4, 5, 0);
-    s = inspecting::choose_case(s, d.record(3, 2, 2, 4), 4, 4, 3, 0);
-    s = inspecting::choose_case(s, d.record(4, 3, 2, 65536), 4, 4, 4, 0);
-    s
+    s = inspecting::no_choice(s, d.n(0), 1, 1, 0);
+    s = inspecting::no_choice(s, d.n(257).tails(2047), 0, 1, 0);
+    s = inspecting::no_choice(s, d.tails(2047), 1, 2, 0);
+    s = inspecting::no_choice(s, d.heads(2047), 5, 2, 0);
+    s = inspecting::no_choice(s, d.weights(2047), 1, 2, 0);
+    s = inspecting::no_choice(s, d, 0, 3, 0);
+    s = inspecting::no_choice(s, d, 5, 3, 0);
+    s = inspecting::no_choice(s, d.count(2049), 5, 3, 0);
+    tables(CHOICE, s)
 }
 
 // What a look-up refuses: it shows the empty part.
@@ -255,7 +279,18 @@ pub fn lookup(start: Score) -> Score {
     s = inspecting::row_case(s, d.rows(100).landmarks(5, [0, 1, 2, 3, 0]), 0, 0, 1, 3);
     s = inspecting::row_case(s, d.landmarks(1, [4, 0, 0, 0, 0]), 0, 4, 1, 3);
     s = inspecting::row_case(s, d.rows(40).landmarks(2, [1, 1, 0, 0, 0]), 0, 1, 1, 3);
-    parts(s)
+    parts(short_rows(s))
+}
+
+// Number 2, measured by the landmarks as they are lent, before any higher one.
+fn short_rows(start: Score) -> Score {
+    let d = lent::deck();
+    let mut s = start;
+    s = inspecting::row_case(s, d.rows(20).landmarks(2, [1, 1, 0, 0, 0]), 0, 1, 1, 2);
+    s = inspecting::row_case(s, d.rows(80).landmarks(5, [0, 1, 2, 3, 0]), 0, 0, 1, 2);
+    s = inspecting::row_case(s, d.forward(19).landmarks(1, [4, 0, 0, 0, 0]), 1, 4, 1, 2);
+    s = inspecting::row_case(s, d.backward(19), 2, 0, 6, 2);
+    s
 }
 
 // A landmark that is not in the list, and what number 5 is for.
@@ -270,5 +305,7 @@ fn parts(start: Score) -> Score {
     s = inspecting::row_case(s, four, 0, 2, 0, 5);
     s = inspecting::row_case(s, four, 1, 2, 6, 5);
     s = inspecting::row_case(s, four, 2, 2, 1, 5);
+    s = inspecting::row_case(s, four, 0, 2, 4294967295, 5);
+    s = inspecting::row_case(s, four, 4294967295, 2, 1, 5);
     s
 }

@@ -1,96 +1,11 @@
-// Deck A with a word that another took the place of, found by the settled check; and the traps.
+// The traps of document 01.
 use super::deck;
-use inspect::Checked;
-use inspect::settled;
+use super::lines;
+use model::replay;
+use model::replay::counts;
 use model::score::Score;
 
 const M: u32 = 4294967295;
-
-// ---- the settled check
-
-// What a check of deck A says, where landmark `landmark` stands, once the words at index `i` of the forward and at index `j` of the
-// backward list are others: the side, row and record of the first edge, or that all is settled.
-fn spot(landmark: u32, i: usize, x: u32, j: usize, y: u32, want: Checked) -> bool {
-    let mut tails = [9u32; 2049];
-    let mut heads = [9u32; 2049];
-    let mut weights = [9u32; 2049];
-    let mut forward = [0u32; 20];
-    let mut backward = [0u32; 20];
-    let count = deck::open_deck(
-        landmark,
-        false,
-        &mut tails,
-        &mut heads,
-        &mut weights,
-        &mut forward,
-        &mut backward,
-    );
-    if i < 20 {
-        forward[i] = x;
-    }
-    if j < 20 {
-        backward[j] = y;
-    }
-    count == 5
-        && is_found(
-            landmark,
-            &tails,
-            &heads,
-            &weights,
-            &forward,
-            &backward,
-            want,
-        )
-}
-
-// Whether a settled check of deck A replies as expected.
-fn is_found(
-    landmark: u32,
-    tails: &[u32; 2049],
-    heads: &[u32; 2049],
-    weights: &[u32; 2049],
-    forward: &[u32; 20],
-    backward: &[u32; 20],
-    want: Checked,
-) -> bool {
-    let landmarks = [landmark];
-    let found = settled::find_relaxable(4, &landmarks, tails, heads, weights, 5, forward, backward);
-    is_same(found, want)
-}
-
-// Whether two replies of a settled check are the same.
-fn is_same(a: Checked, b: Checked) -> bool {
-    match a {
-        Checked::Settled => match b {
-            Checked::Settled => true,
-            _ => false,
-        },
-        Checked::Found(side, row, record) => match b {
-            Checked::Found(s, r, k) => side == s && row == r && record == k,
-            _ => false,
-        },
-        Checked::Refused(_, _) => false,
-    }
-}
-
-// Index 99 is past the rows: nothing is changed there. A word that is too good is no reason by itself.
-pub fn spots(start: Score) -> Score {
-    let mut s = start;
-    s = s.with(spot(0, 99, 0, 99, 0, Checked::Settled));
-    s = s.with(spot(0, 1, M, 99, 0, Checked::Found(0, 0, 0)));
-    s = s.with(spot(0, 2, 9, 99, 0, Checked::Found(0, 0, 2)));
-    s = s.with(spot(0, 14, M, 99, 0, Checked::Found(0, 3, 2)));
-    s = s.with(spot(0, 19, 0, 99, 0, Checked::Found(0, 4, 1)));
-    s = s.with(spot(2, 99, 0, 3, M, Checked::Found(1, 0, 4)));
-    s = s.with(spot(2, 99, 0, 0, 9, Checked::Found(1, 0, 0)));
-    s = s.with(spot(2, 99, 0, 16, 0, Checked::Found(1, 4, 0)));
-    s = s.with(spot(2, 17, 0, 3, M, Checked::Found(0, 4, 3)));
-    s = s.with(spot(0, 2, 5, 99, 0, Checked::Settled));
-    s = s.with(spot(0, 1, 1, 99, 0, Checked::Found(0, 0, 2)));
-    s
-}
-
-// ---- traps
 
 // Deck A opened with landmark 0, then the edge 0→1 taken or not: the row of one property at index `at` of either list.
 fn row(take: bool, backwards: bool, at: usize, want: [u32; 4]) -> bool {
@@ -140,7 +55,9 @@ fn start_word(back: u32, ahead: u32, want: u32) -> bool {
         &mut starts,
         &mut settled,
     );
-    t.rounds == 1 && deck::are(&starts, [want, 0, 7, 7]) && deck::are(&settled, [want, 0, 7, 7])
+    replay::is_same(t, counts(0, 1, 0))
+        && deck::are(&starts, [want, 0, 7, 7])
+        && deck::are(&settled, [want, 0, 7, 7])
 }
 
 // Two vertices, of which 1 has the standing time 4,294,967,292 and 0 none: what the edge 1→0 of a weight leaves at 0.
@@ -207,8 +124,10 @@ fn take_unreached() -> bool {
 // In the order of document 01: the ring that feeds itself; the sum that wraps; the forward row read as a backward one; the tight
 // edge between two vertices without a route.
 pub fn traps(start: Score) -> Score {
+    let known = counts(0, 1, 0);
+    let unknown = counts(0, 3, 2);
     let mut s = start;
-    let ring = row(true, false, 8, [M, 2, 2, 9]) && deck::line(0, true, 3, 0, [M, 2, 2, 9]);
+    let ring = row(true, false, 8, [M, 2, 2, 9]) && lines::line(0, true, 3, 0, [M, 2, 2, 9], known);
     s = s.with(ring);
     let sums = start_word(4294967290, 4, 4294967294)
         && start_word(4294967290, 5, M)
@@ -216,9 +135,9 @@ pub fn traps(start: Score) -> Score {
         && start_word(M, 4, M)
         && start_word(M, M, M);
     let ways = add_word(2, 4294967294) && add_word(3, M) && add_word(4, M);
-    s = s.with(sums && ways && deck::line(0, false, 1, 3, [M, 6, 2, 0]));
+    s = s.with(sums && ways && lines::line(0, false, 1, 3, [M, 6, 2, 0], unknown));
     let ahead = row(false, false, 0, [0, 4, 8, 9]);
     let back = row(false, true, 0, [0, M, M, M]);
-    s = s.with(ahead && back && deck::line(0, false, 5, 3, [0, 1, 1, 1]));
+    s = s.with(ahead && back && lines::line(0, false, 5, 3, [0, 1, 1, 1], unknown));
     s.with(take_unreached())
 }

@@ -177,6 +177,24 @@ fn stand_at(words: &[u32], rows: &[u32], from: usize) -> bool {
     true
 }
 
+// A word as a number of the sums.
+fn wide(x: u32) -> u64 {
+    x as u64
+}
+
+// The digest of words: the sum, over every index, of the words up to it. tests/counts/expected.py makes it of words of its own.
+pub fn digest(words: &[u32]) -> u64 {
+    let mut sum = 0u64;
+    let mut total = 0u64;
+    let mut i = 0;
+    while i < words.len() {
+        sum = std::num::wrapping_add_u64(sum, wide(words[i]));
+        total = std::num::wrapping_add_u64(total, sum);
+        i += 1;
+    }
+    total
+}
+
 // Row `r`, of landmark `s` for property `p`, is run in `words` and counted, held to what the opening wrote and the library tallies, and
 // printed.
 fn hold_row(
@@ -199,7 +217,7 @@ fn hold_row(
     let same = stand_at(words, rows, r * n)
         & (work.rounds == tally.rounds)
         & (work.stores == tally.stores);
-    print::row(s as u64, p, work, same);
+    print::row(s as u64, p, work, digest(words), same);
     work
 }
 

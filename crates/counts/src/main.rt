@@ -1,5 +1,6 @@
 // Speed by construction, shown by counts: a network of 256 vertices and 2,048 edges is opened, then each of its rows is run again
-// and counted. A vertex costs as many looks as it has edges, never a scan of the table. A query for each property and a batch follow.
+// and counted. A vertex costs as many looks as it has edges, never a scan of the table. A query for each property and a batch follow,
+// and digests of the rows after it.
 mod counting;
 mod print;
 mod table;
@@ -149,6 +150,15 @@ fn change(
     }
 }
 
+// The digests of all rows.
+fn print_rows(forward: &[u32; 5120], backward: &[u32; 5120]) {
+    io::write_all(1, b"rows after the batch: forward digest");
+    print::number(counting::digest(forward));
+    io::write_all(1, b" backward digest");
+    print::number(counting::digest(backward));
+    print::end();
+}
+
 fn main() {
     let landmarks = [0u32, 77, 154, 255];
     let mut tails = [0u32; 2048];
@@ -179,4 +189,5 @@ fn main() {
         &mut forward,
         &mut backward,
     );
+    print_rows(&forward, &backward);
 }

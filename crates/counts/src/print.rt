@@ -55,12 +55,14 @@ pub fn work(w: Work) {
     number(w.stores);
 }
 
-// A row's landmark, property and counts, and whether its words are those that the opening wrote.
-pub fn row(landmark: u64, p: u32, w: Work, same: bool) {
+// A row's landmark, property and counts, the digest of its words, and whether these are the words that the opening wrote.
+pub fn row(landmark: u64, p: u32, w: Work, digest: u64, same: bool) {
     io::write_all(1, b" landmark");
     number(landmark);
     property(p);
     work(w);
+    io::write_all(1, b" digest");
+    number(digest);
     if same {
         io::write_all(1, b" same\n");
     } else {

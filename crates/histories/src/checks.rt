@@ -1,14 +1,12 @@
-// What the calls leave and answer, held word for word to the recomputation.
+// Rows, and what the calls that write nothing answer, held word for word to the recomputation.
 use super::replies;
 use inspect::Checked;
 use inspect::choose;
 use inspect::lookup;
 use inspect::settled;
 use model::best;
-use model::draws;
 use model::lists;
 use model::score::Score;
-use query::Answered;
 
 // A network that is being followed: its vertices, landmarks, present count, and the key of what is drawn for it.
 pub struct Setting {
@@ -22,7 +20,7 @@ pub struct Setting {
 // ---- table and rows
 
 // Whether `n` words from index `at` on are the values of property `p` of vertex `s`.
-fn is_row(rows: &[u32], at: usize, n: u32, values: &[u32; 1536], p: u32, s: u32) -> bool {
+pub fn is_row(rows: &[u32], at: usize, n: u32, values: &[u32; 1536], p: u32, s: u32) -> bool {
     for v in 0..n {
         let word = lists::word(rows, lists::plus(at, v as usize));
         if word != lists::word(values, best::index(p, s, v)) {
@@ -61,147 +59,6 @@ pub fn do_agree(from: &[u32; 1536], to: &[u32; 1536]) -> bool {
         }
     }
     true
-}
-
-// ---- queries
-
-// Whether start and settled words are as recomputed, and the words past n as they were.
-fn are_words(
-    c: Setting,
-    property: u32,
-    source: u32,
-    landmarks: &[u32; 5],
-    from: &[u32; 1536],
-    starts: &[u32; 17],
-    settled: &[u32; 17],
-) -> bool {
-    for v in 0..c.n {
-        let start = best::start_word(property, source, v, landmarks, c.landmark_count, from);
-        if lists::word(starts, v as usize) != start {
-            return false;
-        }
-    }
-    let n = c.n as usize;
-    is_row(settled, 0, c.n, from, property, source)
-        && lists::all(starts, n, 17, 7)
-        && lists::all(settled, n, 17, 7)
-}
-
-// Whether a query was answered.
-fn is_settled(answered: Answered) -> bool {
-    match answered {
-        Answered::Settled(_) => true,
-        Answered::Refused(_, _) => false,
-    }
-}
-
-// A query with the first `entries` of a schedule.
-fn ask(
-    c: Setting,
-    property: u32,
-    source: u32,
-    entries: u32,
-    landmarks: &[u32; 5],
-    tails: &[u32; 2049],
-    heads: &[u32; 2049],
-    weights: &[u32; 2049],
-    forward: &[u32; 5121],
-    backward: &[u32; 5121],
-    schedule: &[u32; 12],
-    starts: &mut [u32; 17],
-    settled: &mut [u32; 17],
-) -> bool {
-    is_settled(query::query(
-        c.n,
-        lists::part(landmarks, c.landmark_count as usize),
-        tails,
-        heads,
-        weights,
-        c.count,
-        forward,
-        backward,
-        property,
-        source,
-        lists::part(schedule, entries as usize),
-        starts,
-        settled,
-    ))
-}
-
-// Whether a query by a drawn schedule is answered with the words that are recomputed.
-fn is_answered(
-    c: Setting,
-    property: u32,
-    source: u32,
-    entries: u32,
-    landmarks: &[u32; 5],
-    tails: &[u32; 2049],
-    heads: &[u32; 2049],
-    weights: &[u32; 2049],
-    forward: &[u32; 5121],
-    backward: &[u32; 5121],
-    from: &[u32; 1536],
-) -> bool {
-    let mut schedule = [0u32; 12];
-    let key = draws::mixed(c.key, property);
-    draws::fill_schedule(draws::mixed(key, source), c.n, &mut schedule);
-    let mut starts = [7u32; 17];
-    let mut settled = [7u32; 17];
-    ask(
-        c,
-        property,
-        source,
-        entries,
-        landmarks,
-        tails,
-        heads,
-        weights,
-        forward,
-        backward,
-        &schedule,
-        &mut starts,
-        &mut settled,
-    )
-        && are_words(c, property, source, landmarks, from, &starts, &settled)
-}
-
-// Every property from every vertex, with no schedule and with one.
-pub fn queries(
-    start: Score,
-    c: Setting,
-    landmarks: &[u32; 5],
-    tails: &[u32; 2049],
-    heads: &[u32; 2049],
-    weights: &[u32; 2049],
-    forward: &[u32; 5121],
-    backward: &[u32; 5121],
-    from: &[u32; 1536],
-) -> Score {
-    let mut s = start;
-    for q in 32..192u32 {
-        let v = q / 2 % 16;
-        if v < c.n {
-            let entries = if q % 2 == 0 {
-                0
-            } else {
-                draws::draw(c.key, q, 13)
-            };
-            s = s.with(is_answered(
-                c,
-                q / 32,
-                v,
-                entries,
-                landmarks,
-                tails,
-                heads,
-                weights,
-                forward,
-                backward,
-                from,
-            ));
-        }
-    }
-    s
 }
 
 // ---- the calls that write nothing

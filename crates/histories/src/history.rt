@@ -1,4 +1,5 @@
 // Generated networks through an opening and some batches, each state held word for word to the recomputation.
+use super::answers;
 use super::checks;
 use super::checks::Setting;
 use super::planned;
@@ -54,7 +55,7 @@ pub struct Followed {
 // ---- a state
 
 // The calls that write no row, and the rows, beside the values from and to every vertex.
-fn answers<'a>(
+fn held<'a>(
     x: Scores,
     c: Setting,
     landmarks: &[u32; 5],
@@ -71,7 +72,7 @@ fn answers<'a>(
     let back = checks::are_rows(c, landmarks, backward, to);
     let checked = checks::is_checked(c, landmarks, tails, heads, weights, forward, backward);
     let shown = checks::lookups(x.shown, c, landmarks, forward, backward, from, to);
-    let queries = checks::queries(
+    let queries = answers::queries(
         x.queries,
         c,
         landmarks,
@@ -114,7 +115,7 @@ fn state<'a>(
     let mut y = x;
     y.tables = x.tables.with(tabled);
     y.chosen = x.chosen.with(chosen);
-    answers(
+    held(
         y,
         c,
         &landmarks,

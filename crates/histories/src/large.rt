@@ -2,15 +2,18 @@
 // word to the recomputation.
 use super::replies;
 use model::best;
+use model::bounds;
 use model::draws;
 use model::lent;
 use model::lists;
+use model::replay;
+use model::replay::Tally;
 use model::score::Score;
-use query::Answered;
 
 const KEY: u32 = 2048;
 
-const LANDMARK: u32 = 201;
+// In no order.
+const LANDMARKS: [u32; 4] = [201, 0, 255, 66];
 
 // The head of record `i`: each vertex has an edge into each block of 32 vertices.
 fn head_of(i: u32) -> u32 {
@@ -69,7 +72,7 @@ fn is_row(rows: &[u32; 5121], at: usize, best: &[u32; 256]) -> bool {
     true
 }
 
-// The five rows of the landmark on one side: for the backward one tails and heads are exchanged.
+// The twenty rows of one side, five for each landmark: for the backward one tails and heads are exchanged.
 fn rows(
     start: Score,
     tails: &[u32; 2049],
@@ -78,11 +81,13 @@ fn rows(
     count: u32,
     list: &[u32; 5121],
 ) -> Score {
+    let landmarks = LANDMARKS;
     let mut best = [0u32; 256];
     let mut s = start;
     let mut at: usize = 0;
-    for p in 1..6u32 {
-        best::best_from(p, 256, tails, heads, weights, count, LANDMARK, &mut best);
+    for r in 0..20u32 {
+        let l = lists::word(&landmarks, (r / 5) as usize);
+        best::best_from(r % 5 + 1, 256, tails, heads, weights, count, l, &mut best);
         s = s.with(is_row(list, at, &best));
         at = lists::plus(at, 256);
     }
@@ -94,7 +99,7 @@ fn is_same(xs: &[u32; 256], ys: &[u32; 256]) -> bool {
     lists::same(xs, ys, 0, 256)
 }
 
-// Whether a query from vertex 77 is answered.
+// The tally of a query from vertex 77.
 fn ask(
     p: u32,
     tails: &[u32; 2049],
@@ -103,12 +108,12 @@ fn ask(
     count: u32,
     forward: &[u32; 5121],
     backward: &[u32; 5121],
+    schedule: &[u32],
+    starts: &mut [u32; 256],
     settled: &mut [u32; 256],
-) -> bool {
-    let landmarks = [LANDMARK];
-    let schedule = [66u32, 130, 77, 255, 66];
-    let mut starts = [0u32; 256];
-    let answered = query::query(
+) -> Tally {
+    let landmarks = LANDMARKS;
+    replies::tally_of(query::query(
         256,
         &landmarks,
         tails,
@@ -119,14 +124,90 @@ fn ask(
         backward,
         p,
         77,
+        schedule,
+        starts,
+        settled,
+    ))
+}
+
+// Whether start words, settled words and tally of a query from vertex 77 are those that are recomputed.
+fn is_due(
+    p: u32,
+    tails: &[u32; 2049],
+    heads: &[u32; 2049],
+    weights: &[u32; 2049],
+    count: u32,
+    schedule: &[u32],
+    starts: &[u32; 256],
+    settled: &[u32; 256],
+    tally: Tally,
+) -> bool {
+    let landmarks = LANDMARKS;
+    let mut best = [0u32; 256];
+    best::best_from(p, 256, tails, heads, weights, count, 77, &mut best);
+    let mut words = [0u32; 256];
+    bounds::start_words(
+        p,
+        256,
+        tails,
+        heads,
+        weights,
+        count,
+        77,
+        &landmarks,
+        &mut words,
+    );
+    let started = is_same(starts, &words);
+    let due = replay::run(
+        p,
+        256,
+        tails,
+        heads,
+        weights,
+        count,
+        77,
+        schedule,
+        &mut words,
+    );
+    started && is_same(settled, &best) && is_same(settled, &words) && replay::is_same(tally, due)
+}
+
+// A query of one property from vertex 77, by a schedule.
+fn is_answered(
+    p: u32,
+    tails: &[u32; 2049],
+    heads: &[u32; 2049],
+    weights: &[u32; 2049],
+    count: u32,
+    forward: &[u32; 5121],
+    backward: &[u32; 5121],
+) -> bool {
+    let schedule = [66u32, 130, 77, 255, 66];
+    let mut starts = [0u32; 256];
+    let mut settled = [0u32; 256];
+    let tally = ask(
+        p,
+        tails,
+        heads,
+        weights,
+        count,
+        forward,
+        backward,
         &schedule,
         &mut starts,
-        settled,
+        &mut settled,
     );
-    match answered {
-        Answered::Settled(_) => true,
-        Answered::Refused(_, _) => false,
-    }
+    is_due(
+        p,
+        tails,
+        heads,
+        weights,
+        count,
+        &schedule,
+        &starts,
+        &settled,
+        tally,
+    )
 }
 
 // Every property from vertex 77.
@@ -139,22 +220,9 @@ fn answers(
     forward: &[u32; 5121],
     backward: &[u32; 5121],
 ) -> Score {
-    let mut best = [0u32; 256];
-    let mut settled = [0u32; 256];
     let mut s = start;
     for p in 1..6u32 {
-        best::best_from(p, 256, tails, heads, weights, count, 77, &mut best);
-        let asked = ask(
-            p,
-            tails,
-            heads,
-            weights,
-            count,
-            forward,
-            backward,
-            &mut settled,
-        );
-        s = s.with(asked && is_same(&settled, &best));
+        s = s.with(is_answered(p, tails, heads, weights, count, forward, backward));
     }
     s
 }
@@ -184,7 +252,7 @@ fn is_opened(
     forward: &mut [u32; 5121],
     backward: &mut [u32; 5121],
 ) -> bool {
-    let landmarks = [LANDMARK];
+    let landmarks = LANDMARKS;
     let opened = open::open(
         256,
         &landmarks,
@@ -208,7 +276,7 @@ fn apply_takes(
     froms: &[u32; 1024],
     tos: &[u32; 1024],
 ) -> bool {
-    let landmarks = [LANDMARK];
+    let landmarks = LANDMARKS;
     let kinds = [2u32; 1024];
     let values = [0u32; 1024];
     let applied = plain_batch::batch_lists(
@@ -242,7 +310,7 @@ fn is_cut(
     apply_takes(tails, heads, weights, forward, backward, &froms, &tos)
 }
 
-// The batch, and the state after it: 16 cases.
+// The batch, and the state after it: 46 cases.
 fn cut(
     start: Score,
     tails: &mut [u32; 2049],
@@ -268,7 +336,7 @@ fn cut(
     )
 }
 
-// The network opened and cut. 32 cases: the opening and the batch, and after each five rows of either side and five queries.
+// The network opened and cut. 92 cases: the opening and the batch, and after each twenty rows of either side and five queries.
 pub fn network(start: Score) -> Score {
     let mut tails = [9u32; 2049];
     let mut heads = [9u32; 2049];

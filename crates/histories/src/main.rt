@@ -1,5 +1,6 @@
 // The calls on generated networks, held word for word to a recomputation. A line for each group: how many of its cases came out as
 // expected.
+pub mod answers;
 pub mod checks;
 pub mod history;
 pub mod large;

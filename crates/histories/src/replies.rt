@@ -1,7 +1,10 @@
-// Whether a call was accepted.
+// Whether a call was accepted, and the tally of a query.
 use apply::Applied;
 use graph::Judged;
+use model::replay;
+use model::replay::Tally;
 use open::Opened;
+use query::Answered;
 
 // Whether an opening was.
 pub fn is_opened(opened: Opened) -> bool {
@@ -24,5 +27,13 @@ pub fn is_fine(judged: Judged) -> bool {
     match judged {
         Judged::Fine => true,
         Judged::Refused(_, _) => false,
+    }
+}
+
+// The tally of a query. Where it was refused, every number is 9999: no run comes there.
+pub fn tally_of(answered: Answered) -> Tally {
+    match answered {
+        Answered::Settled(t) => replay::counts(t.taken, t.rounds, t.stores),
+        Answered::Refused(_, _) => replay::counts(9999, 9999, 9999),
     }
 }

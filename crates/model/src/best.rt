@@ -1,4 +1,5 @@
-// Best values recomputed from document 01's table of properties: all edges relaxed n times. Nothing here is the library's.
+// Best values recomputed from document 01's table of properties: all edges relaxed n times, or until a time betters no word. Nothing
+// here is the library's.
 use super::lists;
 
 // The greatest word.
@@ -51,15 +52,17 @@ pub fn join(p: u32, a: u32, b: u32) -> u32 {
     }
 }
 
-// One edge is gone along.
-fn relax(p: u32, t: u32, h: u32, w: u32, best: &mut [u32; 256]) {
+// One edge is gone along: whether that betters a word.
+fn relax(p: u32, t: u32, h: u32, w: u32, best: &mut [u32; 256]) -> bool {
     let v = along(p, lists::word(best, t as usize), w);
-    if is_better(p, v, lists::word(best, h as usize)) {
-        lists::put(best, h as usize, v);
+    if !is_better(p, v, lists::word(best, h as usize)) {
+        return false;
     }
+    lists::put(best, h as usize, v);
+    true
 }
 
-// Every edge is gone along once, in table order.
+// Every edge is gone along once, in table order: whether that betters a word.
 fn relax_all(
     p: u32,
     tails: &[u32; 2049],
@@ -67,17 +70,17 @@ fn relax_all(
     weights: &[u32; 2049],
     count: u32,
     best: &mut [u32; 256],
-) {
+) -> bool {
+    let mut changed = false;
     for k in 0..count {
         let i = k as usize;
-        relax(
-            p,
-            lists::word(tails, i),
-            lists::word(heads, i),
-            lists::word(weights, i),
-            best,
-        );
+        let t = lists::word(tails, i);
+        let h = lists::word(heads, i);
+        if relax(p, t, h, lists::word(weights, i), best) {
+            changed = true;
+        }
     }
+    changed
 }
 
 // Every word becomes `v`.
@@ -101,7 +104,9 @@ pub fn best_from(
     fill(best, no_route(p));
     lists::put(best, source as usize, at_source(p));
     for r in 0..n {
-        relax_all(p, tails, heads, weights, count, best);
+        if !relax_all(p, tails, heads, weights, count, best) {
+            return;
+        }
     }
 }
 

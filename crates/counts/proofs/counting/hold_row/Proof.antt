@@ -24,6 +24,9 @@ mul-stand-at c =
 stand-at-requires : tie.Need-stand-at-requires
 stand-at-requires c κs = search needs
 
+digest-requires : tie.Need-digest-requires
+digest-requires c κs = search needs
+
 row-requires : tie.Need-row-requires
 row-requires c κs = search needs
 
@@ -42,6 +45,7 @@ hold-row-spec =
     count-run-requires
     mul-stand-at
     stand-at-requires
+    digest-requires
     row-requires
     same-length
     returns)

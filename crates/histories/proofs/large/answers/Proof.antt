@@ -5,22 +5,16 @@ use Rattle.histories.proofs.large.answers.Statement.{statement}
 use Rattle.histories.proofs.large.answers.Tie as tie
 
 abbrev Inv-loop : tie.InvT-loop
-Inv-loop tails heads weights count forward backward best₀ settled₀ s₀ p₀ best settled s p = Unit {0}
+Inv-loop tails heads weights count forward backward s₀ p₀ s p = Unit {0}
 
 abbrev μ-loop : tie.MeasureT-loop
-μ-loop tails heads weights count forward backward best₀ settled₀ s₀ p₀ best settled s p = 6 - p
+μ-loop tails heads weights count forward backward s₀ p₀ s p = 6 - p
 
 loop-holds : tie.Need-loop-holds Inv-loop μ-loop
 loop-holds c = search needs
 
-best-from-requires : tie.Need-best-from-requires Inv-loop μ-loop
-best-from-requires c κs = search needs
-
-ask-requires : tie.Need-ask-requires Inv-loop μ-loop
-ask-requires c κs = search needs
-
-is-same-requires : tie.Need-is-same-requires Inv-loop μ-loop
-is-same-requires c κs = search needs
+is-answered-requires : tie.Need-is-answered-requires Inv-loop μ-loop
+is-answered-requires c κs = search needs
 
 with-requires : tie.Need-with-requires Inv-loop μ-loop
 with-requires c κs = search needs
@@ -44,9 +38,7 @@ answers-spec =
     Inv-loop
     μ-loop
     loop-holds
-    best-from-requires
-    ask-requires
-    is-same-requires
+    is-answered-requires
     with-requires
     add-p
     loop-less

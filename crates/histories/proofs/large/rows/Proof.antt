@@ -5,13 +5,25 @@ use Rattle.histories.proofs.large.rows.Statement.{statement}
 use Rattle.histories.proofs.large.rows.Tie as tie
 
 abbrev Inv-loop : tie.InvT-loop
-Inv-loop tails heads weights count list best₀ s₀ at₀ p₀ best s at p = Unit {0}
+Inv-loop tails heads weights count list landmarks best₀ s₀ at₀ r₀ best s at r = Unit {0}
 
 abbrev μ-loop : tie.MeasureT-loop
-μ-loop tails heads weights count list best₀ s₀ at₀ p₀ best s at p = 6 - p
+μ-loop tails heads weights count list landmarks best₀ s₀ at₀ r₀ best s at r = 20 - r
 
 loop-holds : tie.Need-loop-holds Inv-loop μ-loop
 loop-holds c = search needs
+
+slice-aggregate-word : tie.Need-slice-aggregate-word Inv-loop μ-loop
+slice-aggregate-word c = search needs
+
+cast-word : tie.Need-cast-word Inv-loop μ-loop
+cast-word c = search needs
+
+word-requires : tie.Need-word-requires Inv-loop μ-loop
+word-requires c κs = search needs
+
+add-best-from : tie.Need-add-best-from Inv-loop μ-loop
+add-best-from c = search needs
 
 best-from-requires : tie.Need-best-from-requires Inv-loop μ-loop
 best-from-requires c κs = search needs
@@ -25,8 +37,8 @@ with-requires c κs = search needs
 plus-requires : tie.Need-plus-requires Inv-loop μ-loop
 plus-requires c κs = search needs
 
-add-p : tie.Need-add-p Inv-loop μ-loop
-add-p c = search needs
+add-r : tie.Need-add-r Inv-loop μ-loop
+add-r c = search needs
 
 loop-less : tie.Need-loop-less Inv-loop μ-loop
 loop-less c = search needs
@@ -44,11 +56,15 @@ rows-spec =
     Inv-loop
     μ-loop
     loop-holds
+    slice-aggregate-word
+    cast-word
+    word-requires
+    add-best-from
     best-from-requires
     is-row-requires
     with-requires
     plus-requires
-    add-p
+    add-r
     loop-less
     loop-again
     returns)

@@ -28,6 +28,9 @@ loop-holds c = search needs
 relax-all-requires : tie.Need-relax-all-requires Inv-loop μ-loop
 relax-all-requires c κs = search needs
 
+returns : tie.Need-returns Inv-loop μ-loop
+returns c = search needs
+
 add-r : tie.Need-add-r Inv-loop μ-loop
 add-r c = search needs
 
@@ -37,8 +40,8 @@ loop-less c = search needs
 loop-again : tie.Need-loop-again Inv-loop μ-loop
 loop-again c = search needs
 
-returns : tie.Need-returns Inv-loop μ-loop
-returns c = search needs
+returns-2 : tie.Need-returns-2 Inv-loop μ-loop
+returns-2 c = search needs
 
 pub best-from-spec : {M : Type 1} → statement M
 best-from-spec =
@@ -52,7 +55,8 @@ best-from-spec =
     put-requires
     loop-holds
     relax-all-requires
+    returns
     add-r
     loop-less
     loop-again
-    returns)
+    returns-2)

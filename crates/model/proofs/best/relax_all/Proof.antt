@@ -5,10 +5,10 @@ use Rattle.model.proofs.best.relax_all.Statement.{statement}
 use Rattle.model.proofs.best.relax_all.Tie as tie
 
 abbrev Inv-loop : tie.InvT-loop
-Inv-loop p tails heads weights count best₀ k₀ best k = Unit {0}
+Inv-loop p tails heads weights count best₀ changed₀ k₀ best changed k = Unit {0}
 
 abbrev μ-loop : tie.MeasureT-loop
-μ-loop p tails heads weights count best₀ k₀ best k = count - k
+μ-loop p tails heads weights count best₀ changed₀ k₀ best changed k = count - k
 
 loop-holds : tie.Need-loop-holds Inv-loop μ-loop
 loop-holds c = search needs

@@ -1,8 +1,8 @@
--- `histories::checks::queries` is safe and ends: the measure is what is left of its turns. Assumes nothing.
+-- `histories::answers::queries` is safe and ends: the measure is what is left of its turns. Assumes nothing.
 use Prim.Native.Nat.{_-_}
 use borrow.Author.Needs.{needs}
-use Rattle.histories.proofs.checks.queries.Statement.{statement}
-use Rattle.histories.proofs.checks.queries.Tie as tie
+use Rattle.histories.proofs.answers.queries.Statement.{statement}
+use Rattle.histories.proofs.answers.queries.Tie as tie
 
 abbrev Inv-loop : tie.InvT-loop
 Inv-loop c landmarks tails heads weights forward backward from s₀ q₀ s q = Unit {0}
