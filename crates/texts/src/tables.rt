@@ -1,5 +1,6 @@
 // Networks that the writer refuses: numbers 1, 2, 4, and last 2 for the buffer. The text of deck A has 49 bytes.
 use super::writing;
+use model::broken;
 use model::lent;
 use model::lent::Network;
 use model::score::Score;
@@ -28,36 +29,14 @@ fn sizes(start: Score) -> Score {
     s
 }
 
-// Number 4 at the first record that breaks a rule. 13 cases.
+// Number 4, by the tables that every call is given: 21 cases.
 fn records(start: Score) -> Score {
-    let d = lent::deck();
     let mut s = start;
-    s = refused(s, d.count(2049), 49, 4, 0);
-    s = refused(s, d.count(4294967295), 49, 4, 0);
-    s = refused(s, d.count(6), 49, 4, 5);
-    s = refused(s, d.count(2048), 49, 4, 5);
-    s = refused(s, d.record(0, 4, 1, 4), 49, 4, 0);
-    s = refused(s, d.record(0, 0, 4, 4), 49, 4, 0);
-    s = refused(s, d.record(0, 0, 0, 4), 49, 4, 0);
-    s = refused(s, d.record(0, 0, 1, 0), 49, 4, 0);
-    s = refused(s, d.record(0, 0, 1, 65536), 49, 4, 0);
-    s = refused(s, d.record(4, 4, 2, 2), 49, 4, 4);
-    s = refused(s, d.record(3, 2, 2, 4), 49, 4, 3);
-    s = refused(s, d.record(1, 0, 3, 0), 49, 4, 1);
-    s = refused(s, d.record(4, 3, 2, 65536), 49, 4, 4);
-    s
-}
-
-// Number 4 at the later of two records out of order or with one pair. 6 cases.
-fn orders(start: Score) -> Score {
-    let d = lent::deck();
-    let mut s = start;
-    s = refused(s, d.record(1, 0, 1, 5), 49, 4, 1);
-    s = refused(s, d.record(2, 0, 2, 4), 49, 4, 2);
-    s = refused(s, d.record(3, 1, 2, 4), 49, 4, 3);
-    s = refused(s, d.record(4, 2, 0, 2), 49, 4, 4);
-    s = refused(s, d.record(0, 1, 0, 4), 49, 4, 1);
-    s = refused(s, d.record(0, 3, 2, 2), 49, 4, 1);
+    for i in 0..broken::COUNT {
+        let b = broken::at(i);
+        let c = b.network;
+        s = refused(s, c, 49, 4, b.place);
+    }
     s
 }
 
@@ -76,7 +55,7 @@ fn rooms(start: Score) -> Score {
     s
 }
 
-// All of them: 12 of sizes, 13 and 6 of records, 8 of buffers.
+// All of them: 12 of sizes, 21 of records, 8 of buffers.
 pub fn refusals(start: Score) -> Score {
-    rooms(orders(records(sizes(start))))
+    rooms(records(sizes(start)))
 }
