@@ -16,7 +16,7 @@ use Rattle.property.specs.Property.{Property}
 use Rattle.graph.specs.Edge.{Edge}
 use Rattle.graph.proofs.Tests.{both, and-true, or-right}
 use Rattle.run.specs.Run.{word, tight}
-use Rattle.affected.specs.Affected.{removed, Held, Affected, Named, struck, onward, held, marked, touches, mark, sweep, sweeps}
+use Rattle.affected.specs.Affected.{removed, Held, Affected, Named, at-removed, onward, held, marked, touches, mark, sweep, sweeps}
 
 -- ---- the test and the record
 
@@ -42,7 +42,7 @@ module _ (P : Property) (es fs : List Edge) (s : ℕ) (ws : List ℕ) where
   -- ---- closed marks have every affected vertex
 
   pub closed-marked : (ms : List Bool) → Closed P es fs s ws ms → {t : ℕ} → Affected P es fs s ws t → marked ms t ≡ true
-  closed-marked ms c (struck {e = e} m r h) = c e m (and-true (of-held P s ws e h) (rw r))
+  closed-marked ms c (at-removed {e = e} m r h) = c e m (and-true (of-held P s ws e h) (rw r))
   closed-marked ms c (onward {e = e} a m r h) = c e m (and-true (of-held P s ws e h) (or-right (removed fs e) (closed-marked ms c a)))
 
   -- ---- sweeps mark affected vertices alone
@@ -52,7 +52,7 @@ module _ (P : Property) (es fs : List Edge) (s : ℕ) (ws : List ℕ) where
   touches-named ms e g m h = let a = both (held P s ws e) _ h in pick (held-of P s ws e (a .0)) (removed fs e) refl (a .1)
     where
       pick : Held P s ws e → (b : Bool) → removed fs e ≡ b → (b || marked ms (e .tail)) ≡ true → Affected P es fs s ws (e .head)
-      pick k true r q = struck m r k
+      pick k true r q = at-removed m r k
       pick k false r q = onward (g (e .tail) q) m r k
 
   mark-named : (ms : List Bool) (e : Edge) → Named P es fs s ws ms → List·Memᴰ e es → Named P es fs s ws (mark P fs s ws ms e)
@@ -85,7 +85,7 @@ module _ (P : Property) (es fs : List Edge) (s : ℕ) (ws : List ℕ) where
   -- ---- whom the closure never has
 
   affected-elsewhere : {t : ℕ} → Affected P es fs s ws t → t ≢ s
-  affected-elsewhere (struck m r h) = h .elsewhere
+  affected-elsewhere (at-removed m r h) = h .elsewhere
   affected-elsewhere (onward a m r h) = h .elsewhere
 
   -- the landmark is never affected

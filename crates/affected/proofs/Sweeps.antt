@@ -22,7 +22,7 @@ use Rattle.graph.proofs.Lists.{fold-keeps, replicate-at}
 use Rattle.graph.proofs.Edges.{among-mem}
 use Rattle.graph.proofs.Order.{Within}
 use Rattle.run.specs.Run.{word, tight}
-use Rattle.affected.specs.Affected.{removed, Held, Affected, Named, struck, onward, marked, touches, mark, sweep, sweeps, affected, AffectedExact}
+use Rattle.affected.specs.Affected.{removed, Held, Affected, Named, at-removed, onward, marked, touches, mark, sweep, sweeps, affected, AffectedExact}
 use Rattle.affected.proofs.Closure.{Closed, sweeps-named, closed-marked, landmark-unaffected}
 
 module _ (P : Property) (es fs : List Edge) (s : ℕ) (ws : List ℕ) where
@@ -166,7 +166,7 @@ module _ (P : Property) (es fs : List Edge) (s : ℕ) (ws : List ℕ) (n : ℕ) 
         clash a = true≢false (sym (named-affected a) ∙ q)
 
         pick : (b : Bool) → removed fs e ≡ b → List·Memᴰ e fs × (marked marks (e .tail) ≡ false)
-        pick true r = absurd (clash (struck m r h))
+        pick true r = absurd (clash (at-removed m r h))
         pick false r = (among-mem fs e (not-false _ r), unaffected-unmarked (e .tail) (λ a. clash (onward a m r h)))
 
     -- the same, part by part

@@ -42,7 +42,7 @@ pub record Held (P : Property) (s : ℕ) (ws : List ℕ) (e : Edge) : Type 0 whe
   pub routed : word P ws (e .head) ≢ P .none
 
 pub data Affected (P : Property) (es fs : List Edge) (s : ℕ) (ws : List ℕ) : ℕ → Type 0 where
-  struck : {e : Edge} → List·Memᴰ e es → removed fs e ≡ true → Held P s ws e → Affected P es fs s ws (e .head)
+  at-removed : {e : Edge} → List·Memᴰ e es → removed fs e ≡ true → Held P s ws e → Affected P es fs s ws (e .head)
   onward : {e : Edge} → Affected P es fs s ws (e .tail) → List·Memᴰ e es → removed fs e ≡ false → Held P s ws e
       → Affected P es fs s ws (e .head)
 

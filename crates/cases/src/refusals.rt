@@ -142,7 +142,7 @@ pub fn query(start: Score) -> Score {
     s
 }
 
-// Deck A with two good changes around the one at index 1. The first takes 0→1.
+// Deck A: a good change, which takes 0→1, then the one at index 1. The first takes 0→1.
 fn changed(s: Score, kind: u32, t: u32, h: u32, w: u32, number: u32) -> Score {
     let place = if number == 0 { 0 } else { 1 };
     let b = changing::changed(2, 1, kind, t, h, w);

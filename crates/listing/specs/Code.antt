@@ -2,7 +2,7 @@
 --
 --   rowWords                           == the words of a row list, enough for any network: 5,120
 --   maxLine                            == the longest line has 77 bytes: seven numbers of at most ten digits, six spaces and a line feed
---   maxFirst                           == the first line has at most 51 bytes: the header, while a refusal has at most 50
+--   maxFirst                           == the first line has at most 51 bytes: the header; a refusal has fewer
 --   TableLists ts hs ws                == three lists of 2,048 words
 --   RowLists f b                       == two lists with room for the rows of any network
 --   LinesFit n xs                      == n is at most 256, and xs has room for a line of each of n vertices
@@ -33,7 +33,7 @@ use Rattle.graph.specs.Refusal.{Verdict, accept, refuse}
 use Rattle.graph.specs.Edge.{Edge, range}
 use Rattle.graph.specs.Code.{told, columns}
 use Rattle.network.specs.Network.{Network}
-use Rattle.network.specs.Query.{queryCall}
+use Rattle.network.specs.Caller.{queried}
 use Rattle.calls.specs.Code.{network}
 use Rattle.dimacs.specs.Network.{readNetwork}
 use Rattle.dimacs.specs.Sources.{readSources}
@@ -73,8 +73,7 @@ pub record LinesFit (n : ℕ) (xs : List ℕ) : Type 0 where
 -- ---- the lines of a source
 
 abbrev pub settledRow : ℕ → List ℕ → Network → ℕ → ℕ → List ℕ
-settledRow n ls w s p =
-    (queryCall n ls w (record { property = p; source = s; schedule = [] }) (record { starts = replicate n 0; settled = replicate n 0 })) .memory .settled
+settledRow n ls w s p = (queried n ls w p s []) .memory .settled
 
 pub record Rows (n : ℕ) (a b c d e : List ℕ) : Type 0 where
   pub sssp : n ≤ length a

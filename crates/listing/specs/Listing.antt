@@ -22,7 +22,7 @@
 --   graphOf r                        == the network that was read
 use mathlib.Core.List.{List, [], _∷_, _++_, map}
 use Prim.Native.Nat.{ℕ, suc}
-use lib.ListN.{length, replicate}
+use lib.ListN.{length}
 use lib.Dec.{ltb}
 use Rattle.property.specs.Property.{property, properties}
 use Rattle.graph.specs.Limits.{maxLandmarks}
@@ -30,9 +30,9 @@ use Rattle.graph.specs.Refusal.{Verdict, accept, refuse, _▷_, refuseIf, Outco
 use Rattle.graph.specs.Edge.{Edge, range}
 use Rattle.run.specs.Run.{Tally, word}
 use Rattle.network.specs.Network.{Network}
-use Rattle.network.specs.Query.{Words, queryCall}
+use Rattle.network.specs.Query.{Words}
 use Rattle.network.specs.Choice.{choice}
-use Rattle.network.specs.Caller.{holding, opened}
+use Rattle.network.specs.Caller.{holding, opened, queried}
 use Rattle.dimacs.specs.Decimal.{digits}
 use Rattle.dimacs.specs.Lines.{fieldsOf}
 use Rattle.dimacs.specs.Read.{Read}
@@ -79,8 +79,7 @@ abbrev pub networkOf : Graph → Network
 networkOf d = opened (d .n) (landmarksOf d) (heldOf d)
 
 abbrev pub queryOf : Graph → Network → ℕ → ℕ → Outcome Tally Words
-queryOf d w s p =
-    queryCall (d .n) (landmarksOf d) w (record { property = p; source = s; schedule = [] }) (record { starts = replicate (d .n) 0; settled = replicate (d .n) 0 })
+queryOf d w s p = queried (d .n) (landmarksOf d) w p s []
 
 abbrev pub valueAt : Graph → Network → ℕ → ℕ → ℕ → ℕ
 valueAt d w s t p = word (property p) ((queryOf d w s p) .memory .settled) t

@@ -58,7 +58,7 @@ pub fn open_network(
     choice
 }
 
-// Network text of at most 65,536 bytes into table lists, with zeros past its edges.
+// Network text of at most `MAX_FILE` bytes into table lists, with zeros past its edges.
 fn read_graph(gr: &[u8], tails: &mut [u32], heads: &mut [u32], weights: &mut [u32]) -> ReadReply
     requires { ⌜ TableLists (now tails) (now heads) (now weights) ⌝ }
     ensures { λ r. ⌜ GraphRead (now (gr .entry)) r (now (tails .exit)) (now (heads .exit)) (now (weights .exit)) ⌝ }
@@ -72,7 +72,7 @@ fn read_graph(gr: &[u8], tails: &mut [u32], heads: &mut [u32], weights: &mut [u3
     reader::network::read_network(gr, tails, heads, weights)
 }
 
-// A source file of at most 65,536 bytes.
+// A source file of at most `MAX_FILE` bytes.
 fn read_list(n: u32, ss: &[u8], list: &mut [u32]) -> SourcesReply
     requires { ⌜ (size n ≡ accept) × (maxSources ≤ length (now list)) ⌝ }
     ensures { λ r. ⌜ SourcesRead n (now (ss .entry)) r (now (list .exit)) ⌝ }

@@ -1,4 +1,4 @@
-// Best values recomputed from document 01's table of properties: all edges relaxed n times, or until a time betters no word. Nothing
+// Best values recomputed from document 01's table of properties: all edges relaxed n times, or until a pass betters no word. Nothing
 // here is the library's.
 use super::lists;
 

@@ -5,13 +5,16 @@
 --   reported k r       == the present count after a batch: the one reported, or k where the batch was refused
 --   handOn w o         == the network after a batch with outcome o
 --   lived n ls w bs    == the network after the batches bs: each gets the same n and landmarks and the present count
+--   queried n ls w p s vs == a query for property p from s with the schedule vs, its answer in lists of n words
 use mathlib.Core.List.{List, foldl}
 use Prim.Native.Nat.{ℕ, _*_}
 use lib.ListN.{length, replicate}
 use Rattle.graph.specs.Refusal.{Reply, accepted, refused, Outcome}
 use Rattle.graph.specs.Edge.{Edge}
+use Rattle.run.specs.Run.{Tally}
 use Rattle.network.specs.Network.{Memory, Network, rowCount}
 use Rattle.network.specs.Open.{openCall}
+use Rattle.network.specs.Query.{Words, queryCall}
 use Rattle.network.specs.Change.{Change}
 use Rattle.network.specs.Batch.{Report, column, batchCall}
 
@@ -36,3 +39,7 @@ handOn w o = record { memory = o .memory; count = reported (w .count) (o .reply)
 
 abbrev pub lived : ℕ → List ℕ → Network → List (List Change) → Network
 lived n ls w bs = foldl (λ v b. handOn v (batchCall n ls v b)) w bs
+
+abbrev pub queried : ℕ → List ℕ → Network → ℕ → ℕ → List ℕ → Outcome Tally Words
+queried n ls w p s vs =
+    queryCall n ls w (record { property = p; source = s; schedule = vs }) (record { starts = replicate n 0; settled = replicate n 0 })

@@ -17,23 +17,21 @@
 --   Starred                  == the statement: every line is found as document 01 says it
 --   those i ms               == the marked vertices of the marks ms, the first of which is vertex i
 --   affectedList             == the affected vertices of a row of one side
---   queried n ls w p s vs    == a query with lists of n words
 --   saidOfQuery, saidOfBatch == a reply as an answer
 --   onA, alone               == a line about Deck A, about one vertex and no edge
 use mathlib.Core.Path.{_≡_}
 use mathlib.Core.Bool.{Bool, true, false}
 use mathlib.Core.List.{List, [], _∷_, map}
 use Prim.Native.Nat.{ℕ, zero, suc}
-use lib.ListN.{replicate}
 use Rattle.property.specs.Property.{M}
-use Rattle.graph.specs.Refusal.{Reply, accepted, refused, Outcome}
+use Rattle.graph.specs.Refusal.{Reply, accepted, refused}
 use Rattle.graph.specs.Edge.{Edge, edge, reverse}
 use Rattle.run.specs.Run.{Tally}
 use Rattle.network.specs.Network.{Network, edgesIn}
-use Rattle.network.specs.Query.{Words, rowAt, queryCall}
+use Rattle.network.specs.Query.{rowAt}
 use Rattle.network.specs.Change.{Change}
 use Rattle.network.specs.Batch.{affectedIn, Report, newEdges, batchCall}
-use Rattle.network.specs.Caller.{holding, opened, lived}
+use Rattle.network.specs.Caller.{holding, opened, lived, queried}
 
 -- ---- networks and changes
 
@@ -90,11 +88,6 @@ unfoldable pub affectedList : ℕ → List ℕ → Network → List Change → �
 affectedList n ls w b zero r = those 0 (affectedIn n ls (edgesIn w) (newEdges w b) (w .memory .rows .forward) r)
 affectedList n ls w b (suc side) r =
     those 0 (affectedIn n ls (map reverse (edgesIn w)) (map reverse (newEdges w b)) (w .memory .rows .backward) r)
-
--- a query with lists of n words
-abbrev pub queried : ℕ → List ℕ → Network → ℕ → ℕ → List ℕ → Outcome Tally Words
-queried n ls w p s vs =
-    queryCall n ls w (record { property = p; source = s; schedule = vs }) (record { starts = replicate n 0; settled = replicate n 0 })
 
 unfoldable pub answer : ℕ → List ℕ → Network → Ask → Said
 answer n ls w (settled p s) = let o = queried n ls w p s [] in saidOfQuery (o .reply) (λ a. words (o .memory .settled))

@@ -47,7 +47,7 @@ pub record Before (n m : ℕ) (ts hs ws gs : List ℕ) (g : ℕ) (vs : List ℕ)
 
 pub record Into (n m : ℕ) (is xs : List ℕ) : Type 0 where
   pub firsts : n < length is
-  pub heads : m ≤ length xs
+  pub tails : m ≤ length xs
   pub rising : (v : ℕ) → v < n → getD is v 0 ≤ getD is (v + 1) 0
   pub within : (v : ℕ) → v < n → getD is (v + 1) 0 ≤ m
   pub inside : (k : ℕ) → k < m → getD xs k 0 < n

@@ -67,7 +67,7 @@ compared-reversed n m ts hs ws gs g m′ ts′ hs′ ws′ c = record {
 pub entered-reversed : (n m : ℕ) (is xs vs ts hs ws : List ℕ) → Room m ts hs ws → Ends n m ts hs → Indexed n m is xs vs (edges hs ts ws m)
     → Entered n m is xs (edges ts hs ws m)
 entered-reversed n m is xs vs ts hs ws r k i = record {
-  index = record { firsts = i .fit .firsts; heads = i .fit .heads; rising = i .fit .rising; within = i .fit .within; inside = i .fit .inside };
+  index = record { firsts = i .fit .firsts; tails = i .fit .heads; rising = i .fit .rising; within = i .fit .within; inside = i .fit .inside };
   inward = record {
     reads = λ v j h a b.
         let z = mem-reverse (own-reads n is xs vs (edges hs ts ws m) (i .own) v j h a b) in
