@@ -102,7 +102,7 @@ follows-fit : (n : ℕ) (p : Edge) (es : List Edge) → Follows n p es → (e : 
 follows-fit n p [] h e m = absurd (List·Memᴰ·not-nil m)
 follows-fit n p (x ∷ es) h e m = ⊎-elim (λ q. rw q (h .1)) (λ k. follows-fit n x es (h .2) e k) (List·Memᴰ·cases-cons m)
 
-sound-fit : (n : ℕ) (es : List Edge) → Sound n es → (e : Edge) → List·Memᴰ e es → isEdge n e ≡ true
+pub sound-fit : (n : ℕ) (es : List Edge) → Sound n es → (e : Edge) → List·Memᴰ e es → isEdge n e ≡ true
 sound-fit n [] h e m = absurd (List·Memᴰ·not-nil m)
 sound-fit n (x ∷ es) h e m = ⊎-elim (λ q. rw q (h .0)) (λ k. follows-fit n x es (h .1) e k) (List·Memᴰ·cases-cons m)
 

@@ -5,3 +5,4 @@ pub mod Table
 pub mod Route
 pub mod Code
 pub mod Own
+pub mod Routed

@@ -10,7 +10,7 @@ use lib.ListN.{length, set, replicate}
 use Rattle.property.specs.Property.{M, sssp, bfs, sswp, ssnp, ssr}
 use Rattle.frontier.specs.Waiting.{anyOf}
 use Rattle.graph.specs.Edge.{Edge, edge, reverse, keepIf, keep, range}
-use Rattle.run.specs.Run.{State, relaxable, storeIf, relax, clear, handle, visitIf, visit, takeIf, take, pass, round, settle}
+use Rattle.run.specs.Run.{State, relaxable, storeIf, relax, clear, handle, visitIf, visit, takeEntryIf, takeEntry, pass, round, settle}
 use Rattle.run.specs.Start.{opened, Landmark, finer, bound, asked}
 
 -- words, the vertices that wait, and the tally: picks taken, rounds, stores
@@ -139,7 +139,7 @@ passes =
     ∷ []
 
 passes-said : map (λ c. c .0) passes ≡ map (λ c. c .1) passes
-unfolding opened pass take takeIf handle clear relax storeIf keep keepIf settle anyOf round visit visitIf range
+unfolding opened pass takeEntry takeEntryIf handle clear relax storeIf keep keepIf settle anyOf round visit visitIf range
 passes-said = refl
 
 -- ---- rounds and their budget

@@ -133,12 +133,12 @@ taking t = record { taken = t .taken + 1; rounds = t .rounds; stores = t .stores
 
 module _ (P : Property) (es : List Edge) (n u : ℕ) (ws bs : List ℕ) (t : Tally) (h : u < n) where
   pub take-waiting : (st : State) → getD (waitingOf bs) u false ≡ true → st ≡ handle P es (state n ws bs (taking t)) u
-      → st ≡ run.take P es (state n ws bs t) u
-  unfolding run.take run.takeIf
+      → st ≡ run.takeEntry P es (state n ws bs t) u
+  unfolding run.takeEntry run.takeEntryIf
   take-waiting st w e = rw (bits-at n bs u h ∙ w) (rw add-one at e)
 
-  pub take-idle : getD (waitingOf bs) u false ≡ false → state n ws bs t ≡ run.take P es (state n ws bs t) u
-  unfolding run.take run.takeIf
+  pub take-idle : getD (waitingOf bs) u false ≡ false → state n ws bs t ≡ run.takeEntry P es (state n ws bs t) u
+  unfolding run.takeEntry run.takeEntryIf
   take-idle w = rw (bits-at n bs u h ∙ w)
 
 pub ran-taken : {n : ℕ} {ws bs : List ℕ} {r : Tally} {b c : ℕ} (t : Tally) → Ran n ws bs (taking t) r 0 b c → Ran n ws bs t r 1 b c

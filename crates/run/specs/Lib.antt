@@ -1,3 +1,5 @@
 pub mod Run
 pub mod Start
 pub mod Code
+pub mod Values
+pub mod Rounds

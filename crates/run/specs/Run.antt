@@ -10,14 +10,14 @@
 --   clear st i                   == vertex i waits no more
 --   handle P es st i             == vertex i is handled: its bit is cleared, then its edges are gone along in table order
 --   visit P es st i              == vertex i is handled if it waits
---   take P es st i               == one entry of the schedule: handled and counted if it waits, else skipped
+--   takeEntry P es st i          == one entry of the schedule: handled and counted if it waits, else skipped
 --   pass P es vs st              == the schedule vs is gone through
 --   round P es n st              == one round: vertices ascending, each handled if waiting when its turn comes
 --   settle P es n k st           == rounds while any waits, at most k of them
 --   noTally                      == the tally of a run that starts
 --   oneTaken, oneRound, oneStore == the tally raised by a step
 --   counted f st                 == the state st with its tally raised by f
---   storeIf, visitIf, takeIf     == what a step does where its test holds
+--   storeIf, visitIf, takeEntryIf == what a step does where its test holds
 use mathlib.Core.Bool.{Bool, true, false}
 use mathlib.Core.List.{List, foldl}
 use Prim.Native.Nat.{ℕ, zero, suc}
@@ -89,15 +89,15 @@ visitIf false P es st i = st
 unfoldable pub visit : Property → List Edge → State → ℕ → State
 visit P es st i = visitIf (waits st i) P es st i
 
-unfoldable pub takeIf : Bool → Property → List Edge → State → ℕ → State
-takeIf true P es st i = handle P es (counted oneTaken st) i
-takeIf false P es st i = st
+unfoldable pub takeEntryIf : Bool → Property → List Edge → State → ℕ → State
+takeEntryIf true P es st i = handle P es (counted oneTaken st) i
+takeEntryIf false P es st i = st
 
-unfoldable pub take : Property → List Edge → State → ℕ → State
-take P es st i = takeIf (waits st i) P es st i
+unfoldable pub takeEntry : Property → List Edge → State → ℕ → State
+takeEntry P es st i = takeEntryIf (waits st i) P es st i
 
 unfoldable pub pass : Property → List Edge → List ℕ → State → State
-pass P es vs st = foldl (take P es) st vs
+pass P es vs st = foldl (takeEntry P es) st vs
 
 unfoldable pub round : Property → List Edge → ℕ → State → State
 round P es n st = foldl (visit P es) (counted oneRound st) (range 0 n)

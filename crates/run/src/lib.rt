@@ -157,7 +157,7 @@ fn take(
 ) -> Tally
     requires { ⌜ u < n ⌝ }
     requires { ⌜ Ready 38 n count (now firsts) (now heads) (now weights) (now words) (now waiting) tally ⌝ }
-    ensures { λ r. ⌜ ((es : List Edge) → Own n (now (firsts .entry)) (now (heads .entry)) (now (weights .entry)) es → state n (now (words .exit)) (now (waiting .exit)) r ≡ spec.take (property p) es (state n (now (words .entry)) (now (waiting .entry)) tally) u) ⌝ }
+    ensures { λ r. ⌜ ((es : List Edge) → Own n (now (firsts .entry)) (now (heads .entry)) (now (weights .entry)) es → state n (now (words .exit)) (now (waiting .exit)) r ≡ spec.takeEntry (property p) es (state n (now (words .entry)) (now (waiting .entry)) tally) u) ⌝ }
     ensures { λ r. ⌜ Ran n (now (words .exit)) (now (waiting .exit)) tally r 1 0 maxEdges ⌝ }
 {
     if frontier::contains(waiting, u) {

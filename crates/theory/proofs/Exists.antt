@@ -12,7 +12,8 @@ use Rattle.property.specs.Property.{M, Property}
 use Rattle.property.specs.Laws.{Laws}
 use Rattle.graph.specs.Edge.{Edge}
 use Rattle.graph.specs.Route.{Route, here, step, Best}
-use Rattle.theory.proofs.Value.{Way, Weighed, Attained, way-fits, way-after}
+use Rattle.theory.specs.Best.{Weighed, BestExists, BestUnique}
+use Rattle.theory.proofs.Value.{Way, Attained, way-fits, way-after}
 
 abbrev Top : Property → List Edge → ℕ → ℕ → ℕ → Type 0
 Top P es s v t = ((u : ℕ) × Way P es s v t u × ((w : ℕ) → Way P es s v t w → P .better w u ≡ false)) ⊎ ((w : ℕ) → Way P es s v t w → ⊥)
@@ -28,7 +29,7 @@ route-map f here = here
 route-map f (step {e = e} r m) = step (route-map f r) (f e m)
 
 module _ {P : Property} (L : Laws P) where
-  open Property P using (start, none, along, better)
+  open Property P using (along, better)
 
   way-join : {es : List Edge} {s v h a t u : ℕ} → Way P es s v h a → Way P es h a t u → Way P es s v t u
   way-join r here = r
@@ -118,19 +119,27 @@ module _ {P : Property} (L : Laws P) where
       let g : Weighed es = λ e m. f e (List·Memᴰ·tail m) in
       finer o es f s v h t (top es g s v t h) (via o es f s v h t (top es g s v (o .tail) h) (λ y k. top es g (o .head) y t k))
 
-  pub best-exists : (es : List Edge) → Weighed es → (s t : ℕ) → (v : ℕ) × Best P es s t v
-  best-exists es f s t = pick (top es f s start t (L .start-fits))
-    where
-      pick : Top P es s start t → (v : ℕ) × Best P es s t v
-      pick (inl (u, r, first)) = (u, record { unbettered = first; attained = inl r })
-      pick (inr d) = (none, record { unbettered = λ w r. absurd (d w r); attained = inr (d, refl) })
+pub best-some : {P : Property} → Laws P → (es : List Edge) → Weighed es → (s t : ℕ) → (v : ℕ) × Best P es s t v
+best-some {P} L es f s t = pick (top L es f s (P .start) t (L .start-fits))
+  where
+    pick : Top P es s (P .start) t → (v : ℕ) × Best P es s t v
+    pick (inl (u, r, first)) = (u, record { unbettered = first; attained = inl r })
+    pick (inr d) = (P .none, record { unbettered = λ w r. absurd (d w r); attained = inr (d, refl) })
 
-  -- two best values are values of routes, neither better than the other; or there is no route, and both are none
-  pub best-unique : {es : List Edge} {s t v w : ℕ} → Best P es s t v → Best P es s t w → v ≡ w
-  best-unique {es} {s} {t} {v} {w} a b = pick (a .attained) (b .attained)
-    where
-      pick : Attained P es s t v → Attained P es s t w → v ≡ w
-      pick (inl r) (inl q) = L .antisymmetric v w (b .unbettered v r) (a .unbettered w q)
-      pick (inl r) (inr c) = absurd (c .0 v r)
-      pick (inr c) (inl q) = absurd (c .0 w q)
-      pick (inr c) (inr d) = c .1 ∙ sym (d .1)
+-- two best values are values of routes, neither better than the other; or there is no route, and both are none
+pub best-same : {P : Property} → Laws P → {es : List Edge} {s t v w : ℕ} → Best P es s t v → Best P es s t w → v ≡ w
+best-same {P} L {es} {s} {t} {v} {w} a b = pick (a .attained) (b .attained)
+  where
+    pick : Attained P es s t v → Attained P es s t w → v ≡ w
+    pick (inl r) (inl q) = L .antisymmetric v w (b .unbettered v r) (a .unbettered w q)
+    pick (inl r) (inr c) = absurd (c .0 v r)
+    pick (inr c) (inl q) = absurd (c .0 w q)
+    pick (inr c) (inr d) = c .1 ∙ sym (d .1)
+
+-- ---- the claims
+
+pub best-exists : BestExists
+best-exists P L = best-some L
+
+pub best-unique : BestUnique
+best-unique P L es s t v w a b = best-same L a b

@@ -6,3 +6,6 @@ pub mod Tight
 pub mod Rest
 pub mod Reverse
 pub mod Query
+pub mod Rounds
+pub mod Hops
+pub mod Routed

@@ -34,7 +34,7 @@ use Rattle.run.specs.Run.{State, oneRound, counted, word, waits, relaxable, sto
 use Rattle.theory.proofs.Walk.{Walk, stay, go, walk-of}
 use Rattle.theory.proofs.Settle.{Settled, Backed, Inv, visit-keeps, visits-keep, settle-idle, settle-more, handle-rises, handle-good, round-good, inv-idle}
 use Rattle.theory.proofs.Value.{Attained, value-fits, value-before, best-settled}
-use Rattle.theory.proofs.Exists.{best-exists}
+use Rattle.theory.proofs.Exists.{best-some}
 use Rattle.theory.proofs.Tight.{tight-walk, source-word}
 
 -- ---- lists of Bool
@@ -49,7 +49,7 @@ count-mono (false ∷ a) [] h = count-mono a [] (λ k. h (suc k))
 count-mono (false ∷ a) (false ∷ b) h = count-mono a b (λ k. h (suc k))
 count-mono (false ∷ a) (true ∷ b) h = let z = count-mono a b (λ k. h (suc k)) in omega arith
 
-count-less : (a b : List Bool) (y : ℕ) → y < length a → ((k : ℕ) → getD a k false ≡ true → getD b k false ≡ true)
+pub count-less : (a b : List Bool) (y : ℕ) → y < length a → ((k : ℕ) → getD a k false ≡ true → getD b k false ≡ true)
     → getD a y false ≡ false → getD b y false ≡ true → countOf a < countOf b
 count-less a b y l h p q =
     let z = count-mono (set a y true) b (λ k e. ⊎-elim (λ c. rw (c .0) q) (λ c. h k (sym (c .1) ∙ e)) (at-set a y true k false l)) in
@@ -282,13 +282,13 @@ module _ {P : Property} (L : Laws P) (es : List Edge) (s n : ℕ) (inside : With
   settle-rests h st g = rests-in h (map top (range 0 n)) (length-table top 0 n) (λ t. pick t (decLt t n)) st g
     where
       top : ℕ → ℕ
-      top t = (best-exists L es (inside .weights) s t) .0
+      top t = (best-some L es (inside .weights) s t) .0
 
       end-below : {t u : ℕ} → Route P es s t u → t < n
       end-below here = h
       end-below (step {e = e} r m) = inside .heads e m
 
       pick : (t : ℕ) → Dec (t < n) → Best P es s t (word P (map top (range 0 n)) t)
-      pick t (yes k) = rw (table-at top n t none k) ((best-exists L es (inside .weights) s t) .1)
+      pick t (yes k) = rw (table-at top n t none k) ((best-some L es (inside .weights) s t) .1)
       pick t (no d) = rw (List·getD-eq-default (map top (range 0 n)) none {n = t} (let z = length-table top 0 n in omega arith))
           (record { unbettered = λ u r. absurd (d (end-below r)); attained = inr (λ u r. d (end-below r), refl) })

@@ -26,7 +26,7 @@ use Rattle.graph.specs.Route.{Route, here, step}
 use Rattle.graph.proofs.Lists.{at-set, fold-keeps}
 use Rattle.graph.proofs.Edges.{leaving-in, in-leaving}
 use Rattle.graph.proofs.Order.{Within}
-use Rattle.run.specs.Run.{State, oneTaken, oneRound, counted, word, waits, relaxable, storeIf, relax, clear, handle, visitIf, visit, takeIf, take, pass, round, settle}
+use Rattle.run.specs.Run.{State, oneTaken, oneRound, counted, word, waits, relaxable, storeIf, relax, clear, handle, visitIf, visit, takeEntryIf, takeEntry, pass, round, settle}
 
 -- ---- what is said of words and states
 
@@ -86,17 +86,17 @@ module _ (P : Property) (es : List Edge) (Q : State → Type 0) (handling : (st 
   visits-keep vs st q = fold-keeps Q (visit P es) visit-keeps vs st q
 
   module _ (counting : (st : State) → Q st → Q (counted oneTaken st)) where
-    pub take-keeps : (st : State) (i : ℕ) → Q st → Q (take P es st i)
-    unfolding take takeIf
+    pub take-keeps : (st : State) (i : ℕ) → Q st → Q (takeEntry P es st i)
+    unfolding takeEntry takeEntryIf
     take-keeps st i q = pick (waits st i)
       where
-        pick : (b : Bool) → Q (takeIf b P es st i)
+        pick : (b : Bool) → Q (takeEntryIf b P es st i)
         pick true = handling (counted oneTaken st) i (counting st q)
         pick false = q
 
     pub pass-keeps : (vs : List ℕ) (st : State) → Q st → Q (pass P es vs st)
     unfolding pass
-    pass-keeps vs st q = fold-keeps Q (take P es) take-keeps vs st q
+    pass-keeps vs st q = fold-keeps Q (takeEntry P es) take-keeps vs st q
 
   module _ (counting : (st : State) → Q st → Q (counted oneRound st)) (n : ℕ) where
     pub round-keeps : (st : State) → Q st → Q (round P es n st)

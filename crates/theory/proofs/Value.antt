@@ -2,7 +2,6 @@
 --
 --   from P v              == the property P with v as its value at the source
 --   Way P es s v t u      == a route from s to t along edges of es that has v at s and u at t
---   Weighed es            == weights are words
 --   Attained P es s t v   == v is the value of a route from s to t, or there is none and v is the no-route word
 use mathlib.Core.Path.{_≡_, refl, sym, ap, _∙_}
 use mathlib.Core.Logic.{_⊎_, inl, inr, ⊎-elim}
@@ -20,6 +19,7 @@ use Rattle.graph.proofs.Lists.{at-set, replicate-at}
 use Rattle.graph.proofs.Order.{Within}
 use Rattle.run.specs.Run.{State, word, relaxable, settle}
 use Rattle.run.specs.Start.{opened}
+use Rattle.theory.specs.Best.{Weighed}
 use Rattle.theory.proofs.Walk.{Walk, walk?, walk-of, route-of}
 use Rattle.theory.proofs.Settle.{Settled, Backed, Sound, Inv, settled-complete, settled, settle-good}
 
@@ -28,9 +28,6 @@ from P v = record { start = v; none = P .none; along = P .along; better = P .bet
 
 abbrev pub Way : Property → List Edge → ℕ → ℕ → ℕ → ℕ → Type 0
 Way P es s v t u = Route (from P v) es s t u
-
-abbrev pub Weighed : List Edge → Type 0
-Weighed es = (e : Edge) → List·Memᴰ e es → e .weight ≤ M
 
 -- how a best value comes about
 abbrev pub Attained : Property → List Edge → ℕ → ℕ → ℕ → Type 0

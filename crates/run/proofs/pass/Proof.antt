@@ -21,7 +21,7 @@ use Rattle.run.proofs.pass.Tie as tie
 abbrev Inv-loop : tie.InvT-loop
 Inv-loop p n count firsts heads weights schedule words₀ waiting₀ t₀ entry₀ words waiting t entry =
     ((es : List Edge) → Own n firsts heads weights es
-    → foldl (spec.take (property p) es) (state n words waiting t) (drop entry schedule) ≡ spec.pass (property p) es schedule (state n words₀ waiting₀ t₀))
+    → foldl (spec.takeEntry (property p) es) (state n words waiting t) (drop entry schedule) ≡ spec.pass (property p) es schedule (state n words₀ waiting₀ t₀))
     × (entry ≤ length schedule) × Ran n words waiting t₀ t entry 0 (maxEdges * entry)
 
 abbrev μ-loop : tie.MeasureT-loop
@@ -68,7 +68,7 @@ loop-again c =
     let g = s .args in
     let at = l .loop in (
       λ es o.
-          fold-turn (spec.take (property (g .p)) es) _ (drop-more (g .schedule .now) (at .entry) (t .loop-test .taken)) (r .take .ensures .0 es o) (at .inv .0 es o),
+          fold-turn (spec.takeEntry (property (g .p)) es) _ (drop-more (g .schedule .now) (at .entry) (t .loop-test .taken)) (r .take .ensures .0 es o) (at .inv .0 es o),
       omega arith,
       ran-then (at .inv .2) (r .take .ensures .1) (omega arith) (omega arith) (omega arith),
     )
@@ -81,7 +81,7 @@ returns c =
     let l = c .before in
     let s = l .before .before .before .before .before .before in
     let g = s .args in (
-      λ es o. fold-done (spec.take (property (g .p)) es) (drop-of-length-le (g .schedule .now) (c .loop-test .left)) (l .loop .inv .0 es o),
+      λ es o. fold-done (spec.takeEntry (property (g .p)) es) (drop-of-length-le (g .schedule .now) (c .loop-test .left)) (l .loop .inv .0 es o),
       ran-within (l .loop .inv .2) (omega arith) (omega arith) (omega arith),
     )
 

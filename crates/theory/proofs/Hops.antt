@@ -1,0 +1,92 @@
+-- The values that a run from one vertex finds; and how few edges a best route needs. Assumes nothing.
+--
+--   Level j      == some vertex below n has the word j
+--   under j      == which of the n vertices have a word below j, as a list
+use mathlib.Core.Path.{_≡_, sym, _∙_}
+use mathlib.Core.Bool.{Bool, true, false, true≢false}
+use mathlib.Core.List.{List, map}
+use Prim.Native.Nat.{ℕ, zero, suc, _≤_, _<_}
+use native.Mathlib.Decide.{decLt}
+use native.Mathlib.Omega.{arith}
+use lib.ListN.{getD, length, List·getD-eq-default}
+use lib.Dec.{ltb}
+use borrow.Author.Tests.{eqb-true, ltb-true, lt-ltb, le-ltb}
+use Rattle.property.specs.Property.{Property, plus, bfs}
+use Rattle.property.specs.Laws.{Laws}
+use Rattle.property.proofs.Instances.{bfs-laws}
+use Rattle.frontier.specs.Waiting.{countOf}
+use Rattle.frontier.proofs.Counts.{count-le}
+use Rattle.graph.specs.Edge.{Edge, keep, range}
+use Rattle.graph.specs.Route.{Best}
+use Rattle.graph.proofs.Lists.{length-table, table-at}
+use Rattle.graph.proofs.Edges.{keep-in}
+use Rattle.graph.proofs.Order.{Within}
+use Rattle.run.specs.Run.{word, tight}
+use Rattle.run.specs.Start.{opened}
+use Rattle.run.specs.Values.{valuesFrom}
+use Rattle.theory.proofs.Walk.{Walk, stay, go}
+use Rattle.theory.proofs.Value.{opened-good, opened-best}
+use Rattle.theory.proofs.Tight.{tight-walk, source-word}
+use Rattle.theory.proofs.Rest.{count-less, settle-rests}
+
+-- ---- the values from one vertex are best
+
+-- an opened row keeps the invariant of runs, so nothing waits after n rounds, and where nothing waits words are best values
+pub values-best : {P : Property} (L : Laws P) (es : List Edge) (s n : ℕ) → Within n es → s < n → (t : ℕ) → Best P es s t (word P (valuesFrom P es n s) t)
+values-best {P} L es s n inside h t = opened-best L es s n inside h n (settle-rests L es s n inside h (opened P n s) (opened-good L es s n inside h)) t
+
+-- ---- few edges
+
+module _ (es : List Edge) (s n : ℕ) (inside : Within n es) (h : s < n) (ws : List ℕ) (best : (t : ℕ) → Best bfs es s t (word bfs ws t)) where
+  abbrev Level : ℕ → Type 0
+  Level j = (u : ℕ) × (u < n) × (word bfs ws u ≡ j)
+
+  -- along a tight walk a word rises from 0 by at most 1
+  level : {t : ℕ} → Walk (keep (tight bfs ws) es) s t → (j : ℕ) → j ≤ word bfs ws t → Level j
+  level stay j l = (s, h, (let z = source-word bfs-laws es s n inside ws best in omega arith))
+  level (go {e = e} w m) j l = pick (λ k. level w j k) (decLt (word bfs ws (e .tail)) j)
+    where
+      pick : (j ≤ word bfs ws (e .tail) → Level j) → Dec (word bfs ws (e .tail) < j) → Level j
+      pick below (no d) = below (omega arith)
+      pick below (yes k) =
+          let (mo, t) = keep-in (tight bfs ws) es e m in
+          let z : plus (word bfs ws (e .tail)) 1 ≡ word bfs ws (e .head) = eqb-true _ _ t in
+          (e .head, inside .heads e mo, omega arith)
+
+  abbrev isUnder : ℕ → ℕ → Bool
+  isUnder j u = ltb (word bfs ws u) j
+
+  under : ℕ → List Bool
+  under j = map (isUnder j) (range 0 n)
+
+  under-length : (j : ℕ) → length (under j) ≡ n
+  unfolding under
+  under-length j = length-table (isUnder j) 0 n
+
+  under-at : (j u : ℕ) → u < n → getD (under j) u false ≡ isUnder j u
+  unfolding under
+  under-at j u k = table-at (isUnder j) n u false k
+
+  under-grows : (j u : ℕ) → getD (under j) u false ≡ true → getD (under (suc j)) u false ≡ true
+  under-grows j u q = pick (decLt u n)
+    where
+      pick : Dec (u < n) → getD (under (suc j)) u false ≡ true
+      pick (yes k) = let z : word bfs ws u < j = ltb-true _ _ (sym (under-at j u k) ∙ q) in under-at (suc j) u k ∙ lt-ltb (word bfs ws u) (suc j) (omega arith)
+      pick (no d) = absurd (true≢false (sym q ∙ List·getD-eq-default (under j) false (let z = under-length j in omega arith)))
+
+  -- each level has a vertex of its own, so as many vertices lie below the level j
+  under-many : {t : ℕ} → Walk (keep (tight bfs ws) es) s t → (j : ℕ) → j ≤ suc (word bfs ws t) → j ≤ countOf (under j)
+  under-many w zero l = omega arith
+  under-many w (suc j) l =
+      let (u, k, z) = level w j (omega arith) in
+      let c = count-less (under j) (under (suc j)) u (omega (arith, under-length j)) (under-grows j)
+      (under-at j u k ∙ le-ltb (word bfs ws u) j (omega arith)) (under-at (suc j) u k ∙ lt-ltb (word bfs ws u) (suc j) (omega arith)) in
+      let i = under-many w j (omega arith) in
+      omega arith
+
+  -- Where there is a walk, fewer than n edges are enough. Tight edges reach its end, and along them the number of edges rises from 0 by
+  -- at most 1. So each number up to that of the end is the number of some vertex, and there are n vertices.
+  pub hops-few : {t : ℕ} → Walk es s t → word bfs ws t < n
+  hops-few {t} w =
+      let k = under-many (tight-walk bfs-laws es s n inside ws best w) (suc (word bfs ws t)) (omega arith) in
+      omega (arith, count-le (under (suc (word bfs ws t))), under-length (suc (word bfs ws t)))

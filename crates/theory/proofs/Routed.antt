@@ -1,0 +1,111 @@
+-- The no-route word stands exactly where there is no route: on n vertices a best route needs fewer than n edges, and no value of so few
+-- edges comes to the no-route word. Assumes nothing.
+--
+--   Weighty w es   == weights are 1 to w
+use mathlib.Core.Path.{_≡_, sym, _∙_, subst}
+use mathlib.Core.Logic.{_⊎_, inl, inr, ⊎-elim}
+use mathlib.Core.Bool.{true, false, not, true≢false}
+use mathlib.Core.List.{List, List·Memᴰ}
+use Prim.Native.Nat.{ℕ, zero, suc, _*_, _≤_, _<_}
+use native.Mathlib.Omega.{arith}
+use lib.Dec.{ltb, leb, eqb}
+use borrow.Author.Tests.{ltb-true, leb-true}
+use Rattle.property.specs.Property.{M, plus, Property, sssp, bfs, sswp, ssnp, ssr, property}
+use Rattle.property.specs.Laws.{Laws}
+use Rattle.property.specs.RouteLaws.{Lasting}
+use Rattle.property.proofs.Instances.{bfs-laws, property-laws}
+use Rattle.property.proofs.Tests.{tests}
+use Rattle.graph.specs.Limits.{maxVertices, maxWeight}
+use Rattle.graph.specs.Edge.{Edge}
+use Rattle.graph.specs.Table.{isWeight}
+use Rattle.graph.specs.Route.{Route, here, step, Best}
+use Rattle.graph.specs.Routed.{Routed}
+use Rattle.graph.proofs.Tests.{both}
+use Rattle.graph.proofs.Order.{Sound, Within, within, sound-fit, rules-accept}
+use Rattle.run.specs.Run.{word}
+use Rattle.run.specs.Values.{valuesFrom}
+use Rattle.theory.specs.Routed.{BestRouted}
+use Rattle.theory.proofs.Walk.{walk-of}
+use Rattle.theory.proofs.Value.{Attained, value-fits}
+use Rattle.theory.proofs.Hops.{values-best, hops-few}
+
+-- ---- the five properties, within the limits
+
+pub sssp-lasting : Lasting sssp maxVertices maxWeight
+sssp-lasting = record { floor = λ k. k * maxWeight; floor-start = omega tests; floor-along = omega tests; floor-holds = omega tests }
+
+pub bfs-lasting : Lasting bfs maxVertices maxWeight
+bfs-lasting = record { floor = λ k. k; floor-start = omega tests; floor-along = omega tests; floor-holds = omega tests }
+
+pub sswp-lasting : Lasting sswp maxVertices maxWeight
+sswp-lasting = record { floor = λ k. 1; floor-start = omega tests; floor-along = omega tests; floor-holds = omega tests }
+
+pub ssnp-lasting : Lasting ssnp maxVertices maxWeight
+ssnp-lasting = record { floor = λ k. maxWeight; floor-start = omega tests; floor-along = omega tests; floor-holds = omega tests }
+
+pub ssr-lasting : Lasting ssr maxVertices maxWeight
+ssr-lasting = record { floor = λ k. 1; floor-start = omega tests; floor-along = omega tests; floor-holds = omega tests }
+
+pub property-lasting : (p : ℕ) → Lasting (property p) maxVertices maxWeight
+unfolding property
+property-lasting zero = ssr-lasting
+property-lasting (suc zero) = sssp-lasting
+property-lasting (suc (suc zero)) = bfs-lasting
+property-lasting (suc (suc (suc zero))) = sswp-lasting
+property-lasting (suc (suc (suc (suc zero)))) = ssnp-lasting
+property-lasting (suc (suc (suc (suc (suc k))))) = ssr-lasting
+
+-- ---- what is said of edges
+
+abbrev pub Weighty : ℕ → List Edge → Type 0
+Weighty w es = (e : Edge) → List·Memᴰ e es → (0 < e .weight) × (e .weight ≤ w)
+
+-- the rules of a table keep weights within the limits
+pub sound-weighty : (n : ℕ) (es : List Edge) → Sound n es → Weighty maxWeight es
+sound-weighty n es h e m =
+    let a = both (ltb (e .tail) n) _ (sound-fit n es h e m) in
+    let b = both (ltb (e .head) n) _ (a .1) in
+    let c = both (not (eqb (e .tail) (e .head))) (isWeight (e .weight)) (b .1) in
+    let d = both (ltb 0 (e .weight)) (leb (e .weight) maxWeight) (c .1) in
+    (ltb-true _ _ (d .0), leb-true _ _ (d .1))
+
+module _ {P : Property} (L : Laws P) {m w : ℕ} (lasting : Lasting P m w) (es : List Edge) (n : ℕ) (inside : Within n es) (weights : Weighty w es)
+    (few : n ≤ m) (fits : m ≤ M) (s : ℕ) (h : s < n) where
+  open Property P using (start, none, along, better)
+
+  -- the edges of a route of k, by their number, give the property a value that is no worse than the floor of k
+  route-floor : {t k : ℕ} → Route bfs es s t k → k < M → (v : ℕ) × Route P es s t v × (better (lasting .floor k) v ≡ false)
+  route-floor here l = (start, here, lasting .floor-start)
+  route-floor (step {e = e} {v = k} r i) l =
+      let z : plus k 1 ≡ suc k = omega arith in
+      let (v, q, f) = route-floor r (omega arith) in
+      let y = weights e i in (
+        along v (e .weight),
+        step q i,
+        subst (λ j. better (lasting .floor j) (along v (e .weight)) ≡ false) (sym z)
+            (lasting .floor-along k v (e .weight) (value-fits L es s n inside q) f (y .0) (y .1)),
+      )
+
+  -- Where there is a route, the best number of edges is below n, so some route of so few edges is better than the no-route word; and the
+  -- best value is no worse than that route's. Where there is none, the best value is the no-route word by what a best value is.
+  pub value-routed : {t v : ℕ} → Best P es s t v → Routed P es s t v
+  value-routed {t} {v} b = (λ z u r. never z r, λ d. ⊎-elim (λ r. absurd (d v r)) (λ c. c .1) (b .attained))
+    where
+      never : {u : ℕ} → v ≡ none → Route P es s t u → ⊥
+      never {u} z r = pick ((values-best bfs-laws es s n inside h t) .attained)
+        where
+          fewer : word bfs (valuesFrom bfs es n s) t < n
+          fewer = hops-few es s n inside h (valuesFrom bfs es n s) (values-best bfs-laws es s n inside h) (walk-of r)
+
+          pick : Attained bfs es s t (word bfs (valuesFrom bfs es n s) t) → ⊥
+          pick (inr c) = let y = c .1 in omega (arith, fewer)
+          pick (inl q) =
+              let (x, k, f) = route-floor q (omega (arith, fewer)) in
+              let y : better (lasting .floor (word bfs (valuesFrom bfs es n s) t)) v ≡ false = L .transitive _ _ _ (b .unbettered x k) f in
+              true≢false (sym (lasting .floor-holds _ (omega (arith, fewer))) ∙ (rw z at y))
+
+-- The five properties by number, on a table that keeps its rules: there weights are 1 to 65,535.
+pub best-routed : BestRouted
+best-routed p n es few rules s t v h b =
+    let sound = rules-accept n es rules in
+    value-routed (property-laws p) (property-lasting p) es n (within n es sound) (sound-weighty n es sound) few (omega arith) s h b
