@@ -19,7 +19,7 @@ use Rattle.network.specs.Network.{Network, edgesIn, rowCount, shortRows,
 use Rattle.network.specs.Open.{openCall}
 use Rattle.network.specs.Query.{Query, Words, queryCall}
 use Rattle.network.specs.Batch.{column}
-use Rattle.network.specs.Caller.{holding, opened}
+use Rattle.network.specs.Caller.{holding, openedNetwork}
 use Rattle.network.specs.Current.{queryBack}
 use Rattle.network.specs.History.{Holds}
 use Rattle.network.proofs.Items.{length-column}
@@ -62,13 +62,13 @@ module _ (n : ℕ) (ls : List ℕ) (w : Network) (h : faults n ls w ≡ accept) 
   opening-accepted = (history n ls w) .judged ∙ h
 
   -- the moment after the opening and no batch
-  begun : Holds n ls (edgesIn w) (opened n ls w)
+  begun : Holds n ls (edgesIn w) (openedNetwork n ls w)
   begun = ((history n ls w) .later h []) .holds [] [] refl
 
   module _ (q : Query) (out : Words) (g : queryBack n q out ≡ accept) where
-    pub query-accepted : verdictOf ((queryCall n ls (opened n ls w) q out) .reply) ≡ accept
+    pub query-accepted : verdictOf ((queryCall n ls (openedNetwork n ls w) q out) .reply) ≡ accept
     query-accepted = begun .judged q out ∙ g
 
     pub query-best : (t : ℕ) → t < n
-        → Best (property (q .property)) (edgesIn w) (q .source) t (word (property (q .property)) ((queryCall n ls (opened n ls w) q out) .memory .settled) t)
-    query-best t l = let (tally, e) = reply-given ((queryCall n ls (opened n ls w) q out) .reply) query-accepted in (begun .query q out tally e) .best t l
+        → Best (property (q .property)) (edgesIn w) (q .source) t (word (property (q .property)) ((queryCall n ls (openedNetwork n ls w) q out) .memory .settled) t)
+    query-best t l = let (tally, e) = reply-given ((queryCall n ls (openedNetwork n ls w) q out) .reply) query-accepted in (begun .query q out tally e) .best t l

@@ -1,6 +1,3 @@
-pub mod Starred
-pub mod Refusals
-pub mod Examples
 pub mod Items
 pub mod Rows
 pub mod Reports
@@ -10,3 +7,5 @@ pub mod History
 pub mod Never
 pub mod Chosen
 pub mod Held
+pub mod Steady
+pub mod Routed

@@ -18,15 +18,15 @@ use Rattle.graph.proofs.Tests.{or-false}
 use Rattle.graph.proofs.Verdicts.{then-accept, accept-then, refuse-then, accept-if, then-same, then-assoc, not-accept, verdict-replied, reply-accepted, choose-accept}
 use Rattle.graph.proofs.Order.{Sound, Within, within}
 use Rattle.theory.proofs.Reverse.{within-reverse}
-use Rattle.network.specs.Network.{Memory, Network, edgesIn, shortRows, landmarks, faults, rowsOf, flat, unsettled}
+use Rattle.network.specs.Network.{Memory, Network, edgesIn, shortRows, landmarks, faults, rowsOf, flat, unsettled, storesOf}
 use Rattle.network.specs.Open.{openRow, openRows, openVerdict, openMemory, openCall}
 use Rattle.network.specs.Change.{Change, items}
 use Rattle.network.specs.Batch.{batchRow, affectedOf, Report, newEdges, newForward, newBackward, stillWaiting, longBatch, batchFaults, batchVerdict, batchMemory, report, batchCall}
-use Rattle.network.specs.Caller.{opened, reported, handOn, lived}
+use Rattle.network.specs.Caller.{openedNetwork, reported, handOn, lived}
 use Rattle.network.specs.Current.{turnedBack, after, current}
-use Rattle.network.specs.History.{Unworse, Reported, BatchHolds, moment, now}
+use Rattle.network.specs.History.{Unworse, Reported, BatchHolds, moment, edgesNow}
 use Rattle.network.proofs.Items.{items-good, table-sound, accept-table, table-count, rewritten-edges, rewritten-long}
-use Rattle.network.proofs.Reports.{rows-affected}
+use Rattle.network.proofs.Reports.{rows-affected, rows-stores}
 use Rattle.network.proofs.Rows.{rows-long, open-sized, batch-sized, RowsBest, open-best, batch-rests, batch-best, batch-unworse}
 
 -- ---- the invariant
@@ -80,7 +80,7 @@ module _ (n : ℕ) (ls : List ℕ) (w : Network) where
 
   -- An accepted opening brings the invariant about. As it was accepted, size, lists, landmarks and table are as they must be. It leaves
   -- the table as it is, so the edges too, and writes rows of best words into the row lists, which stay as long as they were.
-  pub opens : verdictOf ((openCall n ls w) .reply) ≡ accept → Good n ls (opened n ls w) × (edgesIn (opened n ls w) ≡ edgesIn w)
+  pub opens : verdictOf ((openCall n ls w) .reply) ≡ accept → Good n ls (openedNetwork n ls w) × (edgesIn (openedNetwork n ls w) ≡ edgesIn w)
   unfolding openCall
   opens h =
       let v : openVerdict n ls w ≡ accept = sym (verdict-replied (openVerdict n ls w) tt) ∙ h in
@@ -190,9 +190,11 @@ module _ (n : ℕ) (ls : List ℕ) (w : Network) (b : List Change) (g : Good n l
     new-back : Within n (map reverse fs)
     new-back = within-reverse n fs new-in
 
-    rests : (unsettled (newForward n ls w fs) || unsettled (newBackward n ls w fs)) ≡ false
-    rests = or-false (batch-rests n ls (g .chosen) es fs old-in new-in ahead (g .forward))
-        (batch-rests n ls (g .chosen) (map reverse es) (map reverse fs) old-back new-back back (g .backward))
+    rests-ahead : unsettled (newForward n ls w fs) ≡ false
+    rests-ahead = batch-rests n ls (g .chosen) es fs old-in new-in ahead (g .forward)
+
+    rests-back : unsettled (newBackward n ls w fs) ≡ false
+    rests-back = batch-rests n ls (g .chosen) (map reverse es) (map reverse fs) old-back new-back back (g .backward)
 
     abbrev next : Network
     next = record { memory = batchMemory n ls w fs; count = length fs }
@@ -221,12 +223,17 @@ module _ (n : ℕ) (ls : List ℕ) (w : Network) (b : List Change) (g : Good n l
       forward = rows-affected n ls es fs ahead old-in (rowsOf ls);
       backward = rows-affected n ls (map reverse es) (map reverse fs) back old-back (rowsOf ls);
       total = refl;
+      storesAhead = storesOf (newForward n ls w fs);
+      storesBack = storesOf (newBackward n ls w fs);
+      forwardRuns = rows-stores n ls es fs ahead (rowsOf ls) rests-ahead;
+      backwardRuns = rows-stores n ls (map reverse es) (map reverse fs) back (rowsOf ls) rests-back;
+      stores = refl;
       count = refl;
     }
 
     accepted-step : Step n ls w b
     unfolding replied choose reported
-    accepted-step = stepped accept e (judged ∙ accept-then e ∙ accept-if 13 0 rests) next-good read
+    accepted-step = stepped accept e (judged ∙ accept-then e ∙ accept-if 13 0 (or-false rests-ahead rests-back)) next-good read
         (batch-unworse n ls (g .chosen) es fs old-in new-in ahead (g .forward))
         (batch-unworse n ls (g .chosen) (map reverse es) (map reverse fs) old-back new-back back (g .backward))
         (λ r q. subst (Reported n ls es fs w) ((reply-accepted accept (report n ls w fs) r q) .1) reports)
@@ -255,5 +262,5 @@ lived-good n ls (b ∷ bs) w es g e =
 -- induction along the batches: what a call reads from the table before a batch is the network as it then is, so it judges and changes
 -- the same list of edges as `current` does.
 pub moment-good : (n : ℕ) (ls : List ℕ) (w : Network) → verdictOf ((openCall n ls w) .reply) ≡ accept → (bs : List (List Change))
-    → Good n ls (moment n ls w bs) × (edgesIn (moment n ls w bs) ≡ now n w bs)
-moment-good n ls w h bs = let z = opens n ls w h in lived-good n ls bs (opened n ls w) (edgesIn w) (z .0) (z .1)
+    → Good n ls (moment n ls w bs) × (edgesIn (moment n ls w bs) ≡ edgesNow n w bs)
+moment-good n ls w h bs = let z = opens n ls w h in lived-good n ls bs (openedNetwork n ls w) (edgesIn w) (z .0) (z .1)

@@ -4,7 +4,6 @@
 --   openNumber k          == k is 1 to 4
 --   batchNumber k         == k is 1, or 6 to 12
 --   queryNumber k         == k is 1, 2, 5 or 6
---   Never r               == the reply r is not number 13
 use mathlib.Core.Path.{_≡_, refl, sym, _∙_}
 use mathlib.Core.Bool.{Bool, true, false, _&&_, _||_, true≢false}
 use mathlib.Core.List.{List, [], _∷_, map}
@@ -12,7 +11,7 @@ use Prim.Native.Nat.{ℕ, suc}
 use lib.ListN.{length}
 use lib.Dec.{leb, eqb}
 use Rattle.frontier.specs.Waiting.{anyOf}
-use Rattle.graph.specs.Refusal.{Verdict, accept, refuse, _▷_, refuseIf, Reply, refused, verdictOf}
+use Rattle.graph.specs.Refusal.{Verdict, accept, refuse, _▷_, refuseIf, Reply, verdictOf}
 use Rattle.graph.specs.Edge.{Edge, reverse}
 use Rattle.graph.specs.Table.{follow, rules}
 use Rattle.graph.proofs.Tests.{or-false}
@@ -26,6 +25,7 @@ use Rattle.network.specs.Change.{Change, edit, words, against, item, ite
 use Rattle.network.specs.Batch.{batchCall}
 use Rattle.network.specs.Current.{turnedBack, queryBack}
 use Rattle.network.specs.History.{moment}
+use Rattle.network.specs.Never.{Never, OpenNever, BatchNever, QueryNever}
 use Rattle.network.proofs.Items.{table-sound}
 use Rattle.network.proofs.Rows.{open-rests}
 use Rattle.network.proofs.Moment.{Good, faults-parts, steps, moment-good}
@@ -131,9 +131,6 @@ query-numbers n ls w q out g = rw (query-judged n ls w q out g) (only-then (only
 
 -- ---- number 13 does not
 
-abbrev pub Never : {A : Type 0} → Reply A → Type 0
-Never r = (i : ℕ) → r ≡ refused 13 i → ⊥
-
 -- 13 is none of those numbers
 others : {A : Type 0} {Q : ℕ → Bool} (r : Reply A) → Q 13 ≡ false → Only Q (verdictOf r) → Never r
 unfolding verdictOf
@@ -142,13 +139,15 @@ others {Q = Q} r d h i e = pick (rw e at h)
     pick : Only Q (refuse 13 i) → ⊥
     pick (refuses k) = true≢false (sym k ∙ d)
 
-pub open-never : (n : ℕ) (ls : List ℕ) (w : Network) → Never ((openCall n ls w) .reply)
+pub open-never : OpenNever
 open-never n ls w = others _ refl (open-numbers n ls w)
 
--- after an accepted opening, at any moment
-module _ (n : ℕ) (ls : List ℕ) (w : Network) (h : verdictOf ((openCall n ls w) .reply) ≡ accept) (bs : List (List Change)) where
-  pub batch-never : (b : List Change) → Never ((batchCall n ls (moment n ls w bs) b) .reply)
-  batch-never b = others _ refl (batch-numbers n ls (moment n ls w bs) b ((moment-good n ls w h bs) .0))
+-- at any moment after an accepted opening the invariant holds
+begun : (n : ℕ) (ls : List ℕ) (w : Network) → faults n ls w ≡ accept → (bs : List (List Change)) → Good n ls (moment n ls w bs)
+begun n ls w h bs = (moment-good n ls w (open-judged n ls w ∙ h) bs) .0
 
-  pub query-never : (q : Query) (out : Words) → Never ((queryCall n ls (moment n ls w bs) q out) .reply)
-  query-never q out = others _ refl (query-numbers n ls (moment n ls w bs) q out ((moment-good n ls w h bs) .0))
+pub batch-never : BatchNever
+batch-never n ls w h bs b = others _ refl (batch-numbers n ls (moment n ls w bs) b (begun n ls w h bs))
+
+pub query-never : QueryNever
+query-never n ls w h bs q out = others _ refl (query-numbers n ls (moment n ls w bs) q out (begun n ls w h bs))

@@ -2,12 +2,13 @@
 -- settled words are settled and best. Assumes nothing.
 use mathlib.Core.Path.{_≡_, refl, sym, ap, _∙_, subst}
 use mathlib.Core.Logic.{_⊎_, inl, inr, _≢_}
-use mathlib.Core.Bool.{not, false}
+use mathlib.Core.Bool.{not, true, false}
 use mathlib.Core.List.{List, map, List·Memᴰ, Memᴰ·map, Memᴰ·of-map}
 use Prim.Native.Nat.{ℕ, suc, _-_, _/_, _%_, _≤_, _<_}
 use native.Mathlib.Nat.{mul-add-div-right, mul-add-mod-self-right, mod-eq-of-lt, div-eq-of-lt}
 use native.Mathlib.Omega.{arith}
-use lib.ListN.{length, getD, drop, List·getD-append}
+use lib.ListN.{length, getD, take, drop, set, replicate, List·getD-append}
+use lib.Seq.{take-at}
 use lib.Dec.{ltb, leb, eqb}
 use borrow.Author.Tests.{ltb-true, leb-true, eqb-false, not-false}
 use Rattle.property.specs.Property.{Property, property, properties, isProperty}
@@ -22,17 +23,19 @@ use Rattle.graph.proofs.Tests.{both, neither}
 use Rattle.graph.proofs.Lists.{mem-range-0, range-below, getD-mem, mem-index}
 use Rattle.graph.proofs.Verdicts.{then-accept, if-accept, reply-accepted, choose-accept}
 use Rattle.graph.proofs.Order.{Within}
-use Rattle.run.specs.Run.{Tally, word, relaxable}
+use Rattle.run.specs.Run.{Tally, noTally, word, relaxable, pass}
+use Rattle.run.specs.Rounds.{Rounds}
 use Rattle.run.specs.Start.{Landmark, bound, asked}
 use Rattle.theory.proofs.Settle.{Inv, pass-good, pass-rounds, settle-good, settle-rounds, settled}
 use Rattle.theory.proofs.Value.{value-before, settled-best}
 use Rattle.theory.proofs.Rest.{settle-rests}
-use Rattle.theory.proofs.Exists.{best-unique}
+use Rattle.theory.proofs.Rounds.{settle-all}
+use Rattle.theory.proofs.Exists.{best-same}
 use Rattle.theory.proofs.Reverse.{reversed-best}
 use Rattle.theory.proofs.Query.{by, Bounded, bound-under, bound-is, via, asked-source, asked-other, asked-good}
 use Rattle.network.specs.Network.{Network, edgesIn, rowCount, shortRows, landmarks, row, propertyOf, landmarkOf}
 use Rattle.network.specs.Query.{Query, Words, rowAt, scheduled, known, atStart, atRounds, atEnd, longSchedule, shortWords, requested, queryFaults, queryVerdict, answered, queryCall}
-use Rattle.network.specs.History.{Triangle, QueryHolds}
+use Rattle.network.specs.History.{Triangle, Ran, QueryHolds}
 use Rattle.network.proofs.Moment.{Good, good-within}
 
 -- ---- lists and rows
@@ -159,7 +162,7 @@ module _ (n : ℕ) (ls : List ℕ) (w : Network) (g : Good n ls w) (q : Query) w
           let (i, h, e) = mem-index 0 m in
           let x′ = subst (λ z. Best P es s z ((know i) .into)) e (back i h) in
           let y′ = subst (λ z. Best P es z t (word P ((know i) .row) t)) e (ahead i h t) in
-          rw (best-unique L x x′, best-unique L y y′) (bound-under L knowns t (know i) (known-in i h));
+          rw (best-same L x x′, best-same L y y′) (bound-under L knowns t (know i) (known-in i h));
       attained = attained t (bound-is P knowns t) (via L J es s n inside source knowns ways rows (know 0) (known-in 0 some) t)
           (bound-under L knowns t (know 0) (known-in 0 some));
     }
@@ -193,11 +196,27 @@ module _ (n : ℕ) (ls : List ℕ) (w : Network) (g : Good n ls w) (q : Query) w
     end-word : (xs : List ℕ) (t : ℕ) → t < n → word P (over ((atEnd n ls w q) .words) xs) t ≡ word P ((atEnd n ls w q) .words) t
     end-word xs t h = read ((atEnd n ls w q) .words) xs t (end-good .words-n) h
 
-    well : (out : Words) → anyOf ((atEnd n ls w q) .waiting) ≡ false → QueryHolds P n ls es s ((atEnd n ls w q) .tally) (answered n ls w q out)
+    -- the first n words that are written
+    front : (ws xs : List ℕ) → length ws ≡ n → take n (over ws xs) ≡ ws
+    front ws xs e = take-at ws (drop (length ws) xs) n e
+
+    -- the start words and the settled words that are written are those of the run's states; where nothing waits after n rounds, these are all
+    ran : (out : Words) → anyOf ((atEnd n ls w q) .waiting) ≡ false → Ran P n es s (q .schedule) ((atEnd n ls w q) .tally) (answered n ls w q out)
+    unfolding asked
+    ran out rests = record {
+      end = atEnd n ls w q;
+      run = subst (λ ws. Rounds P es n (pass P es (q .schedule) (record { words = ws; waiting = set (replicate n false) s true; tally = noTally })) (atEnd n ls w q))
+          (sym (front ((atStart n ls w q) .words) (out .starts) (start-good .words-n))) (settle-all P es n n (atRounds n ls w q) rests);
+      tallied = refl;
+      words = front ((atEnd n ls w q) .words) (out .settled) (end-good .words-n);
+    }
+
+    well : (out : Words) → anyOf ((atEnd n ls w q) .waiting) ≡ false → QueryHolds P n ls es s (q .schedule) ((atEnd n ls w q) .tally) (answered n ls w q out)
     well out rests = record {
       bounds = λ t h d. subst (Triangle P es ls s t) (sym (start-word (out .starts) t h d)) (triangle t);
       source = read ((atStart n ls w q) .words) (out .starts) s (start-good .words-n) source ∙ asked-source L J es s n inside source knowns ways rows s source refl;
       quick = quick;
+      ran = ran out rests;
       settled = λ e m. rw (relaxable, end-word (out .settled) (e .tail) (inside .tails e m), end-word (out .settled) (e .head) (inside .heads e m))
           (settled L es s n inside (atEnd n ls w q) end-good rests e m);
       best = λ t h. rw (end-word (out .settled) t h) (settled-best L es s n inside (atEnd n ls w q) end-good rests t);
@@ -207,12 +226,12 @@ module _ (n : ℕ) (ls : List ℕ) (w : Network) (g : Good n ls w) (q : Query) w
   -- start words are triangle bounds of best words: they keep the invariant of runs, and the schedule and the rounds go on keeping it. So
   -- its settled words are settled and best. A schedule counts no round, and there are at most n.
   pub query-good : (out : Words) (tally : Tally) → (queryCall n ls w q out) .reply ≡ accepted tally
-      → QueryHolds P n ls es s tally ((queryCall n ls w q out) .memory)
+      → QueryHolds P n ls es s (q .schedule) tally ((queryCall n ls w q out) .memory)
   unfolding queryCall
   query-good out tally h =
       let z = reply-accepted (queryVerdict n ls w q out) ((atEnd n ls w q) .tally) tally h in
       let a = then-accept (queryFaults n ls w q (length (out .starts)) (length (out .settled))) (refuseIf (anyOf ((atEnd n ls w q) .waiting)) 13 0) (z .0) in
       let r = query-request n ls w q (length (out .starts)) (length (out .settled)) (a .0) in
       let y = well (r .0) (r .1) (r .2) out (if-accept _ _ _ (a .1)) in
-      subst (QueryHolds P n ls es s tally) (sym (choose-accept (answered n ls w q out) out (z .0)))
-      (subst (λ x. QueryHolds P n ls es s x (answered n ls w q out)) (z .1) y)
+      subst (QueryHolds P n ls es s (q .schedule) tally) (sym (choose-accept (answered n ls w q out) out (z .0)))
+      (subst (λ x. QueryHolds P n ls es s (q .schedule) x (answered n ls w q out)) (z .1) y)

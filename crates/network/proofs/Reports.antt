@@ -1,21 +1,24 @@
--- What a batch reports as affected is how many vertices the closure names, row by row. Assumes nothing.
+-- What a batch reports as affected is how many vertices the closure names, and what it reports as stores is what its runs store, row by row.
+-- Assumes nothing.
 use mathlib.Core.Path.{_≡_, refl, sym, subst}
 use mathlib.Core.Logic.{_↔_}
-use mathlib.Core.Bool.{Bool, true, false, false≢true}
-use mathlib.Core.List.{List, [], _∷_}
+use mathlib.Core.Bool.{Bool, true, false, _||_, false≢true}
+use mathlib.Core.List.{List, [], _∷_, map}
 use Prim.Native.Nat.{ℕ, suc, _+_}
 use native.Mathlib.Nat.{add-zero, zero-add}
 use native.Mathlib.Omega.{arith}
 use lib.ListN.{length}
-use Rattle.frontier.specs.Waiting.{countOf}
+use Rattle.frontier.specs.Waiting.{anyOf, countOf}
 use Rattle.graph.specs.Edge.{Edge}
+use Rattle.graph.proofs.Tests.{neither}
 use Rattle.graph.proofs.Order.{Within}
+use Rattle.theory.proofs.Rounds.{settle-all}
 use Rattle.affected.specs.Affected.{Affected, marked}
 use Rattle.affected.proofs.Sweeps.{affected-length, affected-exact}
-use Rattle.network.specs.Network.{row, propertyOf, landmarkOf}
-use Rattle.network.specs.Batch.{affectedIn, affectedOver}
+use Rattle.network.specs.Network.{row, propertyOf, landmarkOf, unsettled, storesOf}
+use Rattle.network.specs.Batch.{affectedIn, batchRow, affectedOver}
 use Rattle.network.specs.History as claim
-use Rattle.network.specs.History.{Counted, TotalAffected}
+use Rattle.network.specs.History.{Counted, TotalAffected, TotalStores}
 
 -- marks that are exactly those of A, from i on, are as many as A has
 counted-marks : (A : ℕ → Type 0) (ms : List Bool) (i : ℕ) → ((t : ℕ) → (marked ms t ≡ true) ↔ A (i + t)) → Counted A i (length ms) (countOf ms)
@@ -47,3 +50,12 @@ module _ (n : ℕ) (ls : List ℕ) (es fs : List Edge) (xs : List ℕ) (inside :
   unfolding affectedOver
   rows-affected [] = claim.none
   rows-affected (r ∷ rs) = claim.more (row-counted r) (rows-affected rs)
+
+-- Nothing waits in any row at the end, so the rounds of each are all its rounds; and the call sums their stores.
+pub rows-stores : (n : ℕ) (ls : List ℕ) (es fs : List Edge) (xs rs : List ℕ) → unsettled (map (batchRow n ls es fs xs) rs) ≡ false
+    → TotalStores n ls es fs xs rs (storesOf (map (batchRow n ls es fs xs) rs))
+unfolding unsettled storesOf
+rows-stores n ls es fs xs [] h = claim.none
+rows-stores n ls es fs xs (r ∷ rs) h =
+    let z = neither (anyOf ((batchRow n ls es fs xs r) .waiting)) (unsettled (map (batchRow n ls es fs xs) rs)) h in
+    claim.more (settle-all (propertyOf r) fs n n _ (z .0)) (rows-stores n ls es fs xs rs (z .1))

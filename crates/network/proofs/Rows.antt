@@ -76,7 +76,7 @@ rows-long n ls f g a b xs h =
     let z = neither (ltb (length (xs .forward)) (rowCount ls * n)) (ltb (length (xs .backward)) (rowCount ls * n)) (if-accept _ _ _ h) in
     rw (length-rows n f a (rowCount ls) (xs .forward) (ltb-false _ _ (z .0)), length-rows n g b (rowCount ls) (xs .backward) (ltb-false _ _ (z .1))) h
 
-unsettled-map : (f : ℕ → State) (rs : List ℕ) → ((r : ℕ) → List·Memᴰ r rs → anyOf ((f r) .waiting) ≡ false) → unsettled (map f rs) ≡ false
+pub unsettled-map : (f : ℕ → State) (rs : List ℕ) → ((r : ℕ) → List·Memᴰ r rs → anyOf ((f r) .waiting) ≡ false) → unsettled (map f rs) ≡ false
 unfolding unsettled
 unsettled-map f [] h = refl
 unsettled-map f (r ∷ rs) h = rw (h r (List·Memᴰ·head refl), unsettled) (unsettled-map f rs (λ x m. h x (List·Memᴰ·tail m)))
@@ -85,7 +85,7 @@ unsettled-map f (r ∷ rs) h = rw (h r (List·Memᴰ·head refl), unsettled) (un
 
 pub open-sized : (n : ℕ) (ls : List ℕ) (es : List Edge) (r : ℕ) → length ((openRow n ls es r) .words) ≡ n
 unfolding opened
-open-sized n ls es r = settle-sized (propertyOf r) es n _ _ (length-set (replicate n ((propertyOf r) .none)) _ _ ∙ length-replicate n _)
+open-sized n ls es r = settle-sized (propertyOf r) _ n _ _ (length-set (replicate n ((propertyOf r) .none)) _ _ ∙ length-replicate n _)
 
 pub batch-sized : (n : ℕ) (ls : List ℕ) (es fs : List Edge) (xs : List ℕ) (r : ℕ) → length ((batchRow n ls es fs xs r) .words) ≡ n
 unfolding prepared cleared
@@ -116,7 +116,7 @@ module _ (n : ℕ) (ls : List ℕ) (ok : landmarks n ls ≡ accept) where
   abbrev L : (r : ℕ) → Laws (propertyOf r)
   L r = property-laws (suc (r % properties))
 
-  source : (r : ℕ) → r < rowCount ls → landmarkOf ls r < n
+  pub source : (r : ℕ) → r < rowCount ls → landmarkOf ls r < n
   source r h = landmark-below n ls (r / properties) ok (div-lt-iff-lt-mul {k = properties} (omega arith) .1 h)
 
   below : (r : ℕ) → List·Memᴰ r (rowsOf ls) → r < rowCount ls
@@ -125,18 +125,21 @@ module _ (n : ℕ) (ls : List ℕ) (ok : landmarks n ls ≡ accept) where
   -- ---- an opening
 
   module _ (es : List Edge) (inside : Within n es) where
-    open-row-rests : (r : ℕ) → r < rowCount ls → anyOf ((openRow n ls es r) .waiting) ≡ false
-    open-row-rests r h = settle-rests (L r) es (landmarkOf ls r) n inside (source r h) _ (opened-good (L r) es (landmarkOf ls r) n inside (source r h))
+    -- The run of row r starts where only the row's landmark has a route. Such a row keeps the invariant of runs, and from there nothing waits
+    -- after n rounds: so its words are best for the row's property and landmark.
+    open-row : (r : ℕ) → r < rowCount ls
+        → ((t : ℕ) → Best (propertyOf r) es (landmarkOf ls r) t (word (propertyOf r) ((openRow n ls es r) .words) t)) × (anyOf ((openRow n ls es r) .waiting) ≡ false)
+    open-row r h =
+        let good = opened-good (L r) es (landmarkOf ls r) n inside (source r h) in
+        let rests = settle-rests (L r) es (landmarkOf ls r) n inside (source r h) _ good in
+        (opened-best (L r) es (landmarkOf ls r) n inside (source r h) n rests, rests)
 
-    -- nothing waits in any row: an opened row keeps the invariant of runs, and from such a state n rounds suffice
     pub open-rests : unsettled (openRows n ls es) ≡ false
-    open-rests = unsettled-map (openRow n ls es) (rowsOf ls) (λ r m. open-row-rests r (below r m))
+    open-rests = unsettled-map (openRow n ls es) (rowsOf ls) (λ r m. (open-row r (below r m)) .1)
 
-    -- Row r of what an opening writes is the words in which the run of row r ends. That run starts where only the row's landmark has a
-    -- route, and nothing waits at its end: so its words are best for the row's property and landmark.
+    -- row r of what an opening writes is the words in which the run of row r ends
     pub open-best : (xs : List ℕ) → RowsBest n ls es (over (flat (openRows n ls es)) xs)
-    open-best xs r h t = rw (row-over n (openRow n ls es) (open-sized n ls es) (rowCount ls) r xs h)
-        (opened-best (L r) es (landmarkOf ls r) n inside (source r h) n (open-row-rests r h) t)
+    open-best xs r h t = rw (row-over n (openRow n ls es) (open-sized n ls es) (rowCount ls) r xs h) ((open-row r h) .0 t)
 
   -- ---- a batch
 

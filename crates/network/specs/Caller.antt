@@ -1,7 +1,7 @@
 -- What a caller holds from call to call: document 01, "Query" ("a network opened and changed by these calls alone"). Assumes nothing.
 --
 --   holding es ls n    == a network of the edges es before its opening: lists just long enough, filled up with zeros
---   opened n ls w      == the network after its opening: the lists as the call left them, the opening's count
+--   openedNetwork n ls w == the network after its opening: the lists as the call left them, the opening's count
 --   reported k r       == the present count after a batch: the one reported, or k where the batch was refused
 --   handOn w o         == the network after a batch with outcome o
 --   lived n ls w bs    == the network after the batches bs: each gets the same n and landmarks and the present count
@@ -27,8 +27,8 @@ holding es ls n = record {
   count = length es;
 }
 
-abbrev pub opened : ℕ → List ℕ → Network → Network
-opened n ls w = record { memory = (openCall n ls w) .memory; count = w .count }
+abbrev pub openedNetwork : ℕ → List ℕ → Network → Network
+openedNetwork n ls w = record { memory = (openCall n ls w) .memory; count = w .count }
 
 unfoldable pub reported : ℕ → Reply Report → ℕ
 reported k (accepted r) = r .count

@@ -8,5 +8,7 @@ pub mod Choice
 pub mod Lookup
 pub mod Caller
 pub mod Current
-pub mod Starred
 pub mod History
+pub mod Steady
+pub mod Routed
+pub mod Never

@@ -12,22 +12,22 @@ use Rattle.frontier.specs.Waiting.{anyOf}
 use Rattle.graph.specs.Refusal.{Verdict, accept, refuse, _▷_, refuseIf, replied, verdictOf}
 use Rattle.graph.specs.Edge.{Edge, edge, keep, exists, zip, edges, range}
 use Rattle.graph.specs.Table.{follow, rules, insert, delete}
-use Rattle.run.specs.Run.{clear, handle, visitIf, visit, takeIf, pass, round, settle}
+use Rattle.run.specs.Run.{clear, handle, visitIf, visit, takeEntryIf, pass, round, settle}
 use Rattle.run.specs.Run as run
 use Rattle.run.specs.Start.{bound, asked}
 use Rattle.run.specs.Start as start
 use Rattle.affected.specs.Affected.{sweep, sweeps, affected}
 use Rattle.affected.specs.Prepared.{cleared, reopened, prepared}
 use Rattle.network.specs.Network.{Network, isIn, areLandmarks, unsettled}
 use Rattle.network.specs.Open.{openCall}
 use Rattle.network.specs.Query.{scheduled, queryCall, queryFaults}
 use Rattle.network.specs.Change.{Change, edit, item, items, words, against}
 use Rattle.network.specs.Batch.{batchCall, batchFaults}
 use Rattle.network.specs.Settled.{settled, settledCall}
 use Rattle.network.specs.Choice.{choiceCall}
 use Rattle.network.specs.Lookup.{lookupNumber}
-use Rattle.network.specs.Caller.{opened}
-use Rattle.network.specs.Starred.{graphA, take, add}
+use Rattle.network.specs.Caller.{openedNetwork}
+use Rattle.worked.specs.Starred.{graphA, takes, adds}
 
 -- ---- numbers 1 to 6 of every call, in their order
 
@@ -155,7 +155,7 @@ refusals =
     ∷ []
 
 refusals-said : map (λ c. c .0) refusals ≡ map (λ c. c .1) refusals
-unfolding openCall queryCall queryFaults batchCall batchFaults settledCall choiceCall lookupNumber replied verdictOf _▷_ refuseIf isIn areLandmarks scheduled item words against items edges zip rules follow unsettled anyOf range property start.opened bound asked run.take takeIf pass settle round visit visitIf handle clear keep sweep sweeps affected cleared reopened prepared exists
+unfolding openCall queryCall queryFaults batchCall batchFaults settledCall choiceCall lookupNumber replied verdictOf _▷_ refuseIf isIn areLandmarks scheduled item words against items edges zip rules follow unsettled anyOf range property start.opened bound asked run.takeEntry takeEntryIf pass settle round visit visitIf handle clear keep sweep sweeps affected cleared reopened prepared exists
 refusals-said = refl
 
 -- "a lent list .. is too short": each of the five lists counts in each call that takes a network
@@ -184,49 +184,49 @@ abbrev itemsJudged : List (Verdict × Verdict)
 itemsJudged =
     -- 6: tail or head is n or more, before a bad kind, a loop and a bad figure
     (onA worst, refuse 6 5)
-    ∷ (onA (add 4 0 1), refuse 6 5)
-    ∷ (onA (add 0 4 1), refuse 6 5)
-    ∷ (onA (take 0 4), refuse 6 5)
+    ∷ (onA (adds 4 0 1), refuse 6 5)
+    ∷ (onA (adds 0 4 1), refuse 6 5)
+    ∷ (onA (takes 0 4), refuse 6 5)
     -- 7: neither 1 nor 2, before a loop and a bad figure
     ∷ (onA (change 0 1 1 65536), refuse 7 5)
     ∷ (onA (change 3 0 1 0), refuse 7 5)
     -- 8: tail equals head, before a bad figure; a loop's pair is never there, and that is no 11
-    ∷ (onA (add 1 1 0), refuse 8 5)
+    ∷ (onA (adds 1 1 0), refuse 8 5)
     ∷ (onA (change 2 1 1 4), refuse 8 5)
-    ∷ (onA (take 1 1), refuse 8 5)
+    ∷ (onA (takes 1 1), refuse 8 5)
     -- 9: an add's figure is 1 to 65,535, a take's is 0 even where the record has that figure; before 10 and 11
-    ∷ (onA (add 0 1 0), refuse 9 5)
-    ∷ (onA (add 1 0 0), refuse 9 5)
-    ∷ (onA (add 1 0 65535), accept)
-    ∷ (onA (add 1 0 65536), refuse 9 5)
+    ∷ (onA (adds 0 1 0), refuse 9 5)
+    ∷ (onA (adds 1 0 0), refuse 9 5)
+    ∷ (onA (adds 1 0 65535), accept)
+    ∷ (onA (adds 1 0 65536), refuse 9 5)
     ∷ (onA (change 2 0 1 4), refuse 9 5)
     ∷ (onA (change 2 1 0 4), refuse 9 5)
-    ∷ (onA (take 0 1), accept)
+    ∷ (onA (takes 0 1), accept)
     -- 10: the pair is there, whatever its figure; the reversed pair is another
-    ∷ (onA (add 0 1 4), refuse 10 5)
-    ∷ (onA (add 0 1 7), refuse 10 5)
-    ∷ (onA (add 1 0 4), accept)
+    ∷ (onA (adds 0 1 4), refuse 10 5)
+    ∷ (onA (adds 0 1 7), refuse 10 5)
+    ∷ (onA (adds 1 0 4), accept)
     -- 11: no such pair; the reversed one does not do
-    ∷ (onA (take 1 0), refuse 11 5)
+    ∷ (onA (takes 1 0), refuse 11 5)
     -- 12: an add when 2,048 are there; a pair that is there is 10 first; a take needs no room
-    ∷ (onFull (add 0 1 1 ∷ []), refuse 12 0)
-    ∷ (onFull (add 0 128 1 ∷ []), refuse 10 0)
-    ∷ (onFull (take 0 1 ∷ []), refuse 11 0)
-    ∷ (onFull (take 0 128 ∷ []), accept)
+    ∷ (onFull (adds 0 1 1 ∷ []), refuse 12 0)
+    ∷ (onFull (adds 0 128 1 ∷ []), refuse 10 0)
+    ∷ (onFull (takes 0 1 ∷ []), refuse 11 0)
+    ∷ (onFull (takes 0 128 ∷ []), accept)
     -- with 2,047 there is room for one
-    ∷ (items 256 0 (list.take 2047 fullTable) (add 200 0 1 ∷ add 200 1 1 ∷ []), refuse 12 1)
+    ∷ (items 256 0 (list.take 2047 fullTable) (adds 200 0 1 ∷ adds 200 1 1 ∷ []), refuse 12 1)
     -- "against the table as earlier items left it": a take makes room for one add, an add after it finds its pair gone
-    ∷ (onFull (take 0 128 ∷ add 0 1 1 ∷ []), accept)
-    ∷ (onFull (take 0 128 ∷ add 0 128 9 ∷ []), accept)
-    ∷ (onFull (take 0 128 ∷ add 0 1 1 ∷ add 0 2 1 ∷ []), refuse 12 2)
-    ∷ (onFull (add 0 1 1 ∷ take 0 128 ∷ []), refuse 12 0)
-    ∷ (items 4 0 graphA (add 1 0 5 ∷ add 1 0 6 ∷ []), refuse 10 1)
-    ∷ (items 4 0 graphA (add 1 0 5 ∷ take 1 0 ∷ take 1 0 ∷ []), refuse 11 2)
-    ∷ (items 4 0 graphA (take 1 0 ∷ add 1 0 5 ∷ []), refuse 11 0)
+    ∷ (onFull (takes 0 128 ∷ adds 0 1 1 ∷ []), accept)
+    ∷ (onFull (takes 0 128 ∷ adds 0 128 9 ∷ []), accept)
+    ∷ (onFull (takes 0 128 ∷ adds 0 1 1 ∷ adds 0 2 1 ∷ []), refuse 12 2)
+    ∷ (onFull (adds 0 1 1 ∷ takes 0 128 ∷ []), refuse 12 0)
+    ∷ (items 4 0 graphA (adds 1 0 5 ∷ adds 1 0 6 ∷ []), refuse 10 1)
+    ∷ (items 4 0 graphA (adds 1 0 5 ∷ takes 1 0 ∷ takes 1 0 ∷ []), refuse 11 2)
+    ∷ (items 4 0 graphA (takes 1 0 ∷ adds 1 0 5 ∷ []), refuse 11 0)
     -- "the first item with any of 6 to 12, its lowest number": a later item with a lower number is not heard
-    ∷ (items 4 0 graphA (add 1 0 5 ∷ take 2 0 ∷ worst ∷ []), refuse 11 1)
+    ∷ (items 4 0 graphA (adds 1 0 5 ∷ takes 2 0 ∷ worst ∷ []), refuse 11 1)
     -- place is the "index from 0"
-    ∷ (items 4 0 graphA (take 0 1 ∷ take 0 3 ∷ take 1 2 ∷ worst ∷ []), refuse 6 3)
+    ∷ (items 4 0 graphA (takes 0 1 ∷ takes 0 3 ∷ takes 1 2 ∷ worst ∷ []), refuse 6 3)
     ∷ (items 4 0 graphA [], accept)
     ∷ []
 

@@ -2,7 +2,7 @@
 -- The numbers are document 01's. Assumes nothing.
 --
 --   graphA                   == Deck A: n 4; 0→1 4, 0→3 9, 1→2 4, 2→1 4, 3→2 2
---   take t h, add t h w      == change records
+--   takes t h, add t h w      == change records
 --   Ask                      == what a line asks of a network
 --     settled p s             == the settled words of a query from s for property p
 --     asked p s vs            == start words, settled words, rounds of a query with the schedule vs
@@ -27,22 +27,22 @@ use Rattle.property.specs.Property.{M}
 use Rattle.graph.specs.Refusal.{Reply, accepted, refused}
 use Rattle.graph.specs.Edge.{Edge, edge, reverse}
 use Rattle.run.specs.Run.{Tally}
 use Rattle.network.specs.Network.{Network, edgesIn}
 use Rattle.network.specs.Query.{rowAt}
 use Rattle.network.specs.Change.{Change}
 use Rattle.network.specs.Batch.{affectedIn, Report, newEdges, batchCall}
-use Rattle.network.specs.Caller.{holding, opened, lived, queried}
+use Rattle.network.specs.Caller.{holding, openedNetwork, lived, queried}
 
 -- ---- networks and changes
 
 abbrev pub graphA : List Edge
 graphA = edge 0 1 4 ∷ edge 0 3 9 ∷ edge 1 2 4 ∷ edge 2 1 4 ∷ edge 3 2 2 ∷ []
 
-abbrev pub take : ℕ → ℕ → Change
-take t h = record { kind = 2; tail = t; head = h; weight = 0 }
+abbrev pub takes : ℕ → ℕ → Change
+takes t h = record { kind = 2; tail = t; head = h; weight = 0 }
 
-abbrev pub add : ℕ → ℕ → ℕ → Change
-add t h w = record { kind = 1; tail = t; head = h; weight = w }
+abbrev pub adds : ℕ → ℕ → ℕ → Change
+adds t h w = record { kind = 1; tail = t; head = h; weight = w }
 
 -- ---- what a line asks, and what the calls' definitions answer
 
@@ -59,7 +59,7 @@ pub data Said : Type 0 where
   takenRounds : ℕ → ℕ → Said
   vertices : List ℕ → Said
   affected : ℕ → Said
-  turnedBack : ℕ → ℕ → Said
+  refusedWith : ℕ → ℕ → Said
 
 pub record Case : Type 0 where
   pub graph : List Edge
@@ -77,11 +77,11 @@ those i (false ∷ ms) = those (suc i) ms
 
 unfoldable pub saidOfQuery : Reply Tally → (Tally → Said) → Said
 saidOfQuery (accepted a) f = f a
-saidOfQuery (refused k i) f = turnedBack k i
+saidOfQuery (refused k i) f = refusedWith k i
 
 unfoldable pub saidOfBatch : Reply Report → Said
 saidOfBatch (accepted r) = affected (r .affected)
-saidOfBatch (refused k i) = turnedBack k i
+saidOfBatch (refused k i) = refusedWith k i
 
 -- the affected vertices of a row of one side, 0 forward and 1 backward
 unfoldable pub affectedList : ℕ → List ℕ → Network → List Change → ℕ → ℕ → List ℕ
@@ -101,7 +101,7 @@ answer n ls w (batch b) = saidOfBatch ((batchCall n ls w b) .reply)
 unfoldable pub found : Case → Said
 found c =
     answer (c .n) (c .landmarks)
-    (lived (c .n) (c .landmarks) (opened (c .n) (c .landmarks) (holding (c .graph) (c .landmarks) (c .n))) (c .before)) (c .asks)
+    (lived (c .n) (c .landmarks) (openedNetwork (c .n) (c .landmarks) (holding (c .graph) (c .landmarks) (c .n))) (c .before)) (c .asks)
 
 -- ---- the table
 
@@ -126,17 +126,17 @@ starred =
     -- A, reach from 3: 0 1 1 1
     ∷ onA 0 [] (settled 5 3) (words (0 ∷ 1 ∷ 1 ∷ 1 ∷ []))
     -- Take 0→1: time 0 15 11 9; headroom M 2 2 9
-    ∷ onA 0 ((take 0 1 ∷ []) ∷ []) (settled 1 0) (words (0 ∷ 15 ∷ 11 ∷ 9 ∷ []))
-    ∷ onA 0 ((take 0 1 ∷ []) ∷ []) (settled 3 0) (words (M ∷ 2 ∷ 2 ∷ 9 ∷ []))
+    ∷ onA 0 ((takes 0 1 ∷ []) ∷ []) (settled 1 0) (words (0 ∷ 15 ∷ 11 ∷ 9 ∷ []))
+    ∷ onA 0 ((takes 0 1 ∷ []) ∷ []) (settled 3 0) (words (M ∷ 2 ∷ 2 ∷ 9 ∷ []))
     -- That take: suspects 1 and 2 in the outward time row; none in the homeward one
-    ∷ onA 0 [] (affectedRow (take 0 1 ∷ []) 0 1) (vertices (1 ∷ 2 ∷ []))
-    ∷ onA 0 [] (affectedRow (take 0 1 ∷ []) 1 1) (vertices [])
+    ∷ onA 0 [] (affectedRow (takes 0 1 ∷ []) 0 1) (vertices (1 ∷ 2 ∷ []))
+    ∷ onA 0 [] (affectedRow (takes 0 1 ∷ []) 1 1) (vertices [])
     -- A, post 2, time from 1: start and settled M 0 4 M, 1 round; picks 1, 1: taken 1, rounds 0
     ∷ onA 2 [] (asked 1 1 []) (startsSettledRounds (M ∷ 0 ∷ 4 ∷ M ∷ []) (M ∷ 0 ∷ 4 ∷ M ∷ []) 1)
     ∷ onA 2 [] (tallied 1 1 (1 ∷ 1 ∷ [])) (takenRounds 1 0)
     -- Take 0→1, add 0→1 4: no suspects. Take 0→1 twice: 11, place 1
-    ∷ onA 0 [] (batch (take 0 1 ∷ add 0 1 4 ∷ [])) (affected 0)
-    ∷ onA 0 [] (batch (take 0 1 ∷ take 0 1 ∷ [])) (turnedBack 11 1)
+    ∷ onA 0 [] (batch (takes 0 1 ∷ adds 0 1 4 ∷ [])) (affected 0)
+    ∷ onA 0 [] (batch (takes 0 1 ∷ takes 0 1 ∷ [])) (refusedWith 11 1)
     ∷ []
 
 abbrev pub Starred : Type 0

@@ -12,24 +12,24 @@ use Rattle.frontier.specs.Waiting.{anyOf, countOf}
 use Rattle.graph.specs.Refusal.{Verdict, accept, refuse, _▷_, refuseIf, Reply, accepted, refused, replied, verdictOf, Outcome, choose}
 use Rattle.graph.specs.Edge.{Edge, edge, keepIf, keep, exists, zip, edges, range}
 use Rattle.graph.specs.Table.{Columns, follow, rules, insert, delete}
-use Rattle.run.specs.Run.{Tally, storeIf, relax, clear, handle, visitIf, visit, takeIf, pass, round, settle}
+use Rattle.run.specs.Run.{Tally, storeIf, relax, clear, handle, visitIf, visit, takeEntryIf, pass, round, settle}
 use Rattle.run.specs.Run as run
 use Rattle.run.specs.Start.{bound, asked}
 use Rattle.run.specs.Start as start
 use Rattle.affected.specs.Affected.{mark, sweep, sweeps, affected}
 use Rattle.affected.specs.Prepared.{cleared, reopened, prepared}
 use Rattle.network.specs.Network.{Rows, Memory, Network, edgesIn, isIn, areLandmarks, flat, unsettled, storesOf}
 use Rattle.network.specs.Open.{openCall}
 use Rattle.network.specs.Query.{Words, scheduled, queryCall, queryFaults}
 use Rattle.network.specs.Change.{Change, edit, item, items, words, against}
 use Rattle.network.specs.Batch.{Report, affectedOver, batchCall, batchFaults}
 use Rattle.network.specs.Settled.{Check, settled, found, inRecords, inRows, settledCall}
 use Rattle.network.specs.Choice.{place, ranked, choiceCall}
 use Rattle.network.specs.Lookup.{indexOf, lookupRow}
-use Rattle.network.specs.Caller.{holding, opened, reported, lived}
+use Rattle.network.specs.Caller.{holding, openedNetwork, reported, lived}
 use Rattle.network.specs.Current.{turnedBack, after, current}
-use Rattle.network.specs.Starred.{graphA, take, add}
-use Rattle.network.proofs.Refusals.{changes, worst, change}
+use Rattle.worked.specs.Starred.{graphA, takes, adds}
+use Rattle.worked.proofs.Refusals.{changes, worst, change}
 
 -- ---- what the calls leave in lent memory
 
@@ -102,7 +102,7 @@ abbrev batches : List (Outcome Report Memory × Outcome Report Memory)
 batches =
     -- two affected vertices and two stores in each of five forward rows: "sums suspects and stores over all rows"
     (
-      batchCall 4 (0 ∷ []) (dusty forwardOf0 backwardOf0) (take 0 1 ∷ []),
+      batchCall 4 (0 ∷ []) (dusty forwardOf0 backwardOf0) (takes 0 1 ∷ []),
       record {
         reply = report 4 10 10;
         memory = swept (0 ∷ 1 ∷ 2 ∷ 3 ∷ []) (3 ∷ 2 ∷ 1 ∷ 2 ∷ []) (9 ∷ 4 ∷ 4 ∷ 2 ∷ []) forwardTaken backwardOf0;
@@ -118,7 +118,7 @@ batches =
     )
     -- "all or none": the second item is refused, and the first has changed nothing
     ∷ (
-      batchCall 4 (0 ∷ []) (dusty forwardOf0 backwardOf0) (take 0 1 ∷ take 0 1 ∷ []),
+      batchCall 4 (0 ∷ []) (dusty forwardOf0 backwardOf0) (takes 0 1 ∷ takes 0 1 ∷ []),
       record { reply = refused 11 1; memory = (dusty forwardOf0 backwardOf0) .memory },
     )
     -- 1,024 changes are good: 0→1 is taken and added back 512 times; its record stands in both tables, so it is neither removed nor added
@@ -139,7 +139,7 @@ batches-said = refl
 
 -- deck A with one landmark, opened
 abbrev withLandmark : ℕ → Network
-withLandmark l = opened 4 (l ∷ []) (holding graphA (l ∷ []) 4)
+withLandmark l = openedNetwork 4 (l ∷ []) (holding graphA (l ∷ []) 4)
 
 abbrev replyTo : ℕ → List Change → Reply Report
 replyTo l b = (batchCall 4 (l ∷ []) (withLandmark l) b) .reply
@@ -147,22 +147,22 @@ replyTo l b = (batchCall 4 (l ∷ []) (withLandmark l) b) .reply
 abbrev reports : List (Reply Report × Reply Report)
 reports =
     -- "same three words": with another figure the old record is removed and the new one added, for handovers and reach too
-    (replyTo 0 (take 0 1 ∷ add 0 1 3 ∷ []), report 5 10 10)
+    (replyTo 0 (takes 0 1 ∷ adds 0 1 3 ∷ []), report 5 10 10)
     -- a store for each word that gets better: time gives 2 the word 14, then 11; worst gives 2 and 1 first 10, then 9
-    ∷ (replyTo 0 (take 0 1 ∷ add 0 1 10 ∷ []), report 5 10 13)
+    ∷ (replyTo 0 (takes 0 1 ∷ adds 0 1 10 ∷ []), report 5 10 13)
     -- an added edge has no affected vertices; 3→0 gives 3 a way to 0, a store in each backward row and none in a forward one
-    ∷ (replyTo 0 (add 3 0 5 ∷ []), report 6 0 5)
+    ∷ (replyTo 0 (adds 3 0 5 ∷ []), report 6 0 5)
     -- a removed edge that is not tight affects nobody: 3→2 gives 11 for 8, 2 for 4 and 9 for 4; it is tight for handovers, where it
     -- affects 2, and for reach, where "and so on" leads from 2 to 1
-    ∷ (replyTo 0 (take 3 2 ∷ []), report 4 3 3)
+    ∷ (replyTo 0 (takes 3 2 ∷ []), report 4 3 3)
     -- "For homeward rows all segments are reversed": 1 has lost its only way to 2, and 0 goes by way of 3 now; forward, 1→2 ends in the
     -- landmark and affects nobody
-    ∷ (replyTo 2 (take 1 2 ∷ []), report 4 10 5)
+    ∷ (replyTo 2 (takes 1 2 ∷ []), report 4 10 5)
     -- "both its ends hold the no-route word": 0→3 has no route at either end in the forward rows of landmark 1, and 3 is not
     -- affected there; the one affected vertex is 0 in the backward row for reach
-    ∷ (replyTo 1 (take 0 3 ∷ []), report 4 1 1)
+    ∷ (replyTo 1 (takes 0 3 ∷ []), report 4 1 1)
     -- sums go over the rows of all posts: 10 and 10 forward for landmark 0, 5 and 5 backward for landmark 2
-    ∷ ((batchCall 4 (2 ∷ 0 ∷ []) (dusty (forwardOf2 ++ forwardOf0) (backwardOf2 ++ backwardOf0)) (take 0 1 ∷ [])) .reply, report 4 15 15)
+    ∷ ((batchCall 4 (2 ∷ 0 ∷ []) (dusty (forwardOf2 ++ forwardOf0) (backwardOf2 ++ backwardOf0)) (takes 0 1 ∷ [])) .reply, report 4 15 15)
     ∷ []
 
 reports-said : map (λ c. c .0) reports ≡ map (λ c. c .1) reports
@@ -230,7 +230,7 @@ queries =
     ∷ []
 
 queries-said : map (λ c. c .0) queries ≡ map (λ c. c .1) queries
-unfolding queryCall queryFaults replied choose _▷_ refuseIf isIn areLandmarks scheduled edges zip rules follow anyOf range property bound asked run.take takeIf pass settle round visit visitIf handle clear relax storeIf keep keepIf
+unfolding queryCall queryFaults replied choose _▷_ refuseIf isIn areLandmarks scheduled edges zip rules follow anyOf range property bound asked run.takeEntry takeEntryIf pass settle round visit visitIf handle clear relax storeIf keep keepIf
 queries-said = refl
 
 -- ---- the settled check
@@ -345,18 +345,18 @@ lookups-said = refl
 -- accepted; refused, for 0→1 is gone; accepted; refused as a whole, though its first change is good; accepted and empty
 abbrev history : List (List Change)
 history =
-    (take 0 1 ∷ [])
-    ∷ (take 0 1 ∷ [])
-    ∷ (add 1 0 2 ∷ add 0 1 3 ∷ [])
-    ∷ (take 0 3 ∷ add 2 2 1 ∷ [])
+    (takes 0 1 ∷ [])
+    ∷ (takes 0 1 ∷ [])
+    ∷ (adds 1 0 2 ∷ adds 0 1 3 ∷ [])
+    ∷ (takes 0 3 ∷ adds 2 2 1 ∷ [])
     ∷ []
     ∷ []
 
-abbrev edgesNow : List Edge
-edgesNow = edge 0 1 3 ∷ edge 0 3 9 ∷ edge 1 0 2 ∷ edge 1 2 4 ∷ edge 2 1 4 ∷ edge 3 2 2 ∷ []
+abbrev graphNow : List Edge
+graphNow = edge 0 1 3 ∷ edge 0 3 9 ∷ edge 1 0 2 ∷ edge 1 2 4 ∷ edge 2 1 4 ∷ edge 3 2 2 ∷ []
 
 -- "Accepted: item by item .. the list stays in table order. Refused: it stays"
-current-now : current 4 graphA history ≡ edgesNow
+current-now : current 4 graphA history ≡ graphNow
 unfolding after turnedBack choose item words against items edit insert delete exists _▷_ refuseIf
 current-now = refl
 
@@ -365,7 +365,7 @@ current-now = refl
 abbrev held : Network → List Edge × ℕ × List ℕ × List ℕ
 held w = (edgesIn w, w .count, list.take 4 (w .memory .rows .forward), list.take 4 (w .memory .rows .backward))
 
-lived-now : held (lived 4 (0 ∷ []) (withLandmark 0) history) ≡ (edgesNow, 6, 0 ∷ 3 ∷ 7 ∷ 9 ∷ [], 0 ∷ 2 ∷ 6 ∷ 8 ∷ [])
+lived-now : held (lived 4 (0 ∷ []) (withLandmark 0) history) ≡ (graphNow, 6, 0 ∷ 3 ∷ 7 ∷ 9 ∷ [], 0 ∷ 2 ∷ 6 ∷ 8 ∷ [])
 unfolding openCall start.opened batchCall batchFaults reported replied choose _▷_ refuseIf isIn areLandmarks edges zip rules follow item words against items edit insert delete exists unsettled flat anyOf range property settle round visit visitIf handle clear relax storeIf keep keepIf mark sweep sweeps affected cleared reopened prepared
 lived-now = refl
 
@@ -373,9 +373,9 @@ lived-now = refl
 abbrev judgedBatches : List (List Change × Verdict)
 judgedBatches =
     ([], accept)
-    ∷ (take 0 1 ∷ [], accept)
-    ∷ (take 0 1 ∷ take 0 1 ∷ [], refuse 11 1)
-    ∷ (take 0 1 ∷ add 0 1 4 ∷ worst ∷ [], refuse 6 2)
+    ∷ (takes 0 1 ∷ [], accept)
+    ∷ (takes 0 1 ∷ takes 0 1 ∷ [], refuse 11 1)
+    ∷ (takes 0 1 ∷ adds 0 1 4 ∷ worst ∷ [], refuse 6 2)
     ∷ (replicate 1025 worst, refuse 1 0)
     ∷ []
 

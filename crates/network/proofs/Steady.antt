@@ -1,0 +1,247 @@
+-- The claims of specs/Steady.antt. Assumes nothing.
+use mathlib.Core.Path.{_≡_, refl, sym, ap, _∙_}
+use mathlib.Core.Bool.{Bool, true, false, not, _&&_, _||_, cond, true≢false, false≢true}
+use mathlib.Core.List.{List, [], _∷_, _++_, map, List·Memᴰ, List·Memᴰ·head, List·Memᴰ·tail}
+use Prim.Native.Nat.{ℕ, zero, suc, _+_, _*_, _%_, _≤_, _<_}
+use native.Mathlib.Nat.{zero-mul, suc-mul, mul-le-mul-right}
+use native.Mathlib.Omega.{arith}
+use lib.ListN.{length, getD, take, drop, length-drop, take-append-drop}
+use lib.Seq.{length-take-le, take-add, drop-drop, ext-getD}
+use lib.Dec.{ltb, eqb}
+use borrow.Author.Tests.{eq-eqb, ltb-false}
+use Rattle.property.specs.Property.{Property, properties}
+use Rattle.property.proofs.Tests.{is-false}
+use Rattle.property.proofs.Instances.{property-laws}
+use Rattle.frontier.specs.Waiting.{anyOf, countOf}
+use Rattle.frontier.proofs.Laws.{count-none, none-any}
+use Rattle.graph.specs.Refusal.{accept, _▷_, refuseIf, accepted, replied, over}
+use Rattle.graph.specs.Edge.{Edge, reverse, range, exists, same, among}
+use Rattle.graph.specs.Table.{size, shortTable, table}
+use Rattle.graph.proofs.Tests.{and-true, both, neither, or-false}
+use Rattle.graph.proofs.Lists.{length-table, table-at, range-below}
+use Rattle.graph.proofs.Edges.{true-exists, exists-true}
+use Rattle.graph.proofs.Verdicts.{accept-then, if-accept, accept-if, outcome-accepted}
+use Rattle.graph.proofs.Order.{Within}
+use Rattle.run.specs.Run.{State, word, settle}
+use Rattle.theory.proofs.Settle.{Settled, settle-idle}
+use Rattle.theory.proofs.Value.{best-settled}
+use Rattle.theory.proofs.Reverse.{within-reverse}
+use Rattle.affected.specs.Affected.{removed, added, Affected, at-removed, onward, marked, affected}
+use Rattle.affected.specs.Prepared.{cleared, reopened, prepared}
+use Rattle.affected.proofs.Sweeps.{unaffected-unmarked}
+use Rattle.network.specs.Network.{Rows, Network, edgesIn, rowCount, shortRows, landmarks, faults, row, propertyOf, landmarkOf, rowsOf, flat, unsettled, storesOf}
+use Rattle.network.specs.Change.{items}
+use Rattle.network.specs.Batch.{batchRow, batchRows, affectedOver, rewritten, newForward, newBackward, batchFaults, batchVerdict, batchMemory, report, batchCall}
+use Rattle.network.specs.Settled.{settled, found, Check, inRecords, inRows, check, settledCall}
+use Rattle.network.specs.Caller.{reported, handOn}
+use Rattle.network.specs.History.{moment}
+use Rattle.network.specs.Steady.{EmptyBatch, SettledAfter}
+use Rattle.network.proofs.Items.{table-sound, table-count, rewritten-edges}
+use Rattle.network.proofs.Rows.{RowsBest, unsettled-map}
+use Rattle.network.proofs.Moment.{Good, good-within, faults-parts, moment-good}
+use Rattle.network.proofs.Never.{open-judged}
+
+-- ---- nothing is removed, and nothing added
+
+same-itself : (e : Edge) → same e e ≡ true
+same-itself e = and-true (eq-eqb (e .tail) (e .tail) refl) (and-true (eq-eqb (e .head) (e .head) refl) (eq-eqb (e .weight) (e .weight) refl))
+
+stays : {es : List Edge} {e : Edge} → List·Memᴰ e es → among es e ≡ true
+stays {e = e} m = true-exists (same e) m (same-itself e)
+
+unmoved : {es : List Edge} {e : Edge} → List·Memᴰ e es → removed es e ≡ false
+unmoved m = ap not (stays m)
+
+-- where no edge is removed, no vertex is affected: a chain of held edges would have to begin at a removed one
+none-affected : (P : Property) (es : List Edge) (s : ℕ) (ws : List ℕ) {t : ℕ} → Affected P es es s ws t → ⊥
+none-affected P es s ws (at-removed m r h) = true≢false (sym r ∙ unmoved m)
+none-affected P es s ws (onward a m r h) = none-affected P es s ws a
+
+-- ---- one row whose words are ws
+
+module _ (P : Property) (es : List Edge) (s : ℕ) (ws : List ℕ) (n : ℕ) where
+  unmarked : (t : ℕ) → marked (affected P es es s ws n) t ≡ false
+  unmarked t = unaffected-unmarked P es es s ws n t (none-affected P es s ws)
+
+  none-counted : countOf (affected P es es s ws n) ≡ 0
+  none-counted = count-none (affected P es es s ws n) unmarked
+
+  -- the test by which a vertex t waits
+  abbrev wakes : ℕ → Bool
+  wakes t = exists (λ e. eqb (e .tail) t && (marked (affected P es es s ws n) (e .head) || added es e)) es
+
+  asleep : (t : ℕ) → wakes t ≡ false
+  asleep t = is-false (wakes t) (λ h.
+      let (e, m, q) = exists-true (λ e. eqb (e .tail) t && (marked (affected P es es s ws n) (e .head) || added es e)) es h in
+      let z = (both (eqb (e .tail) t) (marked (affected P es es s ws n) (e .head) || added es e) q) .1 in
+      false≢true (sym (or-false (unmarked (e .head)) (unmoved m)) ∙ z))
+
+  asleep-at : (t : ℕ) → getD (map wakes (range 0 n)) t false ≡ false
+  asleep-at t = is-false _ (λ h. false≢true (sym (asleep-in (map wakes (range 0 n)) (λ b m. all (range 0 n) b m) t) ∙ h))
+    where
+      all : (l : List ℕ) (b : Bool) → List·Memᴰ b (map wakes l) → b ≡ false
+      all (x ∷ l) b (List·Memᴰ·head p) = p ∙ asleep x
+      all (x ∷ l) b (List·Memᴰ·tail m) = all l b m
+
+      asleep-in : (l : List Bool) → ((b : Bool) → List·Memᴰ b l → b ≡ false) → (t : ℕ) → getD l t false ≡ false
+      asleep-in [] f t = refl
+      asleep-in (b ∷ l) f zero = f b (List·Memᴰ·head refl)
+      asleep-in (b ∷ l) f (suc t) = asleep-in l (λ c m. f c (List·Memᴰ·tail m)) t
+
+  none-waits : anyOf ((prepared P es es s ws n) .waiting) ≡ false
+  unfolding prepared reopened
+  none-waits = none-any (map wakes (range 0 n)) asleep-at
+
+  still : (k : ℕ) → settle P es n k (prepared P es es s ws n) ≡ prepared P es es s ws n
+  still k = settle-idle P es n k (prepared P es es s ws n) none-waits
+
+  none-cleared : length ws ≡ n → (prepared P es es s ws n) .words ≡ ws
+  unfolding prepared cleared
+  none-cleared l = ext-getD (P .none) _ ws (length-table kept 0 n ∙ sym l) (λ t h. table-at kept n t (P .none) (rw (length-table kept 0 n) at h) ∙ ap (λ b. cond b (P .none) (word P ws t)) (unmarked t))
+    where
+      kept : ℕ → ℕ
+      kept t = cond (marked (affected P es es s ws n) t) (P .none) (word P ws t)
+
+-- ---- the rows of one list
+
+-- rows that are those of xs lie together as xs does
+flat-rows : (n : ℕ) (f : ℕ → State) (xs : List ℕ) (i k : ℕ) → ((r : ℕ) → r < i + k → (f r) .words ≡ row n r xs)
+    → flat (map f (range i k)) ≡ take (k * n) (drop (i * n) xs)
+unfolding flat range
+flat-rows n f xs i zero h = ap (λ j. take j (drop (i * n) xs)) (sym (zero-mul n))
+flat-rows n f xs i (suc k) h =
+    let a = suc-mul k n in
+    let b = suc-mul i n in
+    let e : suc k * n ≡ n + k * n = omega arith in
+    let d : suc i * n ≡ i * n + n = omega arith in
+    ap (λ l. l ++ flat (map f (range (suc i) k))) (h i (omega arith))
+    ∙ ap (λ l. row n i xs ++ l) (flat-rows n f xs (suc i) k (λ r q. h r (omega arith)) ∙ ap (λ j. take (k * n) (drop j xs)) d ∙ ap (λ l. take (k * n) l) (sym (drop-drop n (i * n) xs)))
+    ∙ sym (take-add n (k * n) (drop (i * n) xs)) ∙ ap (λ j. take j (drop (i * n) xs)) (sym e)
+
+front-over : (m : ℕ) (xs : List ℕ) → m ≤ length xs → over (take m xs) xs ≡ xs
+front-over m xs h = ap (λ j. take m xs ++ drop j xs) (length-take-le m xs h) ∙ take-append-drop m xs
+
+-- row lists that number 2 lets pass
+pub long-rows : (n : ℕ) (ls : List ℕ) (xs : Rows) → shortRows n ls xs ≡ accept → (rowCount ls * n ≤ length (xs .forward)) × (rowCount ls * n ≤ length (xs .backward))
+long-rows n ls xs h =
+    let z = neither (ltb (length (xs .forward)) (rowCount ls * n)) (ltb (length (xs .backward)) (rowCount ls * n)) (if-accept _ 2 0 h) in
+    (ltb-false _ _ (z .0), ltb-false _ _ (z .1))
+
+pub row-long : (n k r : ℕ) (xs : List ℕ) → k * n ≤ length xs → r < k → length (row n r xs) ≡ n
+row-long n k r xs h q = length-take-le n (drop (r * n) xs) (let z = length-drop (r * n) xs in let a = suc-mul r n in let b = mul-le-mul-right n q in omega arith)
+
+-- nothing is removed and nothing added, so the runs start, and end, with the words that are there
+module _ (n : ℕ) (ls : List ℕ) (es : List Edge) (xs : List ℕ) (long : rowCount ls * n ≤ length xs) where
+  abbrev ready : ℕ → State
+  ready r = prepared (propertyOf r) es es (landmarkOf ls r) (row n r xs) n
+
+  row-still : (r : ℕ) → batchRow n ls es es xs r ≡ ready r
+  row-still r = still (propertyOf r) es (landmarkOf ls r) (row n r xs) n n
+
+  rows-rest : unsettled (batchRows n ls es es xs) ≡ false
+  rows-rest = unsettled-map (batchRow n ls es es xs) (rowsOf ls)
+      (λ r m. ap (λ st. anyOf (st .waiting)) (row-still r) ∙ none-waits (propertyOf r) es (landmarkOf ls r) (row n r xs) n)
+
+  rows-kept : over (flat (batchRows n ls es es xs)) xs ≡ xs
+  rows-kept = ap (λ l. over l xs) (flat-rows n (batchRow n ls es es xs) xs 0 (rowCount ls) words) ∙ ap (λ j. over (take (rowCount ls * n) (drop j xs)) xs) (zero-mul n)
+      ∙ front-over (rowCount ls * n) xs long
+    where
+      words : (r : ℕ) → r < 0 + rowCount ls → (batchRow n ls es es xs r) .words ≡ row n r xs
+      words r h = ap (λ st. st .words) (row-still r)
+          ∙ none-cleared (propertyOf r) es (landmarkOf ls r) (row n r xs) n (row-long n (rowCount ls) r xs long (omega arith))
+
+  no-stores : (rs : List ℕ) → storesOf (map (batchRow n ls es es xs) rs) ≡ 0
+  unfolding storesOf prepared
+  no-stores [] = refl
+  no-stores (r ∷ rs) = let a : (batchRow n ls es es xs r) .tally .stores ≡ 0 = ap (λ st. st .tally .stores) (row-still r) in let b = no-stores rs in omega arith
+
+  no-affected : (rs : List ℕ) → affectedOver n ls es es xs rs ≡ 0
+  unfolding affectedOver
+  no-affected [] = refl
+  no-affected (r ∷ rs) = let a = none-counted (propertyOf r) es (landmarkOf ls r) (row n r xs) n in let b = no-affected rs in omega arith
+
+-- ---- the empty batch
+
+-- Without changes the edges are the same before and after, on either side. So in no row is an edge removed or added: no vertex is affected, none
+-- waits, the run ends as it starts, with the row's own words and nothing stored. Nothing waits, so 13 does not come; and 1 to 4 let it pass.
+pub empty-batch : EmptyBatch
+unfolding batchCall batchFaults items _▷_ refuseIf reported
+empty-batch n ls w h = (whole, ap (λ o. edgesIn (handOn w o)) whole ∙ records)
+  where
+    parts : (size n ≡ accept) × (shortTable (w .memory .table) ≡ accept) × (shortRows n ls (w .memory .rows) ≡ accept) × (landmarks n ls ≡ accept)
+        × (table n (w .memory .table) (w .count) ≡ accept)
+    parts = faults-parts n ls w h
+
+    longs : (rowCount ls * n ≤ length (w .memory .rows .forward)) × (rowCount ls * n ≤ length (w .memory .rows .backward))
+    longs = long-rows n ls (w .memory .rows) (parts .2)
+
+    count : length (edgesIn w) ≡ w .count
+    count = table-count (w .memory .table) (w .count) (parts .1) ((table-sound n (w .memory .table) (w .count) (parts .4)) .0)
+
+    verdict : batchVerdict n ls w [] ≡ accept
+    verdict = ap (λ v. v ▷ refuseIf (unsettled (newForward n ls w (edgesIn w)) || unsettled (newBackward n ls w (edgesIn w))) 13 0) h
+        ∙ accept-if 13 0 (or-false (rows-rest n ls (edgesIn w) (w .memory .rows .forward) (longs .0)) (rows-rest n ls (map reverse (edgesIn w)) (w .memory .rows .backward) (longs .1)))
+
+    told : report n ls w (edgesIn w) ≡ record { count = w .count; affected = 0; stores = 0 }
+    told = λ i. record { count = count i; affected = a i; stores = s i }
+      where
+        a : report n ls w (edgesIn w) .affected ≡ 0
+        a = let x = no-affected n ls (edgesIn w) (w .memory .rows .forward) (longs .0) (rowsOf ls) in let y = no-affected n ls (map reverse (edgesIn w)) (w .memory .rows .backward) (longs .1) (rowsOf ls) in omega arith
+
+        s : report n ls w (edgesIn w) .stores ≡ 0
+        s = let x = no-stores n ls (edgesIn w) (w .memory .rows .forward) (longs .0) (rowsOf ls) in let y = no-stores n ls (map reverse (edgesIn w)) (w .memory .rows .backward) (longs .1) (rowsOf ls) in omega arith
+
+    lists : batchMemory n ls w (edgesIn w) ≡ record { table = rewritten (edgesIn w) (w .memory .table); rows = w .memory .rows }
+    lists = λ i. record {
+      table = rewritten (edgesIn w) (w .memory .table);
+      rows = record {
+        forward = rows-kept n ls (edgesIn w) (w .memory .rows .forward) (longs .0) i;
+        backward = rows-kept n ls (map reverse (edgesIn w)) (w .memory .rows .backward) (longs .1) i;
+      };
+    }
+
+    whole : batchCall n ls w [] ≡ record {
+      reply = accepted (record { count = w .count; affected = 0; stores = 0 });
+      memory = record { table = rewritten (edgesIn w) (w .memory .table); rows = w .memory .rows };
+    }
+    whole = outcome-accepted (batchVerdict n ls w []) (report n ls w (edgesIn w)) (batchMemory n ls w (edgesIn w)) (w .memory) verdict
+        ∙ (λ i. record { reply = accepted (told i); memory = lists i })
+
+    records : edgesIn (record { memory = record { table = rewritten (edgesIn w) (w .memory .table); rows = w .memory .rows }; count = w .count }) ≡ edgesIn w
+    records = ap (λ k. edgesIn (record { memory = record { table = rewritten (edgesIn w) (w .memory .table); rows = w .memory .rows }; count = k })) (sym count) ∙ rewritten-edges (edgesIn w) (w .memory .table)
+
+-- ---- the settled check
+
+records-settled : (P : Property) (ws : List ℕ) (side r j : ℕ) (es : List Edge) (later : Check) → Settled P es ws → inRecords P ws side r j es later ≡ later
+unfolding inRecords
+records-settled P ws side r j [] later h = refl
+records-settled P ws side r j (e ∷ es) later h =
+    ap (λ b. cond b (found side r j) (inRecords P ws side r (suc j) es later)) (h e (List·Memᴰ·head refl)) ∙ records-settled P ws side r (suc j) es later (λ x m. h x (List·Memᴰ·tail m))
+
+rows-settled : (n : ℕ) (es : List Edge) (xs : List ℕ) (side : ℕ) (rs : List ℕ) (later : Check)
+    → ((r : ℕ) → List·Memᴰ r rs → Settled (propertyOf r) es (row n r xs)) → inRows n es xs side rs later ≡ later
+unfolding inRows
+rows-settled n es xs side [] later h = refl
+rows-settled n es xs side (r ∷ rs) later h =
+    records-settled (propertyOf r) (row n r xs) side r 0 es (inRows n es xs side rs later) (h r (List·Memᴰ·head refl))
+    ∙ rows-settled n es xs side rs later (λ x m. h x (List·Memᴰ·tail m))
+
+-- rows of best words are settled
+best-rows-settled : (n : ℕ) (ls : List ℕ) (es : List Edge) (xs : List ℕ) (side : ℕ) (later : Check) → Within n es → RowsBest n ls es xs → inRows n es xs side (rowsOf ls) later ≡ later
+best-rows-settled n ls es xs side later inside best = rows-settled n es xs side (rowsOf ls) later (λ r m.
+    best-settled (property-laws (suc (r % properties))) es (landmarkOf ls r) n inside (row n r xs) (best r (let z = range-below 0 (rowCount ls) r m in omega arith)))
+
+-- numbers 1 to 4 let a network pass that keeps the invariant
+pub good-faults : (n : ℕ) (ls : List ℕ) (w : Network) → Good n ls w → faults n ls w ≡ accept
+good-faults n ls w g = accept-then (g .sized) ∙ accept-then (g .roomy) ∙ accept-then (g .long) ∙ accept-then (g .chosen) ∙ g .sound
+
+-- At any moment the rows hold best words, of the edges ahead and of the reversed ones; no edge could better a best word.
+pub settled-after : SettledAfter
+unfolding settledCall replied
+settled-after n ls w h bs =
+    let m = moment n ls w bs in
+    let g = (moment-good n ls w (open-judged n ls w ∙ h) bs) .0 in
+    let i = good-within n ls m g in
+    ap (λ v. replied v (check n ls m)) (good-faults n ls m g)
+    ∙ ap accepted (best-rows-settled n ls (edgesIn m) (m .memory .rows .forward) 0 _ i (g .forward)
+    ∙ best-rows-settled n ls (map reverse (edgesIn m)) (m .memory .rows .backward) 1 settled (within-reverse n (edgesIn m) i) (g .backward))
