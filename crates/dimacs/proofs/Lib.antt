@@ -1,3 +1,4 @@
+pub mod Refusals
 pub mod Options
 pub mod Split
 pub mod Digits
@@ -13,3 +14,5 @@ pub mod Caps
 pub mod Written
 pub mod Theorems
 pub mod Examples
+pub mod Widths
+pub mod Calls

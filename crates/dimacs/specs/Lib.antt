@@ -5,3 +5,4 @@ pub mod Network
 pub mod Sources
 pub mod Call
 pub mod Claims
+pub mod Calls

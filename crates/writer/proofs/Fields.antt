@@ -8,7 +8,7 @@ use lib.ListN.{length, getD, drop, length-append, drop-of-length-le}
 use lib.Seq.{drop-cons}
 use Rattle.dimacs.specs.Decimal.{digits}
 use Rattle.dimacs.specs.Lines.{fieldsOf}
-use Rattle.writer.proofs.Digits.{width-most}
+use Rattle.dimacs.proofs.Widths.{width-most}
 
 pub fields-more : (vs : List ℕ) (i : ℕ) → i < length vs → fieldsOf (drop i vs) ≡ (32 ∷ digits (getD vs i 0)) ++ fieldsOf (drop (i + 1) vs)
 unfolding fieldsOf

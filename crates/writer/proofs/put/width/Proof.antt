@@ -4,7 +4,7 @@ use mathlib.Core.Path.{_≡_, refl}
 use Prim.Native.Nat.{_+_, _≤_, _<_}
 use lib.ListN.{length}
 use Rattle.dimacs.specs.Decimal.{digits}
-use Rattle.writer.proofs.Digits.{width-small, width-big}
+use Rattle.dimacs.proofs.Widths.{width-small, width-big}
 use Rattle.writer.proofs.put.width.Statement.{statement}
 use Rattle.writer.proofs.put.width.Tie as tie
 

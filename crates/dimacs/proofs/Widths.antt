@@ -1,0 +1,106 @@
+-- How many digits a number has, and how many bytes a written text has at most. Assumes nothing.
+use mathlib.Core.Path.{_≡_, refl, ap, _∙_}
+use mathlib.Core.Bool.{Bool, true, false, not}
+use mathlib.Core.List.{List, [], _∷_, map}
+use Prim.Native.Nat.{ℕ, zero, suc, _+_, _*_, _/_, _%_, _^_, _≤_, _<_}
+use native.Mathlib.Omega.{arith}
+use lib.Dec.{ltb, leb, eqb}
+use lib.ListN.{length, length-append}
+use borrow.Author.Tests.{ltb-true, ltb-false, leb-true}
+use Rattle.graph.specs.Limits.{maxVertices, maxEdges, maxWeight}
+use Rattle.graph.specs.Edge.{Edge}
+use Rattle.graph.specs.Table.{isWeight, isEdge}
+use Rattle.graph.proofs.Tests.{both}
+use Rattle.graph.proofs.Order.{rules-accept}
+use Rattle.graph.proofs.Judging.{size-accept}
+use Rattle.dimacs.proofs.Digits.{digits-small, digits-big}
+use Rattle.dimacs.proofs.Sorted.{sound-edges}
+use Rattle.dimacs.specs.Decimal.{digits}
+use Rattle.dimacs.specs.Lines.{joined, fieldsOf}
+use Rattle.dimacs.specs.Network.{problem, arc, problemMark, arcMark, itemOf, Edges, written}
+use Rattle.dimacs.specs.Calls.{WrittenLength}
+
+-- ---- how many digits
+
+pub width-small : (v : ℕ) → v < 10 → length (digits v) ≡ 1
+width-small v h = rw (digits-small v h)
+
+pub width-big : (v : ℕ) → 10 ≤ v → length (digits v) ≡ suc (length (digits (v / 10)))
+width-big v h = rw (digits-big v h) (length-append (digits (v / 10)) ((48 + v % 10) ∷ []) ∙ omega arith)
+
+-- a number below ten to the power k + 1 has at most k + 1 digits
+pub width-most : (k v : ℕ) → v < 10 * 10 ^ k → length (digits v) ≤ suc k
+width-most zero v h = omega (arith, width-small v (omega arith))
+width-most (suc k) v h = pick (ltb v 10) refl (width-most k (v / 10) (omega arith))
+  where
+    pick : (b : Bool) → ltb v 10 ≡ b → length (digits (v / 10)) ≤ suc k → length (digits v) ≤ suc (suc k)
+    pick true e ih = omega (arith, width-small v (ltb-true v 10 e))
+    pick false e ih = omega (arith, width-big v (ltb-false v 10 e))
+
+-- ---- how many bytes
+
+fields-width : (v : ℕ) (vs : List ℕ) → length (fieldsOf (v ∷ vs)) ≡ suc (length (digits v) + length (fieldsOf vs))
+unfolding fieldsOf
+fields-width v vs = ap suc (length-append (digits v) (fieldsOf vs))
+
+no-width : length (fieldsOf []) ≡ 0
+unfolding fieldsOf
+no-width = refl
+
+-- vertices from 1 have three digits at most, weights five: an a line has 16 bytes at most, with its line feed
+arc-width : (n : ℕ) (e : Edge) → n ≤ maxVertices → isEdge n e ≡ true → length (itemOf (arc e)) ≤ 15
+unfolding itemOf
+arc-width n e m h =
+    let a = both (ltb (e .tail) n) _ h in
+    let b = both (ltb (e .head) n) _ (a .1) in
+    let c = both (not (eqb (e .tail) (e .head))) (isWeight (e .weight)) (b .1) in
+    let d = both (ltb 0 (e .weight)) (leb (e .weight) maxWeight) (c .1) in
+    let t : suc (e .tail) < 10 * 10 ^ 2 = omega (arith, ltb-true (e .tail) n (a .0)) in
+    let u : suc (e .head) < 10 * 10 ^ 2 = omega (arith, ltb-true (e .head) n (b .0)) in
+    let w : e .weight < 10 * 10 ^ 4 = omega (arith, leb-true (e .weight) maxWeight (d .1)) in
+    omega (
+      arith,
+      length-append arcMark (fieldsOf (suc (e .tail) ∷ suc (e .head) ∷ e .weight ∷ [])),
+      fields-width (suc (e .tail)) (suc (e .head) ∷ e .weight ∷ []),
+      fields-width (suc (e .head)) (e .weight ∷ []),
+      fields-width (e .weight) [],
+      no-width,
+      width-most 2 (suc (e .tail)) t,
+      width-most 2 (suc (e .head)) u,
+      width-most 4 (e .weight) w,
+    )
+
+problem-width : (n m : ℕ) → n ≤ maxVertices → m ≤ maxEdges → length (itemOf (problem n m)) ≤ 13
+unfolding itemOf
+problem-width n m a b =
+    let t : n < 10 * 10 ^ 2 = omega arith in
+    let u : m < 10 * 10 ^ 3 = omega arith in
+    omega (
+      arith,
+      length-append problemMark (fieldsOf (n ∷ m ∷ [])),
+      fields-width n (m ∷ []),
+      fields-width m [],
+      no-width,
+      width-most 2 n t,
+      width-most 3 m u,
+    )
+
+arcs-width : (n : ℕ) (es : List Edge) → n ≤ maxVertices → Edges n es → length (joined (map itemOf (map arc es))) ≤ 16 * length es
+unfolding joined
+arcs-width n [] m h = omega arith
+arcs-width n (e ∷ es) m h =
+    let a = arc-width n e m (h .0) in
+    let b = arcs-width n es m (h .1) in
+    let c = length-append (itemOf (arc e)) (10 ∷ joined (map itemOf (map arc es))) in
+    omega arith
+
+-- the p line has 14 bytes at most, and 2,048 a lines have 16 each
+pub written-length : WrittenLength
+unfolding written joined
+written-length n es t =
+    let m = size-accept n (t .vertices) .1 in
+    let a = problem-width n (length es) m (t .few) in
+    let b = arcs-width n es m (sound-edges n es (rules-accept n es (t .rules))) in
+    let c = length-append (itemOf (problem n (length es))) (10 ∷ joined (map itemOf (map arc es))) in
+    let f = t .few in
+    omega arith

@@ -1,0 +1,1 @@
+// A network that is written, read and opened again: what holds of it.
