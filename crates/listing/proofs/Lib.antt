@@ -4,3 +4,4 @@ pub mod Opening
 pub mod Pieces
 pub mod Reading
 pub mod Best
+pub mod Refused

@@ -19,13 +19,13 @@ use Rattle.network.specs.Network.{Memory, Network}
 use Rattle.network.specs.Open.{openCall}
 use Rattle.network.specs.Batch.{column}
 use Rattle.network.specs.Choice.{ranked, choice, choiceVerdict, choiceCall}
-use Rattle.network.specs.Caller.{holding, opened}
+use Rattle.network.specs.Caller.{holding, openedNetwork}
 use Rattle.network.proofs.Items.{length-column}
 use Rattle.calls.specs.Code.{network}
 use Rattle.open.specs.declared.Opened.{Opened}
 use Rattle.open.specs.Code.{openOutcome}
 use Rattle.inspect.specs.declared.Chosen.{Chosen}
-use Rattle.inspect.specs.Code.{padded, choosing, written}
+use Rattle.inspect.specs.Code.{padded, choosing, chosenOf}
 use Rattle.inspect.proofs.Choosing.{Picked, choosing-chosen}
 use Rattle.dimacs.proofs.Written.{filled-edges}
 use Rattle.listing.specs.Listing.{graph, landmarksOf}
@@ -42,7 +42,7 @@ padded-length : (us : List ℕ) → length us ≤ maxLandmarks → length (padde
 padded-length us h = length-append us (replicate (maxLandmarks - length us) 0) ∙ omega (arith, length-replicate {A = ℕ} (maxLandmarks - length us) 0)
 
 -- four landmarks at most, in four places, whatever the table
-pub chosen-few : (n : ℕ) (cs : Columns) (m : ℕ) (r : Chosen) → choosing r ≡ written (choiceCall n cs m maxLandmarks) → (r .choice .count ≤ maxLandmarks) × (length (r .choice .vertices) ≡ maxLandmarks)
+pub chosen-few : (n : ℕ) (cs : Columns) (m : ℕ) (r : Chosen) → choosing r ≡ chosenOf (choiceCall n cs m maxLandmarks) → (r .choice .count ≤ maxLandmarks) × (length (r .choice .vertices) ≡ maxLandmarks)
 chosen-few n cs m r e =
     let p = choosing-chosen n cs m maxLandmarks r e in
     let l = choose-most (choiceVerdict n cs m maxLandmarks) (ranked (edgesOf cs m) (range 0 n)) in
@@ -91,7 +91,7 @@ module _ (n : ℕ) (es : List Edge) (ts hs ws : List ℕ) (m : ℕ) (h : Loaded 
   unfolding refuseIf
   choosable = accept-then (h .good .vertices) ∙ accept-then short ∙ accept-then refl ∙ kept
 
-  module _ (r : Chosen) (e : choosing r ≡ written (choiceCall n (columns ts hs ws) m maxLandmarks)) where
+  module _ (r : Chosen) (e : choosing r ≡ chosenOf (choiceCall n (columns ts hs ws) m maxLandmarks)) where
     picked : Picked n (columns ts hs ws) m maxLandmarks r
     picked = choosing-chosen n (columns ts hs ws) m maxLandmarks r e
 
@@ -125,5 +125,5 @@ module _ (n : ℕ) (es : List Edge) (ts hs ws : List ℕ) (m : ℕ) (h : Loaded 
         opened =
             rw (take-at f (drop size′ fz) size′ lf, take-at b (drop size′ bz) size′ lb)
             (ap (λ (z : Outcome (Unit {0}) Memory). record { memory = z .memory; count = m }) q
-            ∙ ap₂ (λ (ls : List ℕ) (w : Network). opened n ls w) (sym chosen-landmarks) (held x y));
+            ∙ ap₂ (λ (ls : List ℕ) (w : Network). openedNetwork n ls w) (sym chosen-landmarks) (held x y));
       }

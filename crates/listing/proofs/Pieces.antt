@@ -21,13 +21,10 @@ use Rattle.dimacs.specs.Call.{vertexCount, edgesRead, sourcesRead}
 use Rattle.listing.specs.declared.parts.Prepared.{Prepared}
 use Rattle.listing.specs.Listing.{maxFile, Graph, graph, graphOf, header, refusedLine, networkOf, linesOf, sourceLines, listed, graphVerdict, filesVerdict, output, printed}
 use Rattle.listing.specs.Code.{partsOf, parts, Shown}
+use Rattle.listing.specs.Pieces.{concat, PartsPrinted, PrintedCut}
 use Rattle.listing.proofs.Reading.{graph-long, sources-long, files-first}
 
 -- ---- all pieces are the whole output
-
-unfoldable pub concat : List (List ℕ) → List ℕ
-concat [] = []
-concat (p ∷ ps) = p ++ concat ps
 
 source-parts : (d : Graph) (w : Network) (ss : List ℕ) → concat (map (λ s. linesOf d w s (range 0 (d .n))) ss) ≡ sourceLines d w ss
 unfolding concat sourceLines
@@ -40,7 +37,7 @@ verdict-parts accept d ss = ap (λ (xs : List ℕ). header ++ xs) (source-parts 
 verdict-parts (refuse k i) d ss = append-nil (refusedLine k i)
 
 -- What a program prints that writes the pieces one after the other is what document 01 says: header and lines, or one refusal.
-pub parts-printed : (gr ss : List ℕ) → concat (parts gr ss) ≡ printed gr ss
+pub parts-printed : PartsPrinted
 unfolding printed
 parts-printed gr ss = verdict-parts (filesVerdict gr ss) (graphOf (readNetwork gr)) (sourcesRead (readSources (vertexCount (readNetwork gr)) ss))
 
@@ -73,7 +70,7 @@ printed-cut-sources gr ss = pick (decLt maxFile (length ss))
     pick (yes l) = rw (sources-long _ (take (suc maxFile) ss) (cut-long ss l), sources-long _ ss l) (output-hides (graphVerdict gr) _ _)
     pick (no l) = rw (take-all (suc maxFile) ss (omega arith))
 
-pub printed-cut : (gr ss : List ℕ) → printed (take (suc maxFile) gr) (take (suc maxFile) ss) ≡ printed gr ss
+pub printed-cut : PrintedCut
 printed-cut gr ss = printed-cut-graph gr (take (suc maxFile) ss) ∙ printed-cut-sources gr ss
 
 -- ---- one piece

@@ -15,7 +15,7 @@ use Rattle.query.specs.declared.Answered.{Answered}
 use Rattle.query.specs.Code.{asking, wordsOf, asOutcome}
 use Rattle.dimacs.specs.Decimal.{digits}
 use Rattle.dimacs.specs.Lines.{fieldsOf}
-use Rattle.writer.proofs.Digits.{width-most}
+use Rattle.dimacs.proofs.Widths.{width-most}
 use Rattle.writer.proofs.Fields.{width-word}
 use Rattle.listing.specs.Listing.{Graph, landmarksOf, valueAt, spaced, lineOf, linesOf, refusedLine}
 use Rattle.listing.specs.Code.{maxLine, settledRow, rowsLine, rowsLines}

@@ -1,3 +1,5 @@
 pub mod Listing
 pub mod Claims
 pub mod Code
+pub mod Refused
+pub mod Pieces

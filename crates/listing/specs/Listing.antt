@@ -32,7 +32,7 @@ use Rattle.run.specs.Run.{Tally, word}
 use Rattle.network.specs.Network.{Network}
 use Rattle.network.specs.Query.{Words}
 use Rattle.network.specs.Choice.{choice}
-use Rattle.network.specs.Caller.{holding, opened, queried}
+use Rattle.network.specs.Caller.{holding, openedNetwork, queried}
 use Rattle.dimacs.specs.Decimal.{digits}
 use Rattle.dimacs.specs.Lines.{fieldsOf}
 use Rattle.dimacs.specs.Read.{Read}
@@ -76,7 +76,7 @@ abbrev pub heldOf : Graph → Network
 heldOf d = holding (d .edges) (landmarksOf d) (d .n)
 
 abbrev pub networkOf : Graph → Network
-networkOf d = opened (d .n) (landmarksOf d) (heldOf d)
+networkOf d = openedNetwork (d .n) (landmarksOf d) (heldOf d)
 
 abbrev pub queryOf : Graph → Network → ℕ → ℕ → Outcome Tally Words
 queryOf d w s p = queried (d .n) (landmarksOf d) w p s []
