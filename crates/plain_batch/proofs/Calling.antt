@@ -1,7 +1,7 @@
 -- A batch as a call: numbers 1 to 4, then its changes, then number 13, and what is lent. Assumes nothing.
-use mathlib.Core.Path.{_≡_, refl, sym, _∙_}
+use mathlib.Core.Path.{_≡_, refl, sym, ap, _∙_}
 use mathlib.Core.List.{List, [], _∷_}
-use Prim.Native.Nat.{ℕ, _+_, _≤_, _<_, min}
+use Prim.Native.Nat.{ℕ, zero, suc, _+_, _≤_, _<_, min}
 use native.Mathlib.Omega.{arith}
 use lib.ListN.{length, take, drop}
 use lib.Seq.{paste, take-at, length-take-le}
@@ -33,6 +33,50 @@ changes-length (k ∷ ks) [] hs ws = omega arith
 changes-length (k ∷ ks) (t ∷ ts) [] ws = omega arith
 changes-length (k ∷ ks) (t ∷ ts) (h ∷ hs) [] = omega arith
 changes-length (k ∷ ks) (t ∷ ts) (h ∷ hs) (w ∷ ws) = let z = changes-length ks ts hs ws in omega arith
+
+-- ---- a part of the changes
+
+-- where one list is empty, there are no changes
+changes-no-tails : (ks hs ws : List ℕ) → changes ks [] hs ws ≡ []
+unfolding changes
+changes-no-tails [] hs ws = refl
+changes-no-tails (k ∷ ks) hs ws = refl
+
+changes-no-heads : (ks ts ws : List ℕ) → changes ks ts [] ws ≡ []
+unfolding changes
+changes-no-heads [] ts ws = refl
+changes-no-heads (k ∷ ks) [] ws = refl
+changes-no-heads (k ∷ ks) (t ∷ ts) ws = refl
+
+changes-no-weights : (ks ts hs : List ℕ) → changes ks ts hs [] ≡ []
+unfolding changes
+changes-no-weights [] ts hs = refl
+changes-no-weights (k ∷ ks) [] hs = refl
+changes-no-weights (k ∷ ks) (t ∷ ts) [] = refl
+changes-no-weights (k ∷ ks) (t ∷ ts) (h ∷ hs) = refl
+
+changes-drop : (a : ℕ) (ks ts hs ws : List ℕ) → changes (drop a ks) (drop a ts) (drop a hs) (drop a ws) ≡ drop a (changes ks ts hs ws)
+unfolding changes
+changes-drop zero ks ts hs ws = refl
+changes-drop (suc a) [] ts hs ws = refl
+changes-drop (suc a) (k ∷ ks) [] hs ws = changes-no-tails (drop a ks) (drop (suc a) hs) (drop (suc a) ws)
+changes-drop (suc a) (k ∷ ks) (t ∷ ts) [] ws = changes-no-heads (drop a ks) (drop a ts) (drop (suc a) ws)
+changes-drop (suc a) (k ∷ ks) (t ∷ ts) (h ∷ hs) [] = changes-no-weights (drop a ks) (drop a ts) (drop a hs)
+changes-drop (suc a) (k ∷ ks) (t ∷ ts) (h ∷ hs) (w ∷ ws) = changes-drop a ks ts hs ws
+
+changes-take : (j : ℕ) (ks ts hs ws : List ℕ) → changes (take j ks) (take j ts) (take j hs) (take j ws) ≡ take j (changes ks ts hs ws)
+unfolding changes
+changes-take zero ks ts hs ws = refl
+changes-take (suc j) [] ts hs ws = refl
+changes-take (suc j) (k ∷ ks) [] hs ws = refl
+changes-take (suc j) (k ∷ ks) (t ∷ ts) [] ws = refl
+changes-take (suc j) (k ∷ ks) (t ∷ ts) (h ∷ hs) [] = refl
+changes-take (suc j) (k ∷ ks) (t ∷ ts) (h ∷ hs) (w ∷ ws) = rw (changes-take j ks ts hs ws)
+
+-- the changes of parts of the four lists are that part of the changes
+pub changes-part : (j a : ℕ) (ks ts hs ws : List ℕ)
+    → changes (take j (drop a ks)) (take j (drop a ts)) (take j (drop a hs)) (take j (drop a ws)) ≡ take j (drop a (changes ks ts hs ws))
+changes-part j a ks ts hs ws = changes-take j (drop a ks) (drop a ts) (drop a hs) (drop a ws) ∙ ap (λ (cs : List Change). take j cs) (changes-drop a ks ts hs ws)
 
 -- ---- numbers 1 to 4
 

@@ -15,7 +15,7 @@ ghost use Rattle.items.specs.Code.{changes};
 ghost use Rattle.apply.specs.Code.{batchOutcome};
 
 // How many changes four lists hold side by side: as many as the shortest has words.
-fn count_changes(kinds: &[u32], froms: &[u32], tos: &[u32], values: &[u32]) -> usize
+pub fn count_changes(kinds: &[u32], froms: &[u32], tos: &[u32], values: &[u32]) -> usize
     ensures { λ r. ⌜ r ≡ length (changes (now (kinds .entry)) (now (froms .entry)) (now (tos .entry)) (now (values .entry))) ⌝ }
 {
     graph::lesser(

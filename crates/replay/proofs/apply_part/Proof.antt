@@ -1,0 +1,146 @@
+-- `replay::apply_part` meets its contract. Assumes nothing.
+use borrow.Author.Needs.{needs}
+use native.Mathlib.Omega.{arith}
+use mathlib.Core.Path.{_≡_, ap, _∙_}
+use Prim.Native.Nat.{_-_, _≤_, min}
+use lib.ListN.{length}
+use Rattle.network.specs.Batch.{batchCall}
+use Rattle.calls.specs.Code.{network}
+use Rattle.items.specs.Code.{changes}
+use Rattle.items.proofs.Editing.{changes-short}
+use Rattle.plain_batch.proofs.Calling.{changes-part}
+use Rattle.replay.proofs.Replaying.{part-cut}
+use Rattle.replay.proofs.apply_part.Statement.{statement}
+use Rattle.replay.proofs.apply_part.Tie as tie
+
+abbrev begin : tie.After-lesser2 → tie.Start
+begin c = c .before .before .before .before .before .before .before .before .before .before .before .before .before
+
+-- the part lies within each of the four lists
+within : (c : tie.After-lesser2) → let a = begin c .args in let end = c .before .lesser .result in
+    (c .lesser2 .result ≤ end) × (end ≤ length (a .kinds .now)) × (end ≤ length (a .froms .now)) × (end ≤ length (a .tos .now)) × (end ≤ length (a .values .now))
+within c =
+    let a = begin c .args in
+    let z = changes-short (a .kinds .now) (a .froms .now) (a .tos .now) (a .values .now) in
+    let s = c .before .before .count-changes .ensures in
+    let e = c .before .lesser .ensures in
+    let f = c .lesser2 .ensures in
+    (omega arith, omega arith, omega arith, omega arith, omega arith)
+
+count-changes-requires : tie.Need-count-changes-requires
+count-changes-requires c κs = search needs
+
+lesser-requires : tie.Need-lesser-requires
+lesser-requires c κs = search needs
+
+lesser-requires-2 : tie.Need-lesser-requires-2
+lesser-requires-2 c κs = search needs
+
+mul-batch-lists : tie.Need-mul-batch-lists
+mul-batch-lists c = let z = within (c .before .before .before .before .before) in search needs
+
+sub-batch-lists : tie.Need-sub-batch-lists
+sub-batch-lists c = search needs
+
+part-batch-lists-start : tie.Need-part-batch-lists-start
+part-batch-lists-start c = search needs
+
+part-batch-lists-end : tie.Need-part-batch-lists-end
+part-batch-lists-end c = within (c .before .before .before .before .before) .1
+
+mul-batch-lists-2 : tie.Need-mul-batch-lists-2
+mul-batch-lists-2 c = let z = within (c .before .before .before .before .before .before) in search needs
+
+sub-batch-lists-2 : tie.Need-sub-batch-lists-2
+sub-batch-lists-2 c = search needs
+
+part-batch-lists-start-2 : tie.Need-part-batch-lists-start-2
+part-batch-lists-start-2 c = search needs
+
+part-batch-lists-end-2 : tie.Need-part-batch-lists-end-2
+part-batch-lists-end-2 c = within (c .before .before .before .before .before .before) .2
+
+mul-batch-lists-3 : tie.Need-mul-batch-lists-3
+mul-batch-lists-3 c = let z = within (c .before .before .before .before .before .before .before) in search needs
+
+sub-batch-lists-3 : tie.Need-sub-batch-lists-3
+sub-batch-lists-3 c = search needs
+
+part-batch-lists-start-3 : tie.Need-part-batch-lists-start-3
+part-batch-lists-start-3 c = search needs
+
+part-batch-lists-end-3 : tie.Need-part-batch-lists-end-3
+part-batch-lists-end-3 c = within (c .before .before .before .before .before .before .before) .3
+
+mul-batch-lists-4 : tie.Need-mul-batch-lists-4
+mul-batch-lists-4 c = let z = within (c .before .before .before .before .before .before .before .before) in search needs
+
+sub-batch-lists-4 : tie.Need-sub-batch-lists-4
+sub-batch-lists-4 c = search needs
+
+part-batch-lists-start-4 : tie.Need-part-batch-lists-start-4
+part-batch-lists-start-4 c = search needs
+
+part-batch-lists-end-4 : tie.Need-part-batch-lists-end-4
+part-batch-lists-end-4 c = within (c .before .before .before .before .before .before .before .before) .4
+
+batch-lists-requires : tie.Need-batch-lists-requires
+batch-lists-requires c κs = search needs
+
+same-length : tie.Need-same-length
+same-length c = search needs
+
+same-length-2 : tie.Need-same-length-2
+same-length-2 c = search needs
+
+same-length-3 : tie.Need-same-length-3
+same-length-3 c = search needs
+
+same-length-4 : tie.Need-same-length-4
+same-length-4 c = search needs
+
+same-length-5 : tie.Need-same-length-5
+same-length-5 c = search needs
+
+returns : tie.Need-returns
+returns c =
+    let d = c .before .before .before .before .before .before .before .before .before .before in
+    let l = d .before .before .before .before .before .before .before .before .before .before in
+    let a = begin l .args in
+    let w = network (a .tails .now) (a .heads .now) (a .weights .now) (a .forward .now) (a .backward .now) (a .count) in
+    let cs = changes (a .kinds .now) (a .froms .now) (a .tos .now) (a .values .now) in
+    let start = l .lesser2 .result in
+    let end = l .before .lesser .result in
+    let e : end ≡ min (a .to) (length cs) = l .before .lesser .ensures ∙ ap (min (a .to)) (l .before .before .count-changes .ensures) in
+    d .batch-lists .ensures ∙ ap (batchCall (a .n) (a .landmarks .now) w) (changes-part (end - start) start (a .kinds .now) (a .froms .now) (a .tos .now) (a .values .now) ∙ part-cut cs (a .from) (a .to) end start e (l .lesser2 .ensures))
+
+pub apply-part-spec : {M : Type 1} → statement M
+apply-part-spec =
+    tie.close
+    (tie.spec
+    count-changes-requires
+    lesser-requires
+    lesser-requires-2
+    mul-batch-lists
+    sub-batch-lists
+    part-batch-lists-start
+    part-batch-lists-end
+    mul-batch-lists-2
+    sub-batch-lists-2
+    part-batch-lists-start-2
+    part-batch-lists-end-2
+    mul-batch-lists-3
+    sub-batch-lists-3
+    part-batch-lists-start-3
+    part-batch-lists-end-3
+    mul-batch-lists-4
+    sub-batch-lists-4
+    part-batch-lists-start-4
+    part-batch-lists-end-4
+    batch-lists-requires
+    same-length
+    same-length-2
+    same-length-3
+    same-length-4
+    same-length-5
+    returns)

@@ -1,0 +1,129 @@
+-- `replay::apply_parts` meets its contract: what is left of the batches gives, from here, the outcome of all. Assumes nothing.
+use borrow.Author.Needs.{needs}
+use native.Mathlib.Omega.{arith}
+use mathlib.Core.Path.{_≡_, refl, _∙_}
+use mathlib.Core.Logic.{⊎-elim}
+use Prim.Native.Nat.{_+_, _-_, _≤_}
+use lib.ListN.{length, drop}
+use Rattle.calls.specs.Code.{network}
+use Rattle.items.specs.Code.{changes}
+use Rattle.replay.specs.Replay.{batches, batchesFrom}
+use Rattle.replay.specs.Code.{carried}
+use Rattle.replay.proofs.Replaying.{batches-more, batches-none, carried-done, carried-refused, carried-none}
+use Rattle.replay.proofs.apply_parts.Statement.{statement}
+use Rattle.replay.proofs.apply_parts.Tie as tie
+
+abbrev Inv-loop : tie.InvT-loop
+Inv-loop n landmarks tails₀ heads₀ weights₀ count forward₀ backward₀ kinds froms tos values ends present₀ accepted₀ from₀ i₀ tails heads weights forward backward present accepted from i =
+    (carried n landmarks (network tails heads weights forward backward present) accepted (batchesFrom from (drop i ends) (changes kinds froms tos values))
+    ≡ carried n landmarks (network tails₀ heads₀ weights₀ forward₀ backward₀ count) 0 (batches ends (changes kinds froms tos values)))
+    × (accepted ≤ i) × (i ≤ length ends)
+    × (length tails ≡ length tails₀) × (length heads ≡ length heads₀) × (length weights ≡ length weights₀)
+    × (length forward ≡ length forward₀) × (length backward ≡ length backward₀)
+
+abbrev μ-loop : tie.MeasureT-loop
+μ-loop n landmarks tails₀ heads₀ weights₀ count forward₀ backward₀ kinds froms tos values ends present₀ accepted₀ from₀ i₀ tails heads weights forward backward present accepted from i =
+    length ends - i
+
+abbrev begin : tie.At-loop Inv-loop μ-loop → tie.Start Inv-loop μ-loop
+begin l = l .before .before .before .before .before .before .before .before .before .before .before .before
+
+loop-holds : tie.Need-loop-holds Inv-loop μ-loop
+loop-holds c = (refl, omega arith, omega arith, refl, refl, refl, refl, refl)
+
+mul-to : tie.Need-mul-to Inv-loop μ-loop
+mul-to c = search needs
+
+shared-slice-read-to : tie.Need-shared-slice-read-to Inv-loop μ-loop
+shared-slice-read-to c = search needs
+
+cast-to : tie.Need-cast-to Inv-loop μ-loop
+cast-to c = omega (arith, c .shared-slice-known7 .given (c .before .before .loop .i))
+
+apply-part-requires : tie.Need-apply-part-requires Inv-loop μ-loop
+apply-part-requires c κs = search needs
+
+enum-known-applied : tie.Need-enum-known-applied Inv-loop μ-loop
+enum-known-applied c = search needs
+
+add-accepted : tie.Need-add-accepted Inv-loop μ-loop
+add-accepted c =
+    let t = c .before .before .before .before .before .before .before .before .before .before .before .before .before .before .before .before .before .before .before .before in
+    omega (arith, mul-to t, t .before .loop .inv .1)
+
+enum-told : tie.Need-enum-told Inv-loop μ-loop
+enum-told c = search needs
+
+add-i : tie.Need-add-i Inv-loop μ-loop
+add-i c = omega (arith, mul-to (c .before .before .before .before .before .before .before .before .before .before .before .before .before .before .before .before .before .before))
+
+loop-less : tie.Need-loop-less Inv-loop μ-loop
+loop-less c = search needs
+
+loop-again : tie.Need-loop-again Inv-loop μ-loop
+loop-again c =
+    let a = c .before .before .before .before .before .before .before .before .before .before .before in
+    let t = a .before .before .before .before .before .before .before in
+    let l = t .before in
+    let g = begin l .args in
+    let d = batches-more (l .loop .from) (g .ends .now) (l .loop .i) (changes (g .kinds .now) (g .froms .now) (g .tos .now) (g .values .now)) (t .loop-test .taken) in
+    let o = a .apply-part .ensures in
+    let k = a .apply-part .kept in (
+      ⊎-elim (λ w. carried-done _ _ _ _ _ _ _ d (l .loop .inv .0) _ _ _ _ _ _ _ (w .1 .given .1) o _ _ (w .3) (w .4))
+          (λ w. carried-refused _ _ _ _ _ _ _ d (l .loop .inv .0) _ _ _ _ _ _ _ _ (w .1 .given .1) o _ _ (w .2) (w .3))
+          (c .match .came),
+      ⊎-elim (λ w. let e : c .match .accepted ≡ l .loop .accepted + 1 = w .4 in omega (arith, e, l .loop .inv .1))
+          (λ w. let e : c .match .accepted ≡ l .loop .accepted = w .3 in omega (arith, e, l .loop .inv .1))
+          (c .match .came),
+      omega (arith, t .loop-test .taken),
+      k .1 .1 .0 ∙ l .loop .inv .3,
+      k .1 .1 .1 .0 ∙ l .loop .inv .4,
+      k .1 .1 .1 .1 .0 ∙ l .loop .inv .5,
+      k .1 .1 .1 .1 .1 .1 .0 ∙ l .loop .inv .6,
+      k .1 .1 .1 .1 .1 .1 .1 .0 ∙ l .loop .inv .7,
+    )
+
+same-length : tie.Need-same-length Inv-loop μ-loop
+same-length c = c .before .loop .inv .3
+
+same-length-2 : tie.Need-same-length-2 Inv-loop μ-loop
+same-length-2 c = c .before .loop .inv .4
+
+same-length-3 : tie.Need-same-length-3 Inv-loop μ-loop
+same-length-3 c = c .before .loop .inv .5
+
+same-length-4 : tie.Need-same-length-4 Inv-loop μ-loop
+same-length-4 c = c .before .loop .inv .6
+
+same-length-5 : tie.Need-same-length-5 Inv-loop μ-loop
+same-length-5 c = c .before .loop .inv .7
+
+returns : tie.Need-returns Inv-loop μ-loop
+returns c =
+    let l = c .before in
+    let a = begin l .args in
+    carried-none _ _ _ _ _ _ _ _ _ _ (batches-none (l .loop .from) (a .ends .now) (l .loop .i) (changes (a .kinds .now) (a .froms .now) (a .tos .now) (a .values .now)) (omega (arith, c .loop-test .left))) (l .loop .inv .0)
+
+pub apply-parts-spec : {M : Type 1} → statement M
+apply-parts-spec =
+    tie.close
+    (tie.spec
+    Inv-loop
+    μ-loop
+    loop-holds
+    mul-to
+    shared-slice-read-to
+    cast-to
+    apply-part-requires
+    enum-known-applied
+    add-accepted
+    enum-told
+    add-i
+    loop-less
+    loop-again
+    same-length
+    same-length-2
+    same-length-3
+    same-length-4
+    same-length-5
+    returns)
