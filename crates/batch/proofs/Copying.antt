@@ -19,7 +19,7 @@ pub copied-length : (ys : List Change) (xs : List ℕ) (i : ℕ) → length (cop
 copied-length ys xs zero = refl
 copied-length ys xs (suc i) = simp (length-set, copied-length ys xs i)
 
-pub copied-more : (ys : List Change) (xs : List ℕ) (i : ℕ) → putChange (copied ys xs i) i (getD ys i noChange) ≡ copied ys xs (i + 1)
+pub copied-more : (ys : List Change) (xs : List ℕ) (i : ℕ) → putChange (copied ys xs i) i (recorded (getD ys i noChange)) ≡ copied ys xs (i + 1)
 copied-more ys xs i = sym (ap (copied ys xs) (add-one i))
 
 -- ---- one record
@@ -47,7 +47,7 @@ module _ (xs : List ℕ) (i j k l a b c d : ℕ) (i-in : i < length xs) (j-in : 
   read-fourth : getD put l 0 ≡ d
   read-fourth = getD-set-same (set (set (set xs i a) j b) k c) l d 0 (simp length-set l-in)
 
-pub put-there : (xs : List ℕ) (i : ℕ) (c : Change) → i < maxBatch → length xs ≡ 4 * maxBatch → changeAt (putChange xs i c) i ≡ recorded c
+pub put-there : (xs : List ℕ) (i : ℕ) (c : spec.Change) → i < maxBatch → length xs ≡ 4 * maxBatch → changeAt (putChange xs i c) i ≡ c
 put-there xs i c f e = rw (first, second, third, fourth)
   where
     a : i < length xs
@@ -86,7 +86,7 @@ put-there xs i c f e = rw (first, second, third, fourth)
 skip4 : (xs : List ℕ) (i j k l a b c d m : ℕ) → m ≢ i → m ≢ j → m ≢ k → m ≢ l → getD (set (set (set (set xs i a) j b) k c) l d) m 0 ≡ getD xs m 0
 skip4 xs i j k l a b c d m p q r s = skip3 (set xs i a) j k l b c d m q r s ∙ getD-set-other xs i m a 0 p
 
-pub put-elsewhere : (xs : List ℕ) (i j : ℕ) (c : Change) → i < maxBatch → j < i → changeAt (putChange xs i c) j ≡ changeAt xs j
+pub put-elsewhere : (xs : List ℕ) (i j : ℕ) (c : spec.Change) → i < maxBatch → j < i → changeAt (putChange xs i c) j ≡ changeAt xs j
 put-elsewhere xs i j c f h = rw (
   read j (λ e. omega arith) (λ e. omega arith) (λ e. omega arith) (λ e. omega arith),
   read (maxBatch + j) (λ e. omega arith) (λ e. omega arith) (λ e. omega arith) (λ e. omega arith),
@@ -105,10 +105,10 @@ copied-at ys xs zero i l f e = absurd (omega arith)
 copied-at ys xs (suc k) i l f e = pick (λ h. copied-at ys xs k i h (omega arith) e) (decLt i k)
   where
     pick : (i < k → changeAt (copied ys xs k) i ≡ recorded (getD ys i noChange)) → Dec (i < k) → changeAt (copied ys xs (suc k)) i ≡ recorded (getD ys i noChange)
-    pick r (yes h) = put-elsewhere (copied ys xs k) k i (getD ys k noChange) (omega arith) h ∙ r h
+    pick r (yes h) = put-elsewhere (copied ys xs k) k i (recorded (getD ys k noChange)) (omega arith) h ∙ r h
     pick r (no h) =
         let s : k ≡ i = omega arith in
-        subst (λ (j : ℕ). changeAt (copied ys xs (suc k)) j ≡ recorded (getD ys j noChange)) s (put-there (copied ys xs k) k (getD ys k noChange) (omega arith) (copied-length ys xs k ∙ e))
+        subst (λ (j : ℕ). changeAt (copied ys xs (suc k)) j ≡ recorded (getD ys j noChange)) s (put-there (copied ys xs k) k (recorded (getD ys k noChange)) (omega arith) (copied-length ys xs k ∙ e))
 
 pub copied-laid : (ys : List Change) (xs us : List ℕ) (k : ℕ) → k ≡ min (length ys) maxBatch → us ≡ copied ys xs k → length xs ≡ 4 * maxBatch → Laid (length ys) (map recorded ys) us
 copied-laid ys xs us k s c e = record {

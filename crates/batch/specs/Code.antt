@@ -23,7 +23,7 @@ recorded c = change (c .kind) (c .tail) (c .head) (c .weight)
 abbrev pub noChange : slice.Change
 noChange = record { kind = 0; tail = 0; head = 0; weight = 0 }
 
-abbrev pub putChange : List ℕ → ℕ → slice.Change → List ℕ
+abbrev pub putChange : List ℕ → ℕ → Change → List ℕ
 putChange xs i c = set (set (set (set xs i (c .kind)) (maxBatch + i) (c .tail)) (2 * maxBatch + i) (c .head)) (3 * maxBatch + i) (c .weight)
 
 abbrev pub changeAt : List ℕ → ℕ → Change
@@ -31,7 +31,7 @@ changeAt xs i = change (getD xs i 0) (getD xs (maxBatch + i) 0) (getD xs (2 * ma
 
 abbrev pub copied : List slice.Change → List ℕ → ℕ → List ℕ
 copied ys xs zero = xs
-copied ys xs (suc i) = putChange (copied ys xs i) i (getD ys i noChange)
+copied ys xs (suc i) = putChange (copied ys xs i) i (recorded (getD ys i noChange))
 
 pub record Laid (k : ℕ) (cs : List Change) (xs : List ℕ) : Type 0 where
   pub size : length cs ≡ k

@@ -7,6 +7,7 @@ ghost use lib.ListN.{length};
 ghost use Rattle.graph.specs.Limits.{maxBatch};
 ghost use Rattle.network.specs.Change as spec;
 ghost use Rattle.network.specs.Batch.{batchCall};
+ghost use Rattle.items.specs.Code.{change};
 ghost use Rattle.calls.specs.Code.{network};
 ghost use Rattle.apply.specs.Code.{batchOutcome};
 ghost use Rattle.batch.specs.Code.{recorded, putChange, copied, Laid};
@@ -29,14 +30,14 @@ pub struct Change {
 }
 
 // The words of a change go to place `i` of the four lists.
-fn put_change(lists: &mut [u32], i: usize, c: Change)
+fn put_change(lists: &mut [u32], i: usize, kind: u32, tail: u32, head: u32, weight: u32)
     requires { ⌜ (i < maxBatch) × (length (now lists) ≡ 4 * maxBatch) ⌝ }
-    ensures { λ _. ⌜ now (lists .exit) ≡ putChange (now (lists .entry)) i c ⌝ }
+    ensures { λ _. ⌜ now (lists .exit) ≡ putChange (now (lists .entry)) i (change kind tail head weight) ⌝ }
 {
-    lists[i] = c.kind;
-    lists[TAILS + i] = c.tail;
-    lists[HEADS + i] = c.head;
-    lists[WEIGHTS + i] = c.weight;
+    lists[i] = kind;
+    lists[TAILS + i] = tail;
+    lists[HEADS + i] = head;
+    lists[WEIGHTS + i] = weight;
 }
 
 // The first `k` changes are copied to the four lists.
@@ -47,7 +48,7 @@ fn copy_changes(changes: &[Change], k: usize, lists: &mut [u32])
     let mut i = 0;
     while i < k {
         let c = changes[i];
-        put_change(lists, i, c);
+        put_change(lists, i, c.kind, c.tail, c.head, c.weight);
         i += 1;
     }
 }

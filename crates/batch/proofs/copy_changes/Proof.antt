@@ -1,6 +1,6 @@
 -- `batch::copy_changes` meets its contract: a walk of its MIR, by hand, with a loop. A turn looks into the slice of records and copies record i, lends the
--- four lists again to `put_change` for a lifetime of the call, and takes them back. The loop's invariant is the context `At i`, in which the lists stand at
--- `copied ys fs i`. All that the proof knows of `put_change` is that it meets its contract. Assumes nothing.
+-- four lists again to `put_change` for a lifetime of the call, beside the record's fields, and takes them back. The loop's invariant is the context `At i`,
+-- in which the lists stand at `copied ys fs i`. All that the proof knows of `put_change` is that it meets its contract. Assumes nothing.
 use mathlib.Core.Path.{_≡_, refl, sym, _∙_, ap, subst}
 use Prim.Native.Nat.{ℕ, _+_, _-_, _*_, _<_, _≤_, _^_, zero-le}
 use native.Mathlib.Nat.{le-antisymm, lt-of-le-of-lt}
@@ -23,7 +23,7 @@ use prog.Wp.{Heap, Out, Env, afterSeq, afterBlock, afterTurn, Calls, Loops, Wp, 
 use ghost.Atoms.{Atoms, sem}
 use contract.Monad.{Fun, fact}
 use contract.Running.{givenOf, tables, tablesOf}
-use types.Kit.{Given, Item, ‵, raw, some, later, _⊛_, ⋆, runs, anyQ, atRet, Sq, _$_, _∵_, !, qed, by, move, keep, use1, use2, use3, split, join, pick, rewrite, fsplit, fjoin, feqL, feqI, suffices, frame, await, done}
+use types.Kit.{Given, Item, ‵, raw, some, later, _⊛_, ⋆, runs, anyQ, atRet, Sq, _$_, _∵_, !, qed, by, move, keep, use1, use2, use3, split, join, given, learn, pick, rewrite, fsplit, fjoin, feqL, feqI, suffices, frame, await, done}
 use types.Part.{agg, whole, sub, look-in}
 use types.Run.{look, look-raw, init, store, forget, stop, hop, fld, from, load, lit, unit-lit, addr, of-opd, and-then, no-more, bin, assigns, assigns-last, land, first, skips, jumps, blocks, branches, returns, enter, alloc1, alloc0, params1, pass1, pass0, free1, free0, exec, Below, again, loops}
 use types.Share.{arr-parts}
@@ -40,6 +40,8 @@ use denote.Signature.{plain, shrSliceOf}
 use denote.Slice.{sliceTy, sliceVal, ShrSlice, MutSlice, Room, at-slice, heres, codedHoleys, slice-vals, shr-slice-tells, mut-slice-tells}
 use denote.Steps.{owned, peeks, heard, nothing}
 use denote.Struct.Laws as LL
+use denote.Struct.Rest.{all-own, own-open}
+use denote.Struct.Values.{Values}
 use denote.Triple.Call.{calls-at}
 use denote.Triple.Clauses.{ensured, lasts}
 use denote.Triple.Entry.{Vals, onEntry}
@@ -49,7 +51,7 @@ use denote.Triple.Table.{entered, cited}
 use denote.Triple.Walked.{says, needs, Stays, stay-dropped, stay-slice, walkOf, goes-dropped, goes-slice, Walks, ends-at, walked, walk-meets}
 use denote.Exit.{yes}
 use Rattle.graph.specs.Limits.{maxBatch}
-use Rattle.batch.specs.Code.{noChange, putChange, copied}
+use Rattle.batch.specs.Code.{recorded, noChange, putChange, copied}
 use Rattle.batch.specs.declared.Change.{Change}
 use Rattle.batch.proofs.Again.{LentAgain, lends-again, comes-back}
 use Rattle.batch.proofs.Copying.{copied-length, copied-more}
@@ -176,15 +178,23 @@ module _ {M : Type 1} (𝓤 : URA M) (H : Heap 𝓤) (A : Atoms 𝓤) (W : Given
       nothing ! $ move ! (3 ∷ 0 ∷ []) $ join ! $ move ! (1 ∷ 0 ∷ []) $ join ! $ frame ! $
       nothing ! $ move ! (1 ∷ 0 ∷ []) $ fjoin ! $ nothing ! $ fjoin ! $ nothing ! $ fjoin ! $ feqI ! (List Val) (vunit ∷ []) (vunit ∷ []) refl $ move ! (1 ∷ 0 ∷ []) $ done !
 
-  -- what `put_change`'s triple binds outside: the lists lent again for the lifetime ν, under the name δ
+  -- what `put_change` is passed: the lists under the name δ, i, and the fields of record i
+  abbrev fields : ℕ → Values (T.the-type .parts)
+  fields i = (elem i .kind, (elem i .tail, (elem i .head, (elem i .weight, tt))))
+
+  abbrev passed : ℕ → GName → RefT (List ℕ) × (ℕ × Values (T.the-type .parts))
+  passed i δ = (x′ δ (zs i), (i, fields i))
+
+  -- what its triple binds outside: the lists lent again for the lifetime ν
   abbrev to-put : ℕ → ℕ → GName → Put 𝓤 H A mem run .Ghost
-  to-put i ν δ = (((ν ∷ [], tt), (fullShare, tt), tt, (x′ δ (zs i), (i, (elem i, tt))), (s′ (length fs) ∷ [], (vint w64 i ∷ [], (mach i ∷ [], tt)))), tt)
+  to-put i ν δ = (((ν ∷ [], tt), (fullShare, tt), tt, passed i δ, (s′ (length fs) ∷ [], (vint w64 i ∷ [], (vint w32 (elem i .kind) ∷ [], (vint w32 (elem i .tail) ∷ [], (vint w32 (elem i .head) ∷ [], (vint w32 (elem i .weight) ∷ [], tt))))))), tt)
 
   goes : (i : ℕ) → i < k → Is R (elem i) (mach i ∷ []) → (ν : ℕ) (δ : GName) → ent 𝓤 (sep 𝓤 (A .lft (ν ∷ []) fullShare) (sem 𝓤 H A (MutSlice (named 0) (ν ∷ []) u32 .own (x′ δ (zs i)) (s′ (length fs) ∷ [])))) (Put 𝓤 H A mem run .pre (to-put i ν δ))
   goes i l g ν δ =
       qed W (‵ (flft (ν ∷ []) fullShare) ∷ ‵ (MutSlice (named 0) (ν ∷ []) u32 .own (x′ δ (zs i)) (s′ (length fs) ∷ [])) ∷ []) ∵ says ! (less-than i k maxBatch l (asked .1), copied-length ys fs i ∙ asked .2) $
       nothing ! $ move ! (1 ∷ 0 ∷ []) $ join ! $ frame ! $
-      nothing ! $ owned ! R (Is R) (LL.makes T.the-type T′.the-plain 𝓤 H A) (elem i) (mach i ∷ []) g $ fjoin ! $ owned ! usize (Is usize) (uint-makes 𝓤 H A W w64) i _ (refl, less-than i k (2 ^ 64) l (lt-le k-fits)) $ fjoin ! $ move ! (1 ∷ 0 ∷ []) $ fjoin ! $ done !
+      owned ! R (Is R) (LL.makes T.the-type T′.the-plain 𝓤 H A) (elem i) (mach i ∷ []) g $ use1 W (given (mach i ∷ [] ≡ mach i ∷ []) (‵ (all-own (T.the-type .parts) T′.the-laws (fields i)))) (own-open 𝓤 H A W T.the-type T′.the-laws (fields i) (mach i)) $ learn ! (λ _.
+      owned ! usize (Is usize) (uint-makes 𝓤 H A W w64) i _ (refl, less-than i k (2 ^ 64) l (lt-le k-fits)) $ fjoin ! $ move ! (1 ∷ 0 ∷ []) $ fjoin ! $ done !)
     where
       lt-le : k < 2 ^ 64 → k ≤ 2 ^ 64
       lt-le h = omega (arith, h)
@@ -245,11 +255,12 @@ module _ {M : Type 1} (𝓤 : URA M) (H : Heap 𝓤) (A : Atoms 𝓤) (W : Given
         rewrite ! 0 (λ (m : ℕ). ‵ (MutSlice (named 0) (ν ∷ []) u32 .own (x′ δ (zs (i .0))) (s′ m ∷ []))) (copied-length ys fs (i .0)) refl $
         move ! (2 ∷ 0 ∷ []) $ use2 W (raw (Put 𝓤 H A mem run .pre (to-put (i .0) ν δ))) (goes (i .0) (small less) g ν δ) $
         -- [the call's pre; what is lent; the records' token; Frac; Res; Said; _12 at 6; …]
-        calls-at ! (fmOf 𝓤 H (W .laws) 𝓣) (Put 𝓤 H A mem run) known (to-put (i .0) ν δ) (and-then ! (load ! (from ! (stop !)) (look ! 6 refl)) (and-then ! (load ! (from ! (stop !)) (look ! 22 refl)) (and-then ! (load ! (from ! (stop !)) (look ! 20 refl)) (no-more !)))) (λ w.
-        use1 W (later (some (λ (r : Unit {0}). ((‵ (flft (ν ∷ []) fullShare) ⊛ ‵ ftrue) ⊛ ‵ (unit .own r (w ∷ []))) ⊛ raw (ensured 𝓤 H A put.ended (put.clauses 𝓤 H A mem run) (ν ∷ [], tt) (x′ δ (zs (i .0)), (i .0, (elem (i .0), tt))) tt r)))) (id⊢ 𝓤 _) $ await ! tt $ pick ! (λ r.
+        calls-at ! (fmOf 𝓤 H (W .laws) 𝓣) (Put 𝓤 H A mem run) known (to-put (i .0) ν δ) (and-then ! (load ! (from ! (stop !)) (look ! 6 refl)) (and-then ! (load ! (from ! (stop !)) (look ! 22 refl))
+        (and-then ! (load ! (from ! (fld ! refl (stop !))) (look-in ! 20 (sub ! 0 refl (whole !)))) (and-then ! (load ! (from ! (fld ! refl (stop !))) (look-in ! 20 (sub ! 1 refl (whole !)))) (and-then ! (load ! (from ! (fld ! refl (stop !))) (look-in ! 20 (sub ! 2 refl (whole !)))) (and-then ! (load ! (from ! (fld ! refl (stop !))) (look-in ! 20 (sub ! 3 refl (whole !)))) (no-more !))))))) (λ w.
+        use1 W (later (some (λ (r : Unit {0}). ((‵ (flft (ν ∷ []) fullShare) ⊛ ‵ ftrue) ⊛ ‵ (unit .own r (w ∷ []))) ⊛ raw (ensured 𝓤 H A put.ended (put.clauses 𝓤 H A mem run) (ν ∷ [], tt) (passed (i .0) δ) tt r)))) (id⊢ 𝓤 _) $ await ! tt $ pick ! (λ r.
         -- what `put_change` ensures, at some last words
-        split ! $ move ! (1 ∷ []) $ use1 W (some (λ (ls : List ℕ × (Unit {0} × (Unit {0} × Unit {0}))). ‵ (lasts put.ended (ν ∷ [], tt) (x′ δ (zs (i .0)), (i .0, (elem (i .0), tt))) ls) ⊛ raw (fact 𝓤 (ls .0 ≡ putChange (zs (i .0)) (i .0) (elem (i .0)))))) (id⊢ 𝓤 _) $ pick ! (λ ls.
-        split ! $ move ! (1 ∷ []) $ heard ! (ls .0 ≡ putChange (zs (i .0)) (i .0) (elem (i .0))) (λ e. fsplit ! $ fsplit ! $ move ! (1 ∷ []) $ feqL ! (λ l.
+        split ! $ move ! (1 ∷ []) $ use1 W (some (λ (ls : List ℕ × (Unit {0} × (Unit {0} × (Unit {0} × (Unit {0} × (Unit {0} × Unit {0})))))). ‵ (lasts put.ended (ν ∷ [], tt) (passed (i .0) δ) ls) ⊛ raw (fact 𝓤 (ls .0 ≡ putChange (zs (i .0)) (i .0) (recorded (elem (i .0))))))) (id⊢ 𝓤 _) $ pick ! (λ ls.
+        split ! $ move ! (1 ∷ []) $ heard ! (ls .0 ≡ putChange (zs (i .0)) (i .0) (recorded (elem (i .0)))) (λ e. fsplit ! $ fsplit ! $ move ! (1 ∷ []) $ feqL ! (λ l.
         move ! (2 ∷ []) $ split ! $ move ! (1 ∷ []) $ peeks ! unit (Is unit) (shows 𝓤 H A unit) r (w ∷ []) (λ is.
         land ! (from ! (stop !)) (init ! 13 refl (nothing-lawful 𝓤 H A W .typed r _ is .0)) $
         -- the lifetime is ended, and the lists come back at those words
