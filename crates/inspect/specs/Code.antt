@@ -1,17 +1,17 @@
 -- The program's replies, as document 01's: for each case of an enum the number and values that it stands for. Assumes nothing.
 --
 --   checking r                                        == the program's reply to a settled check as document 01's
---   Written                                           == the reply to a landmark choice, written out: verdict, how many vertices, and
+--   ChosenWords                                       == the reply to a landmark choice, written out: verdict, how many vertices, and
 --                                                        four places of which the unused are 0
 --   choosing r                                        == the program's reply to a landmark choice, so written
---   written x                                         == document 01's reply x, so written; a refusal shows no vertex
+--   chosenOf x                                        == document 01's reply x, so written; a refusal shows no vertex
 --   padded us                                         == the vertices us in the four places
 --   wordAt p i                                        == where word i of a list of 32-bit words lies that starts at p: in the same block of
 --                                                        memory, four bytes further for each word
 --   Shows .. f b at                                   == the part that starts at `at` is the row in the list of its side, of the two that start
 --                                                        at f and b; of a refused look-up nothing is said: its part is empty
---   Holds us k xs                                     == xs are the four places with us in them, and k is how many
---   Counted es ds                                     == word v of the list ds is the degree of v, for every v: it is 0 past the list
+--   Padded us k xs                                    == xs are the four places with us in them, and k is how many
+--   Degrees es ds                                     == word v of the list ds is the degree of v, for every v: it is 0 past the list
 use mathlib.Core.Path.{_≡_}
 use mathlib.Core.Bool.{cond}
 use mathlib.Core.List.{List, [], _++_}
@@ -38,7 +38,7 @@ checking (checked.Refused k i) = refused k i
 
 -- ---- landmark choice
 
-pub record Written : Type 0 where
+pub record ChosenWords : Type 0 where
   pub verdict : Verdict
   pub count : ℕ
   pub vertices : List ℕ
@@ -46,19 +46,19 @@ pub record Written : Type 0 where
 abbrev pub padded : List ℕ → List ℕ
 padded us = us ++ replicate (maxLandmarks - length us) 0
 
-unfoldable pub written : Reply (List ℕ) → Written
-written (accepted us) = record { verdict = accept; count = length us; vertices = padded us }
-written (refused k i) = record { verdict = refuse k i; count = 0; vertices = padded [] }
+unfoldable pub chosenOf : Reply (List ℕ) → ChosenWords
+chosenOf (accepted us) = record { verdict = accept; count = length us; vertices = padded us }
+chosenOf (refused k i) = record { verdict = refuse k i; count = 0; vertices = padded [] }
 
-abbrev pub choosing : Chosen → Written
+abbrev pub choosing : Chosen → ChosenWords
 choosing r = record { verdict = told (r .verdict); count = r .choice .count; vertices = r .choice .vertices }
 
-pub record Holds (us : List ℕ) (k : ℕ) (xs : List ℕ) : Type 0 where
+pub record Padded (us : List ℕ) (k : ℕ) (xs : List ℕ) : Type 0 where
   pub count : k ≡ length us
   pub words : xs ≡ padded us
 
-abbrev pub Counted : List Edge → List ℕ → Type 0
-Counted es ds = (v : ℕ) → getD ds v 0 ≡ degree es v
+abbrev pub Degrees : List Edge → List ℕ → Type 0
+Degrees es ds = (v : ℕ) → getD ds v 0 ≡ degree es v
 
 -- ---- row look-up
 

@@ -14,7 +14,7 @@ use Rattle.graph.specs.Refusal.{Reply, replied, Outcome, over}
 use Rattle.network.specs.Network.{Rows}
 use Rattle.network.specs.Query.{rowAt}
 use Rattle.network.specs.Lookup.{indexOf, lookupVerdict}
-use Rattle.spelling.specs.Code.{replyWords, numberOf, wordsOf}
+use Rattle.spelling.specs.Code.{replyWords, numberOf, wordsTold}
 
 pub record Spelled (L : Type 0) : Type 0 where
   pub number : ℕ
@@ -25,7 +25,7 @@ unfoldable pub spelled : {A L : Type 0} → (A → List ℕ) → Outcome A L →
 spelled f o old xs =
     cond (ltb (length xs) replyWords)
     (record { number = 2; reply = xs; memory = old })
-    (record { number = numberOf (o .reply); reply = over (wordsOf f (o .reply)) xs; memory = o .memory })
+    (record { number = numberOf (o .reply); reply = over (wordsTold f (o .reply)) xs; memory = o .memory })
 
 abbrev pub alone : {A : Type 0} → Reply A → Outcome A (Unit {0})
 alone r = record { reply = r; memory = tt }

@@ -9,7 +9,7 @@ use Rattle.graph.specs.declared.Judged.the-variants.{Fine, Refused}
 use Rattle.graph.specs.Code.{told}
 use Rattle.graph.proofs.Verdicts.{not-accept}
 use Rattle.inspect.specs.declared.Chosen.{Chosen}
-use Rattle.inspect.specs.Code.{Written, written, choosing, padded}
+use Rattle.inspect.specs.Code.{ChosenWords, chosenOf, choosing, padded}
 use Rattle.spelling.specs.Code.{replyWords, Tells, choiceWords}
 use Rattle.spelling.proofs.Telling.{setAll-over, refused-tells, accepted-tells}
 
@@ -31,23 +31,23 @@ placeIn accept = 0
 placeIn (refuse k i) = i
 
 module _ (r : Chosen) (xs : List ℕ) (l : replyWords ≤ length xs) where
-  pub choice-refused : (k i : ℕ) → r .verdict ≡ Refused k i → (x : Reply (List ℕ)) → choosing r ≡ written x → Tells choiceWords x k xs (set xs 0 i)
-  unfolding told written numberIn placeIn
+  pub choice-refused : (k i : ℕ) → r .verdict ≡ Refused k i → (x : Reply (List ℕ)) → choosing r ≡ chosenOf x → Tells choiceWords x k xs (set xs 0 i)
+  unfolding told chosenOf numberIn placeIn
   choice-refused k i q (accepted us) e =
-      absurd (not-accept (sym (ap told q) ∙ ap (λ (w : Written). w .verdict) e))
+      absurd (not-accept (sym (ap told q) ∙ ap (λ (w : ChosenWords). w .verdict) e))
   choice-refused k i q (refused j p) e =
-      let v : refuse k i ≡ refuse j p = sym (ap told q) ∙ ap (λ (w : Written). w .verdict) e in
+      let v : refuse k i ≡ refuse j p = sym (ap told q) ∙ ap (λ (w : ChosenWords). w .verdict) e in
       rw (ap numberIn v, ap placeIn v) (refused-tells choiceWords xs l j p)
 
-  pub choice-accepted : r .verdict ≡ Fine → length (r .choice .vertices) ≡ 4 → (x : Reply (List ℕ)) → choosing r ≡ written x →
+  pub choice-accepted : r .verdict ≡ Fine → length (r .choice .vertices) ≡ 4 → (x : Reply (List ℕ)) → choosing r ≡ chosenOf x →
       let vs = r .choice .vertices in
       Tells choiceWords x 0 xs (set (set (set (set (set xs 0 (r .choice .count)) 1 (getD vs 0 0)) 2 (getD vs 1 0)) 3 (getD vs 2 0)) 4 (getD vs 3 0))
-  unfolding told written
-  choice-accepted q h (refused j p) e = absurd (not-accept (sym (ap (λ (w : Written). w .verdict) e) ∙ ap told q))
+  unfolding told chosenOf
+  choice-accepted q h (refused j p) e = absurd (not-accept (sym (ap (λ (w : ChosenWords). w .verdict) e) ∙ ap told q))
   choice-accepted q h (accepted us) e =
       let vs = r .choice .vertices in
       let z : r .choice .count ∷ getD vs 0 0 ∷ getD vs 1 0 ∷ getD vs 2 0 ∷ getD vs 3 0 ∷ [] ≡ length us ∷ padded us =
       ap (λ (ys : List ℕ). r .choice .count ∷ ys) (four vs h)
-      ∙ ap (λ (w : Written). w .count ∷ w .vertices) e in
+      ∙ ap (λ (w : ChosenWords). w .count ∷ w .vertices) e in
       accepted-tells choiceWords xs l us
       (setAll-over (r .choice .count ∷ getD vs 0 0 ∷ getD vs 1 0 ∷ getD vs 2 0 ∷ getD vs 3 0 ∷ []) xs (omega arith) ∙ ap (λ (ys : List ℕ). over ys xs) z)

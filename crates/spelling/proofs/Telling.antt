@@ -7,7 +7,7 @@ use Prim.Native.Nat.{ℕ, suc, _<_, _≤_}
 use native.Mathlib.Omega.{arith}
 use lib.ListN.{length, set, length-set}
 use Rattle.graph.specs.Refusal.{accepted, refused, over}
-use Rattle.spelling.specs.Code.{replyWords, numberOf, wordsOf, Tells}
+use Rattle.spelling.specs.Code.{replyWords, numberOf, wordsTold, Tells}
 
 -- ---- stores one after the other
 
@@ -37,9 +37,9 @@ setAll-within ys xs i l = omega (arith, setAll-length ys xs 0)
 
 module _ {A : Type 0} (f : A → List ℕ) (xs : List ℕ) (l : replyWords ≤ length xs) where
   pub refused-tells : (k i : ℕ) → Tells f (refused k i) k xs (set xs 0 i)
-  unfolding numberOf wordsOf
+  unfolding numberOf wordsTold
   refused-tells k i = record { number = refl; reply = setAll-over (i ∷ []) xs (omega arith) }
 
   pub accepted-tells : (a : A) {ys : List ℕ} → ys ≡ over (f a) xs → Tells f (accepted a) 0 xs ys
-  unfolding numberOf wordsOf
+  unfolding numberOf wordsTold
   accepted-tells a e = record { number = refl; reply = e }

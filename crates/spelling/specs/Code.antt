@@ -2,7 +2,7 @@
 --
 --   replyWords             == how many words a reply list has at least
 --   numberOf r             == the refusal number of a reply; 0 where it is accepted
---   wordsOf f r            == the words of a reply: f of what is answered, or the place of a refusal
+--   wordsTold f r          == the words of a reply: f of what is answered, or the place of a refusal
 --   Tells f r k xs ys      == k and ys spell the reply r, where xs was the reply list: words past those of the reply stay
 --   openWords              == an opening tells only that it was accepted
 --   tallyWords             == taken, rounds, stores
@@ -36,13 +36,13 @@ unfoldable pub numberOf : {A : Type 0} → Reply A → ℕ
 numberOf (accepted a) = 0
 numberOf (refused k i) = k
 
-unfoldable pub wordsOf : {A : Type 0} → (A → List ℕ) → Reply A → List ℕ
-wordsOf f (accepted a) = f a
-wordsOf f (refused k i) = i ∷ []
+unfoldable pub wordsTold : {A : Type 0} → (A → List ℕ) → Reply A → List ℕ
+wordsTold f (accepted a) = f a
+wordsTold f (refused k i) = i ∷ []
 
 pub record Tells {A : Type 0} (f : A → List ℕ) (r : Reply A) (k : ℕ) (xs ys : List ℕ) : Type 0 where
   pub number : k ≡ numberOf r
-  pub reply : ys ≡ over (wordsOf f r) xs
+  pub reply : ys ≡ over (wordsTold f r) xs
 
 -- ---- what is answered, as words
 

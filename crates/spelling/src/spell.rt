@@ -16,7 +16,7 @@ ghost use Rattle.graph.specs.Refusal.{Reply};
 ghost use Rattle.open.specs.Code.{opening};
 ghost use Rattle.query.specs.Code.{answering};
 ghost use Rattle.apply.specs.Code.{applying};
-ghost use Rattle.inspect.specs.Code.{checking, choosing, written};
+ghost use Rattle.inspect.specs.Code.{checking, choosing, chosenOf};
 ghost use Rattle.reader.specs.NetworkCode as network;
 ghost use Rattle.reader.specs.SourcesCode as sources;
 ghost use Rattle.writer.specs.Code.{writing};
@@ -101,7 +101,7 @@ pub fn spell_check(r: Checked, reply: &mut [u64]) -> u32
 // The reply to a landmark choice.
 pub fn spell_choice(r: Chosen, reply: &mut [u64]) -> u32
     requires { ⌜ replyWords ≤ length (now reply) ⌝ }
-    ensures { λ k. ⌜ ((x : Reply (List ℕ)) → choosing r ≡ written x → Tells choiceWords x k (now (reply .entry)) (now (reply .exit))) ⌝ }
+    ensures { λ k. ⌜ ((x : Reply (List ℕ)) → choosing r ≡ chosenOf x → Tells choiceWords x k (now (reply .entry)) (now (reply .exit))) ⌝ }
 {
     let verdict = r.verdict;
     if let Judged::Refused(number, place) = verdict {
