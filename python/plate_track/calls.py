@@ -9,11 +9,11 @@ from typing import NamedTuple
 from .native import List, Number, call
 
 U32 = Number()
-WORDS = List("&[u32]", 4)
-WRITTEN_WORDS = List("&mut [u32]", 4, writes=True)
-CHANGES = List("&[[u32; 4]]", 4, group=4)
-BYTES = List("&[u8]", 1)
-WRITTEN_BYTES = List("&mut [u8]", 1, writes=True)
+WORDS = List(4)
+WRITTEN_WORDS = List(4, writes=True)
+CHANGES = List(4, group=4)
+BYTES = List(1)
+WRITTEN_BYTES = List(1, writes=True)
 
 
 class Tally(NamedTuple):

@@ -51,12 +51,18 @@ class Number(NamedTuple):
 
 
 class List(NamedTuple):
-    """A list of unsigned elements of so many bytes, lent as a pointer and a length in elements."""
+    """A list of elements, each of so many unsigned numbers of so many bytes; lent as a pointer and a length in elements."""
 
-    spelling: str
     width: int
     writes: bool = False
-    group: int = 1  # words of one element
+    group: int = 1
+
+    @property
+    def spelling(self):
+        """As the exported function has it."""
+        element = f"u{8 * self.width}"
+        element = element if self.group == 1 else f"[{element}; {self.group}]"
+        return f"&{'mut ' if self.writes else ''}[{element}]"
 
 
 class _Buffer(ctypes.Structure):
@@ -145,4 +151,5 @@ def call(function):
             raise Refused(number, reply[0])
         return signature.return_annotation(reply)
 
+    calling.symbol = symbol
     return calling
