@@ -6,12 +6,13 @@
  * plate_track_deck.h holds a network and its memory in one struct and keeps the count.
  *
  * WORDS. Here, and in document 01: vertex = station, edge = segment, weight = figure, landmark = post, forward = outward, backward =
- * homeward, schedule = picks, affected = suspect, unsettled = restless, refused = turned back, insert = add, delete = take. A word alone is 32 bits.
+ * homeward, schedule = picks, affected = suspect, unsettled = restless, refused = turned back, insert = add, delete = take. Words have 32
+ * bits, those of a reply 64.
  *
- * LISTS. A list is a pointer and a length in elements, in that order. A null pointer with length 0 is an empty list. A pointer
- * with another length points to that many elements, aligned as C aligns them. A list that a call may write (not const here)
- * overlaps no other list of the same call; so `starts` and `settled` of a query are two lists, too. Nothing can check this: it is what the
- * caller owes. Everything else may be any value.
+ * LISTS. A list is a pointer and a length in elements, in that order. With length 0 it is empty, and any pointer will do, null too; with
+ * another length the pointer points to that many elements, aligned as C aligns them. A list that a call may write (not const here) overlaps no
+ * other list of the same call; so `starts` and `settled` of a query are two lists, too. Nothing can check this: it is what the caller owes.
+ * Everything else may be any value.
  *
  * NETWORK. Vertices are 0 to n - 1, n from 1 to 256. The edge table is three lists, tails, heads and weights, of at least 2,048
  * words EACH, however few edges there are, and a count of records. Records ascend by tail, then head; no pair stands twice; tail and

@@ -2,6 +2,7 @@
  * document 01's or follow from its tables by hand. Exit status 1 where one differs. Compiled as C11 and as C++17. */
 #include "plate_track_deck.h"
 
+#include <pthread.h>
 #include <stdio.h>
 #include <string.h>
 
@@ -146,6 +147,36 @@ static void words(void)
     check(PLATE_TRACK_ROW_WORDS(1 + 1, 3) == 30 && PLATE_TRACK_ROW_WORDS(4, 256) == 5120, "words of a row list");
 }
 
+/* Several threads ask one deck at once, each with memory of its own for the answer. */
+static plate_track_deck shared;
+static int thread_wrong[4];
+
+static void *asks(void *wrong)
+{
+    static const uint32_t wanted[PLATE_TRACK_PROPERTIES][4] = {{0, 4, 8, 9}, {0, 1, 2, 1}, {UINT32_MAX, 4, 4, 9}, {0, 4, 4, 9}, {1, 1, 1, 1}};
+    uint32_t own_starts[4], own_settled[4];
+    uint64_t own_reply[PLATE_TRACK_REPLY_WORDS];
+    for (uint32_t i = 0; i < 5000; i++) {
+        uint32_t p = i % PLATE_TRACK_PROPERTIES;
+        if (plate_track_deck_query(&shared, p + 1, 0, NULL, 0, own_starts, 4, own_settled, 4, own_reply) != 0
+            || memcmp(own_settled, wanted[p], sizeof own_settled) != 0)
+            *(int *)wrong = 1;
+    }
+    return NULL;
+}
+
+static void threads(void)
+{
+    pthread_t ids[4];
+    check(read_text(&shared, deck_a) == 0 && plate_track_deck_open(&shared, zero, 1, reply) == 0, "Deck A opens");
+    for (int i = 0; i < 4; i++)
+        check(pthread_create(&ids[i], NULL, asks, &thread_wrong[i]) == 0, "a thread begins");
+    for (int i = 0; i < 4; i++) {
+        pthread_join(ids[i], NULL);
+        check(!thread_wrong[i], "a thread's answers");
+    }
+}
+
 int main(void)
 {
     const uint32_t none[] = {7};
@@ -157,6 +188,7 @@ int main(void)
     empty(NULL, NULL, NULL);
     empty(none, &nothing, silence);
     words();
+    threads();
     printf(bad ? "deck: FAILED\n" : "deck: ok\n");
     return bad;
 }
