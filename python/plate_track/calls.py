@@ -48,32 +48,31 @@ class Size(NamedTuple):
     count: int
 
 
-def nothing(reply):
+class _Told:
+    """The words of a reply as an answer of a type; without one, the first word."""
+
+    def __init__(self, answer=None):
+        self.answer = answer
+
+    def __call__(self, reply):
+        return self.answer(*reply[: len(self.answer._fields)]) if self.answer else reply[0]
+
+    def __repr__(self):
+        return self.answer.__name__ if self.answer else "int"
+
+
+def _nothing(reply):
     return None
 
 
-def first(reply):
-    return reply[0]
-
-
-def listed(reply):
+def _listed(reply):
     return list(reply[1 : 1 + reply[0]])
-
-
-def told(answer):
-    """The words of a reply as an answer of this type."""
-
-    def of(reply):
-        return answer(*reply[: len(answer._fields)])
-
-    of.answer = answer
-    return of
 
 
 @call
 def open(
     n: U32, landmarks: WORDS, tails: WORDS, heads: WORDS, weights: WORDS, count: U32, forward: WRITTEN_WORDS, backward: WRITTEN_WORDS
-) -> nothing:
+) -> _nothing:
     """Opens a network: both row lists get best values."""
 
 
@@ -81,7 +80,7 @@ def open(
 def query(
     n: U32, landmarks: WORDS, tails: WORDS, heads: WORDS, weights: WORDS, count: U32, forward: WORDS, backward: WORDS, property: U32, source: U32,
     schedule: WORDS, starts: WRITTEN_WORDS, settled: WRITTEN_WORDS
-) -> told(Tally):  # fmt: skip
+) -> _Told(Tally):  # fmt: skip
     """Asks for a property from a source: `starts` and `settled` get n words each."""
 
 
@@ -89,39 +88,39 @@ def query(
 def batch(
     n: U32, landmarks: WORDS, tails: WRITTEN_WORDS, heads: WRITTEN_WORDS, weights: WRITTEN_WORDS, count: U32, forward: WRITTEN_WORDS,
     backward: WRITTEN_WORDS, changes: CHANGES
-) -> told(Report):  # fmt: skip
+) -> _Told(Report):  # fmt: skip
     """Applies changes, four words each, all or none. The report's count goes to every later call."""
 
 
 @call
 def settled(
     n: U32, landmarks: WORDS, tails: WORDS, heads: WORDS, weights: WORDS, count: U32, forward: WORDS, backward: WORDS
-) -> told(Check):
+) -> _Told(Check):
     """Looks for the first edge that could still better a word of a row."""
 
 
 @call
-def choose(n: U32, tails: WORDS, heads: WORDS, weights: WORDS, count: U32, k: U32) -> listed:
+def choose(n: U32, tails: WORDS, heads: WORDS, weights: WORDS, count: U32, k: U32) -> _listed:
     """Chooses k landmarks: a list of them."""
 
 
 @call
 def row(
     n: U32, landmarks: WORDS, forward: WORDS, backward: WORDS, side: U32, landmark: U32, property: U32
-) -> first:
+) -> _Told():
     """Tells where a row starts in the list of its side."""
 
 
 @call
-def read(text: BYTES, tails: WRITTEN_WORDS, heads: WRITTEN_WORDS, weights: WRITTEN_WORDS) -> told(Size):
+def read(text: BYTES, tails: WRITTEN_WORDS, heads: WRITTEN_WORDS, weights: WRITTEN_WORDS) -> _Told(Size):
     """Reads network text into table lists."""
 
 
 @call
-def write(n: U32, tails: WORDS, heads: WORDS, weights: WORDS, count: U32, text: WRITTEN_BYTES) -> first:
+def write(n: U32, tails: WORDS, heads: WORDS, weights: WORDS, count: U32, text: WRITTEN_BYTES) -> _Told():
     """Writes a network's text: its length."""
 
 
 @call
-def read_sources(text: BYTES, n: U32, sources: WRITTEN_WORDS) -> first:
+def read_sources(text: BYTES, n: U32, sources: WRITTEN_WORDS) -> _Told():
     """Reads a source file of a network with n vertices: how many there are."""

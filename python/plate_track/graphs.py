@@ -5,7 +5,8 @@ from .deck import Deck
 
 def from_networkx(graph, weight="weight"):
     """The deck of a graph, not yet opened, and the list of its nodes: vertex i is node i of the list. An edge without the attribute `weight` has
-    weight 1, as in NetworkX; an edge of an undirected graph goes both ways. Weights are whole numbers."""
+    weight 1, as in NetworkX; an edge of an undirected graph goes both ways. Weights are whole numbers. What a deck can't have, as a loop or a 257th
+    node, is refused when it is opened."""
     if graph.is_multigraph():
         raise ValueError("a pair of vertices has one edge: no multigraph")
     nodes = list(graph)

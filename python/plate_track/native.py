@@ -49,6 +49,9 @@ class Number(NamedTuple):
 
     spelling: str = "u32"
 
+    def __repr__(self):
+        return self.spelling
+
 
 class List(NamedTuple):
     """A list of elements, each of so many unsigned numbers of so many bytes; lent as a pointer and a length in elements."""
@@ -63,6 +66,9 @@ class List(NamedTuple):
         element = f"u{8 * self.width}"
         element = element if self.group == 1 else f"[{element}; {self.group}]"
         return f"&{'mut ' if self.writes else ''}[{element}]"
+
+    def __repr__(self):
+        return self.spelling
 
 
 class _Buffer(ctypes.Structure):
