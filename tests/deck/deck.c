@@ -133,6 +133,38 @@ static void empty(const uint32_t *none, const plate_track_change *nothing, const
     check(refuses(plate_track_deck_read(&d, silence, 0, reply), PLATE_TRACK_TEXT, 1), "the empty text");
 }
 
+/* Each list that a call needs is too short where it is empty, whatever its pointer. List k is lent empty, by `w`, `b` or `r`; the reply is list 0. */
+#define WORD(i, list, len) (k == i ? w : (list)), (k == i ? 0 : (size_t)(len))
+#define BYTE(i, list, len) (k == i ? b : (list)), (k == i ? 0 : (size_t)(len))
+#define LONG(i) (k == i ? r : reply), (k == i ? 0 : (size_t)PLATE_TRACK_REPLY_WORDS)
+#define TABLE WORD(1, d.tails, 2048), WORD(2, d.heads, 2048), WORD(3, d.weights, 2048)
+#define ROWS WORD(4, d.forward, 20), WORD(5, d.backward, 20)
+
+static void too_short(uint32_t *w, uint8_t *b, uint64_t *r)
+{
+    static plate_track_deck d;
+    static uint8_t text[100];
+    uint32_t sources[PLATE_TRACK_MOST_SOURCES];
+    const plate_track_change take = {PLATE_TRACK_DELETE, 0, 1, 0};
+    check(read_text(&d, deck_a) == 0 && plate_track_deck_open(&d, zero, 1, reply) == 0, "Deck A opens");
+    for (int k = 0; k <= 7; k++) {
+        int table = k >= 1 && k <= 3, rows = k == 4 || k == 5, answer = k == 0;
+        check((plate_track_open(4, zero, 1, TABLE, 5, ROWS, LONG(0)) == 2) == (answer || table || rows), "an empty list of open");
+        check(plate_track_query(4, zero, 1, TABLE, 5, ROWS, 1, 0, NULL, 0, WORD(6, starts, 4), WORD(7, settled, 4), LONG(0)) == 2,
+            "an empty list of query");
+        check((plate_track_settled(4, zero, 1, TABLE, 5, ROWS, LONG(0)) == 2) == (answer || table || rows), "an empty list of settled");
+        check((plate_track_choose(4, TABLE, 5, 1, LONG(0)) == 2) == (answer || table), "an empty list of choose");
+        check((plate_track_row(4, zero, 1, ROWS, 0, 0, 1, LONG(0)) == 2) == (answer || rows), "an empty list of row");
+        check((plate_track_write(4, TABLE, 5, BYTE(6, text, 100), LONG(0)) == 2) == (answer || table || k == 6), "an empty list of write");
+        check((plate_track_read_sources((const uint8_t *)"p aux sp ss 0\n", 14, 4, WORD(6, sources, 256), LONG(0)) == 2) == (answer || k == 6),
+            "an empty list of read_sources");
+        check((plate_track_read((const uint8_t *)deck_a, strlen(deck_a), TABLE, LONG(0)) == 2) == (answer || table), "an empty list of read");
+        if (answer || table || rows)
+            check(plate_track_batch(4, zero, 1, TABLE, 5, ROWS, &take, 1, LONG(0)) == 2, "an empty list of batch");
+    }
+    check(d.count == 5 && d.tails[4] == 3, "the deck is as it was");
+}
+
 static void words(void)
 {
     static const char *const wanted[] = {
@@ -182,11 +214,17 @@ int main(void)
     const uint32_t none[] = {7};
     const plate_track_change nothing = {7, 7, 7, 7};
     const uint8_t silence[] = {7};
+    uint32_t word = 7;
+    uint8_t byte = 7;
+    uint64_t answer = 7;
     stale_count();
     accepted();
     refused();
     empty(NULL, NULL, NULL);
     empty(none, &nothing, silence);
+    too_short(NULL, NULL, NULL);
+    too_short(&word, &byte, &answer);
+    check(word == 7 && byte == 7 && answer == 7, "nothing is written where an empty list points");
     words();
     threads();
     printf(bad ? "deck: FAILED\n" : "deck: ok\n");
