@@ -1,18 +1,24 @@
 /* Plate track: routes on a directed graph of up to 256 vertices and 2,048 weighted edges, landmark rows that are kept up to date
  * while batches of edges come and go, and queries from any vertex.
  *
- * Every function here is proved to meet its contract (crates/plate_track). Nothing is allocated and nothing is kept between calls:
- * the caller lends all memory. A call needs less than 160 KiB of stack.
+ * Every plate_track_ function of the archive is proved to meet its contract (crates/plate_track). Nothing is allocated and nothing is kept
+ * between calls: the caller lends all memory. PLATE_TRACK_STACK_ below has the stack of each call; none needs 160 KiB.
+ * plate_track_deck.h holds a network and its memory in one struct and keeps the count.
  *
- * LISTS. A list is a pointer and a length in elements, in that order. A null pointer with length 0 is an empty list. A pointer
- * with another length points to that many elements, aligned as C aligns them. A list that a call may write (not const here)
- * overlaps no other list of the same call. Nothing can check this: it is what the caller owes. Everything else may be any value.
+ * WORDS. Here, and in document 01: vertex = station, edge = segment, weight = figure, landmark = post, forward = outward, backward =
+ * homeward, schedule = picks, affected = suspect, unsettled = restless, refused = turned back, insert = add, delete = take. Words have 32
+ * bits, those of a reply 64.
+ *
+ * LISTS. A list is a pointer and a length in elements, in that order. With length 0 it is empty, and any pointer will do, null too; with
+ * another length the pointer points to that many elements, aligned as C aligns them. A list that a call may write (not const here) overlaps no
+ * other list of the same call; so `starts` and `settled` of a query are two lists, too. Nothing can check this: it is what the caller owes.
+ * Everything else may be any value.
  *
  * NETWORK. Vertices are 0 to n - 1, n from 1 to 256. The edge table is three lists, tails, heads and weights, of at least 2,048
  * words EACH, however few edges there are, and a count of records. Records ascend by tail, then head; no pair stands twice; tail and
  * head differ; a weight is 1 to 65,535. Landmarks are 1 to 4 different vertices. Two lists hold the landmark rows: forward (landmark to
- * each vertex) and backward (each vertex to landmark), each of at least landmarks x 5 x n words. Row i * 5 + p - 1, of n words, is
- * that of landmark i of the list for property p.
+ * each vertex) and backward (each vertex to landmark), each of at least PLATE_TRACK_ROW_WORDS(landmarks, n) words. Row i * 5 + p - 1, of n
+ * words, is that of landmark i of the list for property p.
  *
  *   property                     at the source   no route      along an edge           better
  *   1 time                       0               4294967295    value + weight          less
@@ -36,9 +42,16 @@
  * from 0 in every list.
  *
  * A network keeps best values as long as only plate_track_batch writes its table and rows after plate_track_open, and each call gets
- * the same n and landmarks and the present count: the opening's, until a batch is accepted, and then the one last reported.
+ * the same n and landmarks and the PRESENT COUNT: the opening's, until a batch is accepted, and then the one last reported. A count that is too
+ * small is not found out: the call is accepted, and answers for the table without its last records. plate_track_deck.h keeps the count.
  *
- * The functions may run on several threads at once, on different memory. */
+ * THREADS. The functions may run on several threads at once. Lists that no running call may write can be shared by all of them; a list
+ * that a running call may write belongs to that call alone.
+ *
+ * VERSION. PLATE_TRACK_VERSION here and plate_track_version() of the archive are the same number. It rises by one where a program that was
+ * compiled against the header before would call something else than it meant: parameters or the change record change. A changed function then
+ * has a symbol with the version in it, and the header maps the plain name to it (#define plate_track_batch plate_track_batch_v2): a program
+ * compiled against another version fails to link. */
 #ifndef PLATE_TRACK_H
 #define PLATE_TRACK_H
 
@@ -49,9 +62,18 @@
 extern "C" {
 #endif
 
+#define PLATE_TRACK_VERSION 1
+
+/* The greatest word, M of document 01. */
+#define PLATE_TRACK_GREATEST UINT32_C(4294967295)
+
+/* The least length of each row list. */
+#define PLATE_TRACK_ROW_WORDS(landmarks, n) ((size_t)(landmarks) * PLATE_TRACK_PROPERTIES * (size_t)(n))
+
 enum {
     PLATE_TRACK_MOST_VERTICES = 256,
     PLATE_TRACK_MOST_EDGES = 2048,      /* and the least length of each table list */
+    PLATE_TRACK_GREATEST_WEIGHT = 65535,
     PLATE_TRACK_MOST_LANDMARKS = 4,
     PLATE_TRACK_MOST_CHANGES = 1024,
     PLATE_TRACK_LONGEST_SCHEDULE = 4096,
@@ -89,6 +111,62 @@ enum {
 
 /* Kinds of change. */
 enum { PLATE_TRACK_INSERT = 1, PLATE_TRACK_DELETE = 2 };
+
+/* The words of each reply, by place in `reply`. The place of a refusal is reply[PLATE_TRACK_PLACE]. */
+enum { PLATE_TRACK_PLACE };
+enum { PLATE_TRACK_QUERY_TAKEN, PLATE_TRACK_QUERY_ROUNDS, PLATE_TRACK_QUERY_STORES };
+enum { PLATE_TRACK_BATCH_COUNT, PLATE_TRACK_BATCH_AFFECTED, PLATE_TRACK_BATCH_STORES };
+enum { PLATE_TRACK_SETTLED_ALL, PLATE_TRACK_SETTLED_SIDE, PLATE_TRACK_SETTLED_ROW, PLATE_TRACK_SETTLED_RECORD };
+enum { PLATE_TRACK_CHOOSE_COUNT, PLATE_TRACK_CHOOSE_FIRST };
+enum { PLATE_TRACK_ROW_START };
+enum { PLATE_TRACK_READ_VERTICES, PLATE_TRACK_READ_COUNT };
+enum { PLATE_TRACK_WRITE_LENGTH };
+enum { PLATE_TRACK_READ_SOURCES_COUNT };
+
+/* Bytes of stack that each call takes at most, at the greatest sizes; measured (tests/stack). */
+enum {
+    PLATE_TRACK_STACK_OPEN = 64 * 1024,
+    PLATE_TRACK_STACK_QUERY = 4 * 1024,
+    PLATE_TRACK_STACK_BATCH = 140 * 1024,
+    PLATE_TRACK_STACK_SETTLED = 1024,
+    PLATE_TRACK_STACK_CHOOSE = 2 * 1024,
+    PLATE_TRACK_STACK_ROW = 1024,
+    PLATE_TRACK_STACK_READ = 28 * 1024,
+    PLATE_TRACK_STACK_WRITE = 1024,
+    PLATE_TRACK_STACK_READ_SOURCES = 2 * 1024
+};
+
+/* The word of a refusal number; in parentheses document 01's, where it is another. */
+static inline const char *plate_track_word(uint32_t number)
+{
+    static const char *const words[] = {
+        "accepted",
+        "size",
+        "short",
+        "landmarks (posts)",
+        "table",
+        "property",
+        "vertex (station)",
+        "kind",
+        "loop",
+        "weight (figure)",
+        "present",
+        "absent",
+        "full",
+        "unsettled (restless)",
+        "text"
+    };
+    return number < sizeof words / sizeof *words ? words[number] : "unknown";
+}
+
+/* The word that stands where there is no route, for a property of 1 to 5. */
+static inline uint32_t plate_track_no_route(uint32_t property)
+{
+    return property == PLATE_TRACK_HEADROOM || property == PLATE_TRACK_REACH ? 0 : PLATE_TRACK_GREATEST;
+}
+
+/* The version of the archive: PLATE_TRACK_VERSION, where header and archive belong together. */
+uint32_t plate_track_version(void);
 
 /* A change of a batch: four words. A delete has weight 0. */
 typedef struct plate_track_change {
@@ -133,7 +211,7 @@ uint32_t plate_track_query(
 
 /* Applies up to 1,024 changes in order, all or none, and brings the rows up to date. Records from the new count to 2,047 become zero; table
  * words from 2,048 on and words past the rows stay. changes_len counts changes, not words.
- * reply: the new count (hand it to every later call), affected vertices and stores over all rows. Numbers: 1 to 4, 6 to 13. */
+ * reply: the new count (hand it to every later call: the one before is not found out), affected vertices and stores over all rows. Numbers: 1 to 4, 6 to 13. */
 uint32_t plate_track_batch(
     uint32_t n,
     const uint32_t *landmarks, size_t landmarks_len,

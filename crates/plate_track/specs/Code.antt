@@ -5,6 +5,7 @@
 --                             lent, old, is as before
 --   alone r                == a reply as the outcome of a call that writes nothing
 --   lookupStart            == where the row that a look-up shows starts in its list
+--   version                == the number of the calls as a program is compiled against them
 use mathlib.Core.Bool.{cond}
 use mathlib.Core.List.{List}
 use Prim.Native.Nat.{ℕ, _*_}
@@ -32,3 +33,7 @@ alone r = record { reply = r; memory = tt }
 
 abbrev pub lookupStart : ℕ → List ℕ → Rows → ℕ → ℕ → ℕ → Reply ℕ
 lookupStart n ls xs side l p = replied (lookupVerdict n ls xs side l p) (rowAt (indexOf l ls) p * n)
+
+-- `PLATE_TRACK_VERSION` of the header
+abbrev pub version : ℕ
+version = 1

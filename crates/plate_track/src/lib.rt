@@ -15,7 +15,17 @@ ghost use Rattle.graph.specs.Code.{columns};
 ghost use Rattle.calls.specs.Code.{rowLists, lists, network};
 ghost use Rattle.query.specs.Code.{asking, wordsOf};
 ghost use Rattle.spelling.specs.Code.{openWords, tallyWords, reportWords, checkWords, choiceWords, sizeWords, oneWord, changesOf};
-ghost use Rattle.plate_track.specs.Code.{spelled, alone, lookupStart};
+ghost use Rattle.plate_track.specs.Code.{spelled, alone, lookupStart, version};
+
+const VERSION: u32 = 1;
+
+// The version of these calls: no reply list, and nothing to refuse.
+#[no_mangle]
+pub extern "C" fn plate_track_version() -> u32
+    ensures { λ k. ⌜ k ≡ version ⌝ }
+{
+    VERSION
+}
 
 // Opening.
 #[no_mangle]

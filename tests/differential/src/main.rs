@@ -12,6 +12,8 @@ mod calls;
 mod case;
 mod examples;
 mod generate;
+#[path = "../../../bindings/plate_track.rs"]
+mod plate_track;
 mod random;
 mod reference;
 mod shrink;

@@ -1,0 +1,123 @@
+"""A network with all its memory and its present count."""
+
+from array import array
+from typing import NamedTuple
+
+from . import calls
+from .constants import BACKWARD, FORWARD, LONGEST_TEXT, MOST_EDGES, MOST_LANDMARKS, MOST_SOURCES, MOST_VERTICES, row_words
+from .native import number_of
+
+
+def words(count):
+    """A list of so many words."""
+    return array("I", bytes(4 * count))
+
+
+def as_words(values):
+    """Values as a list of words: as they are where they have a buffer; else copied, each held to 32 bits."""
+    try:
+        return memoryview(values)
+    except TypeError:
+        return array("I", values)
+
+
+class Answer(NamedTuple):
+    """A query's answer: n values, n start words, and what the run did."""
+
+    settled: array
+    starts: array
+    tally: calls.Tally
+
+
+class Spot(NamedTuple):
+    """The first edge that could still better a word of a row."""
+
+    side: int
+    row: int
+    record: int
+
+
+class Deck:
+    """Vertices 0 to n - 1 and directed edges (tail, head, weight), in any order. Open it with landmarks before it is asked or changed.
+
+    Its lists (landmarks, tails, heads, weights, forward, backward), n and count may be read; only its methods write them. What is wrong with
+    n, edges or landmarks is refused where the library first sees it: by `open`. A refused call changes nothing."""
+
+    def __init__(self, n, edges=()):
+        self.n, self.landmarks = number_of("n", n), array("I")
+        self.tails, self.heads, self.weights = array("I"), array("I"), array("I")
+        for tail, head, weight in sorted(edges):
+            self.tails.append(tail)
+            self.heads.append(head)
+            self.weights.append(weight)
+        self.count = len(self.tails)
+        for column in self._table():
+            column.extend(words(max(0, MOST_EDGES - self.count)))
+        self.forward, self.backward = array("I"), array("I")
+
+    @classmethod
+    def read(cls, text):
+        """The deck of network text (bytes)."""
+        deck = cls(0)
+        deck.n, deck.count = calls.read(text, *deck._table())
+        return deck
+
+    def _table(self):
+        return self.tails, self.heads, self.weights
+
+    def _network(self):
+        return self.n, self.landmarks, *self._table(), self.count, self.forward, self.backward
+
+    def edges(self):
+        """The edges as they are now, ascending."""
+        return list(zip(self.tails[: self.count], self.heads[: self.count], self.weights[: self.count]))
+
+    def choose(self, k=MOST_LANDMARKS):
+        """k landmarks to open with: most edges in plus out first."""
+        return calls.choose(self.n, *self._table(), self.count, k)
+
+    def open(self, landmarks):
+        """Opens the deck with these landmarks; again with others at any time."""
+        landmarks = array("I", landmarks)
+        room = row_words(len(landmarks), min(self.n, MOST_VERTICES))
+        forward, backward = words(room), words(room)
+        calls.open(self.n, landmarks, *self._table(), self.count, forward, backward)
+        self.landmarks, self.forward, self.backward = landmarks, forward, backward
+
+    def query(self, property, source, schedule=()):
+        """A property from a source to every vertex: an Answer."""
+        room = min(self.n, MOST_VERTICES)
+        starts, settled = words(room), words(room)
+        tally = calls.query(*self._network(), property, source, as_words(schedule), starts, settled)
+        return Answer(settled, starts, tally)
+
+    def batch(self, changes):
+        """Applies changes (kind, tail, head, weight), all or none: a Report. They may be a buffer of words, four for each."""
+        try:
+            changes = memoryview(changes)
+        except TypeError:
+            changes = array("I", [word for kind, tail, head, weight in changes for word in (kind, tail, head, weight)])
+        report = calls.batch(*self._network(), changes)
+        self.count = report.count
+        return report
+
+    def row(self, side, landmark, property):
+        """The n words of a landmark's row, as a part of the deck's own list that can't be written."""
+        start = calls.row(self.n, self.landmarks, self.forward, self.backward, side, landmark, property)
+        rows = {FORWARD: self.forward, BACKWARD: self.backward}[side]
+        return memoryview(rows).toreadonly()[start : start + self.n]
+
+    def settled(self):
+        """None where every row is settled, else the first Spot that is not."""
+        check = calls.settled(*self._network())
+        return None if check.all else Spot(check.side, check.row, check.record)
+
+    def write(self):
+        """The deck's text (bytes)."""
+        text = bytearray(LONGEST_TEXT)
+        return bytes(text[: calls.write(self.n, *self._table(), self.count, text)])
+
+    def read_sources(self, text):
+        """The vertices of a source file, in its order."""
+        sources = words(MOST_SOURCES)
+        return list(sources[: calls.read_sources(text, self.n, sources)])

@@ -1,0 +1,232 @@
+/* What plate_track.h gives beside the calls, and plate_track_deck.h: each function, accepted and refused, on Deck A. The expected words are
+ * document 01's or follow from its tables by hand. Exit status 1 where one differs. Compiled as C11 and as C++17. */
+#include "plate_track_deck.h"
+
+#include <pthread.h>
+#include <stdio.h>
+#include <string.h>
+
+static int bad = 0;
+static uint64_t reply[PLATE_TRACK_REPLY_WORDS];
+static uint32_t starts[PLATE_TRACK_MOST_VERTICES], settled[PLATE_TRACK_MOST_VERTICES];
+static const uint32_t M = PLATE_TRACK_GREATEST;
+static const uint32_t zero[] = {0};
+
+/* Deck A, and Deck A without its last record. */
+static const char deck_a[] = "p sp 4 5\na 1 2 4\na 1 4 9\na 2 3 4\na 3 2 4\na 4 3 2\n";
+static const char without[] = "p sp 4 4\na 1 2 4\na 1 4 9\na 2 3 4\na 3 2 4\n";
+
+static void check(int right, const char *what)
+{
+    if (!right) {
+        printf("deck: WRONG: %s\n", what);
+        bad = 1;
+    }
+}
+
+static int are(const uint32_t *words, uint32_t a, uint32_t b, uint32_t c, uint32_t d)
+{
+    return words[0] == a && words[1] == b && words[2] == c && words[3] == d;
+}
+
+static int refuses(uint32_t number, uint32_t wanted, uint64_t place)
+{
+    return number == wanted && reply[PLATE_TRACK_PLACE] == place;
+}
+
+static uint32_t read_text(plate_track_deck *d, const char *text)
+{
+    return plate_track_deck_read(d, (const uint8_t *)text, strlen(text), reply);
+}
+
+static uint32_t ask(const plate_track_deck *d, uint32_t property, uint32_t source)
+{
+    return plate_track_deck_query(d, property, source, NULL, 0, starts, 4, settled, 4, reply);
+}
+
+/* The trap that the deck closes: after an insert, a query with the count from before is accepted and misses the new edge. */
+static void stale_count(void)
+{
+    static plate_track_deck d;
+    const plate_track_change insert = {PLATE_TRACK_INSERT, 3, 2, 2};
+    uint32_t number;
+    check(read_text(&d, without) == 0 && plate_track_deck_open(&d, zero, 1, reply) == 0, "Deck A without 3->2 opens");
+    check(plate_track_deck_batch(&d, &insert, 1, reply) == 0 && d.count == 5, "the deck has the new count");
+    check(ask(&d, PLATE_TRACK_TIME, 3) == 0 && are(settled, M, 6, 2, 0), "time from 3 is M 6 2 0 with the deck");
+    number = plate_track_query(
+        4, d.landmarks, 1, d.tails, 2048, d.heads, 2048, d.weights, 2048, 4, d.forward, 20, d.backward, 20, PLATE_TRACK_TIME, 3, NULL, 0, starts,
+        4, settled, 4, reply, 8);
+    check(number == 0 && are(settled, M, M, M, 0), "with the count from before the call is accepted and says M M M 0");
+}
+
+static void accepted(void)
+{
+    static plate_track_deck d;
+    static uint8_t text[PLATE_TRACK_LONGEST_TEXT];
+    const plate_track_change take = {PLATE_TRACK_DELETE, 0, 1, 0};
+    const uint32_t landmark_2[] = {2}, ones[] = {1, 1};
+    const char sources_text[] = "p aux sp ss 2\ns 4\ns 1\n";
+    uint32_t landmarks[PLATE_TRACK_MOST_LANDMARKS] = {9, 9, 9, 9}, sources[PLATE_TRACK_MOST_SOURCES];
+    const uint32_t *row = NULL;
+    check(read_text(&d, deck_a) == 0 && d.n == 4 && d.count == 5 && reply[PLATE_TRACK_READ_COUNT] == 5, "Deck A is read");
+    /* edges in plus out: 0 has 2, 1 has 3, 2 has 3, 3 has 2 */
+    check(plate_track_deck_choose(&d, 3, landmarks, reply) == 0 && reply[PLATE_TRACK_CHOOSE_COUNT] == 3 && are(landmarks, 1, 2, 0, 9),
+        "three landmarks are 1, 2 and 0");
+    check(plate_track_deck_open(&d, zero, 1, reply) == 0 && d.landmarks_len == 1 && d.landmarks[0] == 0, "it opens");
+    check(ask(&d, PLATE_TRACK_HEADROOM, 0) == 0 && are(settled, M, 4, 4, 9), "headroom from 0 is M 4 4 9");
+    check(plate_track_deck_row(&d, PLATE_TRACK_FORWARD, 0, PLATE_TRACK_WORST, &row, reply) == 0 && are(row, 0, 4, 4, 9), "worst row from 0");
+    check(plate_track_deck_row(&d, PLATE_TRACK_BACKWARD, 0, PLATE_TRACK_REACH, &row, reply) == 0 && are(row, 1, 0, 0, 0), "reach row to 0");
+    check(plate_track_deck_settled(&d, reply) == 0 && reply[PLATE_TRACK_SETTLED_ALL] == 1, "it is settled");
+    d.forward[4 * 3 + 1] = 5; /* row 3, worst stretch: record 0, 0->1 of 4, betters it */
+    check(plate_track_deck_settled(&d, reply) == 0 && reply[PLATE_TRACK_SETTLED_ALL] == 0 && reply[PLATE_TRACK_SETTLED_SIDE] == PLATE_TRACK_FORWARD
+        && reply[PLATE_TRACK_SETTLED_ROW] == 3 && reply[PLATE_TRACK_SETTLED_RECORD] == 0, "a word that is too bad is found");
+    d.forward[4 * 3 + 1] = 4;
+    check(plate_track_deck_write(&d, text, strlen(deck_a), reply) == 0 && reply[PLATE_TRACK_WRITE_LENGTH] == strlen(deck_a)
+        && memcmp(text, deck_a, strlen(deck_a)) == 0, "it is written as it was read");
+    check(plate_track_deck_read_sources(&d, (const uint8_t *)sources_text, strlen(sources_text), sources, PLATE_TRACK_MOST_SOURCES, reply) == 0
+        && reply[PLATE_TRACK_READ_SOURCES_COUNT] == 2 && sources[0] == 3 && sources[1] == 0, "sources 3 and 0");
+    check(plate_track_deck_batch(&d, &take, 1, reply) == 0 && d.count == 4 && reply[PLATE_TRACK_BATCH_AFFECTED] == 10, "take 0->1");
+    check(ask(&d, PLATE_TRACK_TIME, 0) == 0 && are(settled, 0, 15, 11, 9), "time from 0 is 0 15 11 9 afterwards");
+    check(read_text(&d, deck_a) == 0 && plate_track_deck_open(&d, landmark_2, 1, reply) == 0, "Deck A with landmark 2");
+    check(ask(&d, PLATE_TRACK_TIME, 1) == 0 && are(starts, M, 0, 4, M) && are(settled, M, 0, 4, M) && reply[PLATE_TRACK_QUERY_TAKEN] == 0
+        && reply[PLATE_TRACK_QUERY_ROUNDS] == 1 && reply[PLATE_TRACK_QUERY_STORES] == 0, "time from 1 takes 1 round");
+    check(plate_track_deck_query(&d, PLATE_TRACK_TIME, 1, ones, 2, starts, 4, settled, 4, reply) == 0 && reply[PLATE_TRACK_QUERY_TAKEN] == 1
+        && reply[PLATE_TRACK_QUERY_ROUNDS] == 0, "schedule 1, 1: taken 1, rounds 0");
+    plate_track_deck_clear(&d, 1);
+    check(plate_track_deck_open(&d, zero, 1, reply) == 0 && ask(&d, PLATE_TRACK_HEADROOM, 0) == 0 && settled[0] == M, "one vertex, no edge");
+}
+
+static void refused(void)
+{
+    static plate_track_deck d, before;
+    const plate_track_change take = {PLATE_TRACK_DELETE, 0, 1, 0}, twice[] = {take, take};
+    const uint32_t five[] = {0, 1, 2, 3, 0};
+    uint32_t landmarks[PLATE_TRACK_MOST_LANDMARKS], sources[PLATE_TRACK_MOST_SOURCES];
+    uint8_t text[4];
+    const uint32_t *row = NULL;
+    check(refuses(plate_track_deck_open(&d, zero, 1, reply), PLATE_TRACK_SIZE, 0), "a deck of no vertices does not open");
+    check(read_text(&d, deck_a) == 0, "Deck A is read");
+    check(refuses(ask(&d, PLATE_TRACK_TIME, 0), PLATE_TRACK_LANDMARKS, 0), "a deck that is not open has no landmarks");
+    check(plate_track_deck_open(&d, zero, 1, reply) == 0, "it opens");
+    before = d;
+    check(refuses(read_text(&d, "p sp 4 1\na 1 5 3\n"), PLATE_TRACK_TEXT, 2), "vertex 5 of 4");
+    check(refuses(plate_track_deck_open(&d, five, 5, reply), PLATE_TRACK_LANDMARKS, 0), "five landmarks");
+    check(refuses(plate_track_deck_batch(&d, twice, 2, reply), PLATE_TRACK_ABSENT, 1), "take 0->1 twice");
+    check(refuses(plate_track_deck_choose(&d, 5, landmarks, reply), PLATE_TRACK_LANDMARKS, 0), "choose five");
+    check(refuses(plate_track_deck_row(&d, 2, 0, 1, &row, reply), PLATE_TRACK_PROPERTY, 0) && row == NULL, "side 2");
+    check(refuses(plate_track_deck_query(&d, 1, 0, NULL, 0, starts, 3, settled, 4, reply), PLATE_TRACK_SHORT, 0), "three start words of four");
+    check(refuses(plate_track_deck_write(&d, text, 4, reply), PLATE_TRACK_SHORT, 0), "a text of four bytes");
+    check(refuses(plate_track_deck_read_sources(&d, NULL, 0, sources, PLATE_TRACK_MOST_SOURCES, reply), PLATE_TRACK_TEXT, 1), "no source text");
+    check(memcmp(&d, &before, sizeof d) == 0, "no refused call changed the deck");
+    check(read_text(&d, deck_a) == 0 && refuses(plate_track_deck_settled(&d, reply), PLATE_TRACK_LANDMARKS, 0), "a deck read anew is not open");
+}
+
+/* An empty list is lent by null and by a pointer to something, alike. */
+static void empty(const uint32_t *none, const plate_track_change *nothing, const uint8_t *silence)
+{
+    static plate_track_deck d;
+    check(read_text(&d, deck_a) == 0, "Deck A is read");
+    check(refuses(plate_track_deck_open(&d, none, 0, reply), PLATE_TRACK_LANDMARKS, 0), "no landmark");
+    check(plate_track_deck_open(&d, zero, 1, reply) == 0, "it opens");
+    check(plate_track_deck_batch(&d, nothing, 0, reply) == 0 && reply[0] == 5 && reply[1] == 0 && reply[2] == 0, "an empty batch");
+    check(plate_track_deck_query(&d, PLATE_TRACK_REACH, 3, none, 0, starts, 4, settled, 4, reply) == 0 && are(settled, 0, 1, 1, 1), "reach from 3");
+    check(refuses(plate_track_deck_read(&d, silence, 0, reply), PLATE_TRACK_TEXT, 1), "the empty text");
+}
+
+/* Each list that a call needs is too short where it is empty, whatever its pointer. List k is lent empty, by `w`, `b` or `r`; the reply is list 0. */
+#define WORD(i, list, len) (k == i ? w : (list)), (k == i ? 0 : (size_t)(len))
+#define BYTE(i, list, len) (k == i ? b : (list)), (k == i ? 0 : (size_t)(len))
+#define LONG(i) (k == i ? r : reply), (k == i ? 0 : (size_t)PLATE_TRACK_REPLY_WORDS)
+#define TABLE WORD(1, d.tails, 2048), WORD(2, d.heads, 2048), WORD(3, d.weights, 2048)
+#define ROWS WORD(4, d.forward, 20), WORD(5, d.backward, 20)
+
+static void too_short(uint32_t *w, uint8_t *b, uint64_t *r)
+{
+    static plate_track_deck d;
+    static uint8_t text[100];
+    uint32_t sources[PLATE_TRACK_MOST_SOURCES];
+    const plate_track_change take = {PLATE_TRACK_DELETE, 0, 1, 0};
+    check(read_text(&d, deck_a) == 0 && plate_track_deck_open(&d, zero, 1, reply) == 0, "Deck A opens");
+    for (int k = 0; k <= 7; k++) {
+        int table = k >= 1 && k <= 3, rows = k == 4 || k == 5, answer = k == 0;
+        check((plate_track_open(4, zero, 1, TABLE, 5, ROWS, LONG(0)) == 2) == (answer || table || rows), "an empty list of open");
+        check(plate_track_query(4, zero, 1, TABLE, 5, ROWS, 1, 0, NULL, 0, WORD(6, starts, 4), WORD(7, settled, 4), LONG(0)) == 2,
+            "an empty list of query");
+        check((plate_track_settled(4, zero, 1, TABLE, 5, ROWS, LONG(0)) == 2) == (answer || table || rows), "an empty list of settled");
+        check((plate_track_choose(4, TABLE, 5, 1, LONG(0)) == 2) == (answer || table), "an empty list of choose");
+        check((plate_track_row(4, zero, 1, ROWS, 0, 0, 1, LONG(0)) == 2) == (answer || rows), "an empty list of row");
+        check((plate_track_write(4, TABLE, 5, BYTE(6, text, 100), LONG(0)) == 2) == (answer || table || k == 6), "an empty list of write");
+        check((plate_track_read_sources((const uint8_t *)"p aux sp ss 0\n", 14, 4, WORD(6, sources, 256), LONG(0)) == 2) == (answer || k == 6),
+            "an empty list of read_sources");
+        check((plate_track_read((const uint8_t *)deck_a, strlen(deck_a), TABLE, LONG(0)) == 2) == (answer || table), "an empty list of read");
+        if (answer || table || rows)
+            check(plate_track_batch(4, zero, 1, TABLE, 5, ROWS, &take, 1, LONG(0)) == 2, "an empty list of batch");
+    }
+    check(d.count == 5 && d.tails[4] == 3, "the deck is as it was");
+}
+
+static void words(void)
+{
+    static const char *const wanted[] = {
+        "accepted", "size", "short", "landmarks (posts)", "table", "property", "vertex (station)", "kind", "loop", "weight (figure)", "present",
+        "absent", "full", "unsettled (restless)", "text", "unknown"};
+    for (uint32_t k = 0; k < 16; k++)
+        check(strcmp(plate_track_word(k), wanted[k]) == 0, wanted[k]);
+    check(strcmp(plate_track_word(PLATE_TRACK_GREATEST), "unknown") == 0, "a number of no refusal");
+    check(plate_track_no_route(PLATE_TRACK_TIME) == M && plate_track_no_route(PLATE_TRACK_HANDOVERS) == M
+        && plate_track_no_route(PLATE_TRACK_HEADROOM) == 0 && plate_track_no_route(PLATE_TRACK_WORST) == M
+        && plate_track_no_route(PLATE_TRACK_REACH) == 0, "no-route words");
+    check(PLATE_TRACK_ROW_WORDS(1 + 1, 3) == 30 && PLATE_TRACK_ROW_WORDS(4, 256) == 5120, "words of a row list");
+}
+
+/* Several threads ask one deck at once, each with memory of its own for the answer. */
+static plate_track_deck shared;
+static int thread_wrong[4];
+
+static void *asks(void *wrong)
+{
+    static const uint32_t wanted[PLATE_TRACK_PROPERTIES][4] = {{0, 4, 8, 9}, {0, 1, 2, 1}, {UINT32_MAX, 4, 4, 9}, {0, 4, 4, 9}, {1, 1, 1, 1}};
+    uint32_t own_starts[4], own_settled[4];
+    uint64_t own_reply[PLATE_TRACK_REPLY_WORDS];
+    for (uint32_t i = 0; i < 5000; i++) {
+        uint32_t p = i % PLATE_TRACK_PROPERTIES;
+        if (plate_track_deck_query(&shared, p + 1, 0, NULL, 0, own_starts, 4, own_settled, 4, own_reply) != 0
+            || memcmp(own_settled, wanted[p], sizeof own_settled) != 0)
+            *(int *)wrong = 1;
+    }
+    return NULL;
+}
+
+static void threads(void)
+{
+    pthread_t ids[4];
+    check(read_text(&shared, deck_a) == 0 && plate_track_deck_open(&shared, zero, 1, reply) == 0, "Deck A opens");
+    for (int i = 0; i < 4; i++)
+        check(pthread_create(&ids[i], NULL, asks, &thread_wrong[i]) == 0, "a thread begins");
+    for (int i = 0; i < 4; i++) {
+        pthread_join(ids[i], NULL);
+        check(!thread_wrong[i], "a thread's answers");
+    }
+}
+
+int main(void)
+{
+    const uint32_t none[] = {7};
+    const plate_track_change nothing = {7, 7, 7, 7};
+    const uint8_t silence[] = {7};
+    uint32_t word = 7;
+    uint8_t byte = 7;
+    uint64_t answer = 7;
+    stale_count();
+    accepted();
+    refused();
+    empty(NULL, NULL, NULL);
+    empty(none, &nothing, silence);
+    too_short(NULL, NULL, NULL);
+    too_short(&word, &byte, &answer);
+    check(word == 7 && byte == 7 && answer == 7, "nothing is written where an empty list points");
+    words();
+    threads();
+    printf(bad ? "deck: FAILED\n" : "deck: ok\n");
+    return bad;
+}

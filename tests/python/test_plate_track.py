@@ -1,0 +1,296 @@
+"""The Python package over the shared object: Deck A by document 01, refusals, widths, lists lent without a copy, what is not lent, loading,
+installing, and graphs of NetworkX against its own algorithms. tests/python/run runs it."""
+
+import ctypes
+import os
+import random
+import shutil
+import subprocess
+import sys
+import tempfile
+import unittest
+from array import array
+from importlib.util import find_spec
+from pathlib import Path
+
+import plate_track
+from plate_track import DELETE, GREATEST as M, HANDOVERS, HEADROOM, INSERT, REACH, TIME, WORST, Deck, Refused, calls, native
+
+try:
+    import networkx
+except ImportError:
+    networkx = None
+try:
+    import numpy
+except ImportError:
+    numpy = None
+
+ROOT = Path(__file__).resolve().parents[2]
+LIBRARY = Path(os.environ["PLATE_TRACK_LIBRARY"])
+EDGES = [(0, 1, 4), (0, 3, 9), (1, 2, 4), (2, 1, 4), (3, 2, 2)]
+TEXT = b"p sp 4 5\na 1 2 4\na 1 4 9\na 2 3 4\na 3 2 4\na 4 3 2\n"
+
+
+def deck_a(landmark=0):
+    deck = Deck(4, reversed(EDGES))
+    deck.open([landmark])
+    return deck
+
+
+def values(deck, prop, source, schedule=()):
+    return list(deck.query(prop, source, schedule).settled)
+
+
+class DeckA(unittest.TestCase):
+    def test_values(self):
+        deck = deck_a()
+        self.assertEqual(values(deck, TIME, 0), [0, 4, 8, 9])
+        self.assertEqual(values(deck, HANDOVERS, 0), [0, 1, 2, 1])
+        self.assertEqual(values(deck, HEADROOM, 0), [M, 4, 4, 9])
+        self.assertEqual(values(deck, WORST, 0), [0, 4, 4, 9])
+        self.assertEqual(values(deck, REACH, 3), [0, 1, 1, 1])
+
+    def test_batch_keeps_the_count(self):
+        deck = Deck(4, EDGES[:-1])
+        deck.open([0])
+        self.assertEqual(deck.batch([(INSERT, 3, 2, 2)]).count, 5)
+        self.assertEqual(values(deck, TIME, 3), [M, 6, 2, 0])
+        self.assertEqual(deck.batch([(DELETE, 0, 1, 0)])[:2], (4, 10))
+        self.assertEqual(values(deck, TIME, 0), [0, 15, 11, 9])
+        self.assertEqual(values(deck, HEADROOM, 0), [M, 2, 2, 9])
+
+    def test_query_tells_starts_and_tally(self):
+        deck = deck_a(2)
+        answer = deck.query(TIME, 1)
+        self.assertEqual((list(answer.starts), list(answer.settled), answer.tally), ([M, 0, 4, M], [M, 0, 4, M], (0, 1, 0)))
+        self.assertEqual(deck.query(TIME, 1, [1, 1]).tally[:2], (1, 0))
+
+    def test_rows_are_parts_of_the_deck(self):
+        deck = deck_a()
+        row = deck.row(plate_track.FORWARD, 0, WORST)
+        self.assertEqual((list(row), row.readonly), ([0, 4, 4, 9], True))
+        self.assertEqual(list(deck.row(plate_track.BACKWARD, 0, REACH)), [1, 0, 0, 0])
+        deck.forward[13] = 5
+        self.assertEqual(row[1], 5)
+        self.assertEqual(deck.settled(), (plate_track.FORWARD, 3, 0))
+        deck.forward[13] = 4
+        self.assertIsNone(deck.settled())
+
+    def test_text_choice_and_sources(self):
+        deck = Deck.read(TEXT)
+        self.assertEqual((deck.n, deck.edges(), deck.write()), (4, EDGES, TEXT))
+        self.assertEqual((deck.choose(3), deck.choose()), ([1, 2, 0], [1, 2, 0, 3]))
+        self.assertEqual(deck.read_sources(b"p aux sp ss 2\ns 4\ns 1\n"), [3, 0])
+
+    def test_words(self):
+        self.assertEqual([plate_track.no_route(p) for p in range(1, 6)], [M, M, 0, M, 0])
+        self.assertEqual(plate_track.row_words(2, 3), 30)
+
+
+class Refusals(unittest.TestCase):
+    def refuses(self, number, word, place, function, *arguments):
+        with self.assertRaises(Refused) as caught:
+            function(*arguments)
+        self.assertEqual((caught.exception.number, caught.exception.word, caught.exception.place), (number, word, place))
+
+    def test_number_word_and_place(self):
+        deck = deck_a()
+        before = [bytes(x) for x in (*deck._table(), deck.forward, deck.backward)], deck.count
+        self.refuses(14, "text", 2, Deck.read, b"p sp 4 1\na 1 5 3\n")
+        self.refuses(14, "text", 1, Deck.read, b"")
+        self.refuses(11, "absent", 1, deck.batch, [(DELETE, 0, 1, 0)] * 2)
+        self.refuses(7, "kind", 0, deck.batch, [(3, 0, 1, 0)])
+        self.refuses(6, "vertex (station)", 0, deck.query, TIME, 4)
+        self.refuses(6, "vertex (station)", 1, deck.query, TIME, 0, [1, 4])
+        self.refuses(5, "property", 0, deck.query, 6, 0)
+        self.refuses(5, "property", 0, deck.row, 2, 0, TIME)
+        self.refuses(3, "landmarks (posts)", 0, deck.open, [0, 1, 2, 3, 0])
+        self.refuses(3, "landmarks (posts)", 0, deck.choose, 5)
+        self.refuses(14, "text", 1, deck.read_sources, b"")
+        self.assertEqual(([bytes(x) for x in (*deck._table(), deck.forward, deck.backward)], deck.count), before)
+        self.refuses(3, "landmarks (posts)", 0, Deck.read(TEXT).query, TIME, 0)
+        self.refuses(1, "size", 0, Deck(257).open, [0])
+        self.refuses(4, "table", 1, Deck(3, [(0, 1, 1), (0, 1, 2)]).open, [0])
+        self.refuses(4, "table", 0, Deck(256, [(i // 200, i % 200 + 30, 1) for i in range(2049)]).open, [0])
+        self.assertEqual(str(Refused(14, 2)), "refused 14, text, at 2")
+
+    def test_numbers_are_held_to_their_width(self):
+        deck = deck_a()
+        for wrong in (2**32, 2**32 + 1, -1, 2**64):
+            self.assertRaises(OverflowError, deck.query, TIME, wrong)
+            self.assertRaises(OverflowError, deck.query, wrong, 0)
+            self.assertRaises(OverflowError, deck.query, TIME, 0, [wrong])
+            self.assertRaises(OverflowError, deck.row, 0, wrong, TIME)
+            self.assertRaises(OverflowError, deck.choose, wrong)
+            self.assertRaises(OverflowError, Deck, wrong)
+            self.assertRaises(OverflowError, Deck, 2, [(0, 1, wrong)])
+            self.assertRaises(OverflowError, deck.open, [wrong])
+            for place in range(4):
+                change = [INSERT, 3, 1, 7]
+                change[place] = wrong
+                self.assertRaises(OverflowError, deck.batch, [change])
+        self.assertRaises(OverflowError, deck.batch, [(2**32 + 2, 0, 1, 0)])
+        self.assertRaises(TypeError, deck.query, TIME, 1.0)
+        self.assertRaises(TypeError, deck.query, "1", 0)
+        self.assertEqual(deck.edges(), EDGES)
+
+
+class Lending(unittest.TestCase):
+    """The calls alone, over lists of several kinds."""
+
+    def lists(self, of):
+        """Deck A, opened, in lists that `of` makes from words."""
+        table = [of([e[i] for e in EDGES] + [0] * 2043) for i in range(3)]
+        rows = [of([7] * 20) for _ in range(2)]
+        calls.open(4, of([0]), *table, 5, *rows)
+        return 4, of([0]), *table, 5, *rows
+
+    def test_kinds_of_lists_without_a_copy(self):
+        kinds = {
+            "array": lambda ws: array("I", ws),
+            "memoryview": lambda ws: memoryview(bytearray(array("I", ws).tobytes())).cast("I"),
+            "ctypes": lambda ws: (ctypes.c_uint32 * len(ws))(*ws),
+        }
+        if numpy:
+            kinds["numpy"] = lambda ws: numpy.array(ws, dtype=numpy.uint32)
+        for name, of in kinds.items():
+            with self.subTest(name):
+                network, starts, settled = self.lists(of), of([7] * 5), of([7] * 5)
+                self.assertEqual(calls.query(*network, TIME, 0, of([]), starts, settled), (0, 1, 0))
+                self.assertEqual(list(settled), [0, 4, 8, 9, 7])
+                self.assertEqual(calls.batch(*network, of([DELETE, 0, 1, 0])), (4, 10, 10))
+                self.assertEqual(list(network[2])[:5], [0, 1, 2, 3, 0])
+        numbers = self.lists(kinds["array"])
+        self.assertEqual(calls.batch(*numbers, memoryview(array("I", [DELETE, 0, 1, 0])).cast("B").cast("I", (1, 4))).count, 4)
+
+    def test_the_memory_itself_is_lent(self):
+        below = bytearray(array("I", [7] * 4).tobytes())
+        read_only = array("I", [0]).tobytes()
+        network = list(self.lists(lambda ws: array("I", ws)))
+        network[1] = memoryview(read_only).cast("I")
+        calls.query(*network, TIME, 0, array("I"), array("I", [7] * 4), memoryview(below).cast("I"))
+        self.assertEqual(below, array("I", [0, 4, 8, 9]).tobytes())
+
+    def test_what_is_not_lent(self):
+        network, out = self.lists(lambda ws: array("I", ws)), array("I", [7] * 4)
+
+        def query(**changed):
+            lent = {"schedule": array("I"), "starts": array("I", [7] * 4), "settled": out, **changed}
+            calls.query(*network, TIME, 0, **lent)
+
+        query()
+        self.assertEqual(list(out), [0, 4, 8, 9])
+        for wrong in ([0, 1], array("i", [0]), array("L", [0]), array("f", [0]), b"1234", "text", None, memoryview(array("I", range(4)))[::2]):
+            self.assertRaises(TypeError, query, schedule=wrong)
+        self.assertRaises(TypeError, query, settled=memoryview(bytes(16)).cast("I"))
+        self.assertRaises(ValueError, query, schedule=memoryview(bytearray(9))[1:].cast("I"))
+        self.assertRaises(ValueError, query, starts=out)
+        self.assertRaises(ValueError, query, schedule=memoryview(out)[3:])
+        self.assertRaises(ValueError, calls.batch, *network, array("I", [INSERT, 3, 1]))
+        self.assertRaises(TypeError, calls.query, *network, TIME, 0)
+        self.assertRaises(TypeError, calls.read, "p sp 1 0\n", *network[2:5])
+        # read twice is no harm
+        self.assertEqual(calls.choose(4, network[2], network[2], network[2], 0, 1), [0])
+
+    def test_a_list_can_not_shrink_while_it_is_lent(self):
+        out = array("I", [7] * 4)
+        with native._lent("out", calls.WRITTEN_WORDS, out) as (at, size):
+            self.assertEqual((at, size), (out.buffer_info()[0], 16))
+            self.assertRaises(BufferError, out.pop)
+        calls.query(*deck_a()._network(), TIME, 0, array("I"), array("I", [7] * 4), out)
+        self.assertEqual(out.pop(), 9)
+
+
+class Loading(unittest.TestCase):
+    def python(self, code, folder, **environment):
+        keep = {k: v for k, v in os.environ.items() if k not in ("PLATE_TRACK_LIBRARY", "PYTHONPATH", "LD_LIBRARY_PATH")}
+        return subprocess.run(
+            [sys.executable, "-B", "-c", code], env={**keep, "PYTHONPATH": str(folder), **environment}, capture_output=True, text=True
+        )
+
+    ASK = "import plate_track as p; d = p.Deck(2, [(0, 1, 5)]); d.open([0]); print(*d.query(p.TIME, 0).settled)"
+
+    def test_found_beside_the_package_and_by_a_path(self):
+        with tempfile.TemporaryDirectory() as folder:
+            shutil.copytree(ROOT / "python/plate_track", Path(folder) / "plate_track", ignore=shutil.ignore_patterns("__pycache__"))
+            lost = self.python(self.ASK, folder)
+            self.assertIn("ImportError: plate_track: no shared object of version 1", lost.stderr)
+            self.assertEqual(self.python(self.ASK, folder, PLATE_TRACK_LIBRARY=str(LIBRARY)).stdout, "0 5\n")
+            self.assertEqual(self.python(f"import plate_track as p; p.load({str(LIBRARY)!r});" + self.ASK, folder).stdout, "0 5\n")
+            self.assertEqual(self.python(self.ASK, folder, LD_LIBRARY_PATH=str(LIBRARY.parent)).stdout, "0 5\n")
+            shutil.copy(LIBRARY, Path(folder) / "plate_track")
+            self.assertEqual(self.python(self.ASK, folder).stdout, "0 5\n")
+
+    def test_another_version_is_refused(self):
+        with tempfile.TemporaryDirectory() as folder:
+            other = Path(folder) / "other.so"
+            source = "unsigned plate_track_version(void) { return 2; }"
+            subprocess.run(["gcc", "-shared", "-x", "c", "-o", other, "-"], input=source, text=True, check=True)
+            said = self.python(self.ASK, ROOT / "python", PLATE_TRACK_LIBRARY=str(other)).stderr
+            self.assertIn("has version 2, and this package is for 1", said)
+
+    @unittest.skipUnless(find_spec("setuptools"), "setuptools is not here")
+    def test_pyproject_builds_package_and_shared_object(self):
+        with tempfile.TemporaryDirectory() as folder:
+            source, built = Path(folder) / "source", Path(folder) / "built"
+            shutil.copytree(ROOT / "python", source, ignore=shutil.ignore_patterns("__pycache__"))
+            shutil.copy(LIBRARY, source / "plate_track")
+            words = [sys.executable, "-W", "ignore", "-c", "import setuptools; setuptools.setup()", "-q", "build", "--build-lib", built]
+            subprocess.run(words, cwd=source, check=True, capture_output=True)
+            self.assertEqual(self.python(self.ASK, built).stdout, "0 5\n")
+
+
+@unittest.skipUnless(networkx, "networkx is not here")
+class Graphs(unittest.TestCase):
+    def agree(self, deck, graph, nodes):
+        for source, node in enumerate(nodes):
+            time = networkx.single_source_dijkstra_path_length(graph, node)
+            handovers = networkx.single_source_shortest_path_length(graph, node)
+            reached = networkx.descendants(graph, node) | {node}
+            self.assertEqual(values(deck, TIME, source), [time.get(v, M) for v in nodes])
+            self.assertEqual(values(deck, HANDOVERS, source), [handovers.get(v, M) for v in nodes])
+            self.assertEqual(values(deck, REACH, source), [int(v in reached) for v in nodes])
+
+    def test_against_dijkstra_and_bfs(self):
+        draw = random.Random(14)
+        for directed in (True, True, False):
+            n = draw.randrange(20, 40)
+            graph = networkx.gnm_random_graph(n, 3 * n, seed=draw.randrange(10**6), directed=directed)
+            graph = networkx.relabel_nodes(graph, {v: f"station {v}" for v in graph})
+            for u, v in graph.edges:
+                graph[u][v]["weight"] = draw.randrange(1, 65536)
+            deck, nodes = plate_track.from_networkx(graph)
+            deck.open(deck.choose())
+            self.agree(deck, graph, nodes)
+            graph = plate_track.to_networkx(deck, nodes)
+            for _ in range(5):
+                edges = deck.edges()
+                changes = [(DELETE, t, h, 0) for t, h, _ in draw.sample(edges, 6)]
+                free = sorted({(t, h) for t in range(n) for h in range(n) if t != h} - {e[:2] for e in edges})
+                changes += [(INSERT, t, h, draw.randrange(1, 65536)) for t, h in draw.sample(free, 6)]
+                deck.batch(changes)
+                for kind, t, h, w in changes:
+                    graph.add_edge(nodes[t], nodes[h], weight=w) if kind == INSERT else graph.remove_edge(nodes[t], nodes[h])
+                self.agree(deck, graph, nodes)
+                now = plate_track.to_networkx(deck, nodes)
+                self.assertEqual((set(now), now.edges), (set(graph), graph.edges))
+                self.assertEqual({e: now.edges[e]["weight"] for e in now.edges}, {e: graph.edges[e]["weight"] for e in graph.edges})
+
+    def test_forms(self):
+        graph = networkx.DiGraph([("b", "a")])
+        deck, nodes = plate_track.from_networkx(graph)
+        self.assertEqual((deck.edges(), nodes), ([(0, 1, 1)], ["b", "a"]))
+        graph = networkx.DiGraph()
+        graph.add_edge(5, 6, cost=3)
+        self.assertEqual(plate_track.from_networkx(graph, weight="cost")[0].edges(), [(0, 1, 3)])
+        self.assertEqual(list(plate_track.to_networkx(deck).edges(data="weight")), [(0, 1, 1)])
+        self.assertRaises(ValueError, plate_track.from_networkx, networkx.MultiDiGraph())
+        graph.add_edge(5, 6, weight=1.5)
+        self.assertRaises(TypeError, plate_track.from_networkx, graph)
+
+
+if __name__ == "__main__":
+    for name, module in (("numpy", numpy), ("networkx", networkx), ("setuptools", find_spec("setuptools"))):
+        if not module:
+            print(f"python: skipped: what needs {name}, which is not here", flush=True)
+    unittest.main()
