@@ -2,3 +2,4 @@ pub mod Closure
 pub mod Sweeps
 pub mod Examples
 pub mod Batch
+pub mod Fits

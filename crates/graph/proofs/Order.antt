@@ -13,6 +13,7 @@ use Rattle.graph.specs.Limits.{maxWeight}
 use Rattle.graph.specs.Refusal.{accept, refuseIf}
 use Rattle.graph.specs.Edge.{Edge, edge, samePair, precedes, exists, present}
 use Rattle.graph.specs.Table.{isWeight, isEdge, follow, rules, insert, delete}
+pub use Rattle.graph.specs.Within.{Within}
 use borrow.Author.Tests.{ltb-true, leb-true, eqb-true, not-false, lt-ltb, eq-eqb}
 use Rattle.graph.proofs.Tests.{both, and-true, neither, or-false}
 use Rattle.graph.proofs.Verdicts.{then-accept, accept-then, if-accept, accept-if}
@@ -122,11 +123,6 @@ module _ (n : ℕ) (e : Edge) (h : isEdge n e ≡ true) where
       omega arith
 
 -- what theorems about runs need of the rules
-pub record Within (n : ℕ) (es : List Edge) : Type 0 where
-  pub tails : (e : Edge) → List·Memᴰ e es → e .tail < n
-  pub heads : (e : Edge) → List·Memᴰ e es → e .head < n
-  pub weights : (e : Edge) → List·Memᴰ e es → e .weight ≤ M
-
 pub within : (n : ℕ) (es : List Edge) → Sound n es → Within n es
 within n es h = record {
   tails = λ e m. tail-fits n e (sound-fit n es h e m);

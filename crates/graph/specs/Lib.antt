@@ -1,6 +1,7 @@
 pub mod Limits
 pub mod Refusal
 pub mod Edge
+pub mod Within
 pub mod Table
 pub mod Route
 pub mod Code

@@ -1,4 +1,5 @@
 pub mod Items
+pub mod Ends
 pub mod Rows
 pub mod Reports
 pub mod Moment

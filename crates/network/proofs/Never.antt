@@ -33,9 +33,8 @@ use Rattle.network.proofs.Query.{query-request, query-rests}
 
 -- ---- what turns each call back
 
--- An opening, on whatever lists, is turned back by numbers 1 to 4 alone. Where these accept, its landmarks are vertices and its edges lie
--- within the n vertices. So each opened row keeps the invariant of runs, on the edges and on the reversed ones, and from such a state
--- nothing waits after n rounds.
+-- An opening, on whatever lists, is turned back by numbers 1 to 4 alone. Where these accept, its edges lie within the n vertices, and so do
+-- the reversed ones: nothing waits after n rounds.
 pub open-judged : (n : ℕ) (ls : List ℕ) (w : Network) → verdictOf ((openCall n ls w) .reply) ≡ faults n ls w
 unfolding openCall
 open-judged n ls w = verdict-replied (openVerdict n ls w) tt ∙ then-last (faults n ls w) (λ h.
@@ -49,7 +48,7 @@ pub batch-judged : (n : ℕ) (ls : List ℕ) (w : Network) (b : List Change) →
 batch-judged n ls w b g = (steps n ls w b g) .applied .judged
 
 -- A query on a network that keeps the invariant is turned back by its own numbers alone. The network's size, lists, landmarks and table
--- are as they must be. Where property and source are too, its start keeps the invariant of runs, and the schedule keeps it: so nothing
+-- are as they must be. Where property and source are too, its start words are words, and so are those that the schedule leaves: nothing
 -- waits after n rounds.
 pub query-judged : (n : ℕ) (ls : List ℕ) (w : Network) (q : Query) (out : Words) → Good n ls w
     → verdictOf ((queryCall n ls w q out) .reply) ≡ queryBack n q out

@@ -28,14 +28,15 @@ use Rattle.run.specs.Rounds.{Rounds}
 use Rattle.run.specs.Start.{Landmark, bound, asked}
 use Rattle.theory.proofs.Settle.{Inv, pass-good, pass-rounds, settle-good, settle-rounds, settled}
 use Rattle.theory.proofs.Value.{value-before, settled-best}
-use Rattle.theory.proofs.Rest.{settle-rests}
 use Rattle.theory.proofs.Rounds.{settle-all}
 use Rattle.theory.proofs.Exists.{best-same}
 use Rattle.theory.proofs.Reverse.{reversed-best}
 use Rattle.theory.proofs.Query.{by, Bounded, bound-under, bound-is, via, asked-source, asked-other, asked-good}
+use Rattle.theory.proofs.Fits.{best-fits}
 use Rattle.network.specs.Network.{Network, edgesIn, rowCount, shortRows, landmarks, row, propertyOf, landmarkOf}
 use Rattle.network.specs.Query.{Query, Words, rowAt, scheduled, known, atStart, atRounds, atEnd, longSchedule, shortWords, requested, queryFaults, queryVerdict, answered, queryCall}
 use Rattle.network.specs.History.{Triangle, Ran, QueryHolds}
+use Rattle.network.proofs.Ends.{query-ends}
 use Rattle.network.proofs.Moment.{Good, good-within}
 
 -- ---- lists and rows
@@ -175,9 +176,10 @@ module _ (n : ℕ) (ls : List ℕ) (w : Network) (g : Good n ls w) (q : Query) w
     rounds-good : Inv P es s n (atRounds n ls w q)
     rounds-good = pass-good L es s n inside (q .schedule) (atStart n ls w q) start-good
 
-    -- the schedule leaves the invariant of runs, so nothing waits after n rounds
+    -- what the rows tell are words, and from any words nothing waits after a schedule and n rounds
     pub query-rests : anyOf ((atEnd n ls w q) .waiting) ≡ false
-    query-rests = settle-rests L es s n inside source (atRounds n ls w q) rounds-good
+    query-rests = query-ends n ls w q inside
+        (λ l m. record { into = best-fits L es s n inside (ways l m); row = λ t. best-fits L es (l .vertex) n inside (rows l m t) })
 
     end-good : Inv P es s n (atEnd n ls w q)
     end-good = settle-good L es s n inside n (atRounds n ls w q) rounds-good

@@ -28,14 +28,15 @@ use Rattle.run.specs.Run.{State, word}
 use Rattle.run.specs.Start.{opened}
 use Rattle.affected.specs.Prepared.{cleared, prepared}
 use Rattle.theory.proofs.Settle.{settle-sized}
-use Rattle.theory.proofs.Value.{opened-good, opened-best}
-use Rattle.affected.proofs.Batch.{prepared-good, batch-best as row-best, unaffected}
-use Rattle.theory.proofs.Rest.{settle-rests}
+use Rattle.theory.proofs.Value.{opened-best}
+use Rattle.affected.proofs.Batch.{batch-best as row-best, unaffected}
+use Rattle.theory.proofs.Fits.{best-fits}
 use Rattle.network.specs.Network.{Rows, rowCount, shortRows, isIn, areLandmarks, landmarks, row, propertyOf, landmarkOf, rowsOf, flat, unsettled}
 use Rattle.network.specs.Open.{openRow, openRows}
 use Rattle.network.specs.Batch.{batchRow, batchRows}
 use Rattle.network.specs.History.{Unworse}
 use Rattle.network.proofs.Items.{length-over}
+use Rattle.network.proofs.Ends.{open-row-ends, batch-row-ends}
 
 -- ---- rows in a list
 
@@ -125,13 +126,12 @@ module _ (n : ℕ) (ls : List ℕ) (ok : landmarks n ls ≡ accept) where
   -- ---- an opening
 
   module _ (es : List Edge) (inside : Within n es) where
-    -- The run of row r starts where only the row's landmark has a route. Such a row keeps the invariant of runs, and from there nothing waits
-    -- after n rounds: so its words are best for the row's property and landmark.
+    -- The run of row r starts where only the row's landmark has a route. From any words nothing waits after n rounds: so its words are best
+    -- for the row's property and landmark.
     open-row : (r : ℕ) → r < rowCount ls
         → ((t : ℕ) → Best (propertyOf r) es (landmarkOf ls r) t (word (propertyOf r) ((openRow n ls es r) .words) t)) × (anyOf ((openRow n ls es r) .waiting) ≡ false)
     open-row r h =
-        let good = opened-good (L r) es (landmarkOf ls r) n inside (source r h) in
-        let rests = settle-rests (L r) es (landmarkOf ls r) n inside (source r h) _ good in
+        let rests = open-row-ends n ls es inside r in
         (opened-best (L r) es (landmarkOf ls r) n inside (source r h) n rests, rests)
 
     pub open-rests : unsettled (openRows n ls es) ≡ false
@@ -146,10 +146,9 @@ module _ (n : ℕ) (ls : List ℕ) (ok : landmarks n ls ≡ accept) where
   -- es are the edges before the batch and fs those after it; the rows in xs hold best words of es
   module _ (es fs : List Edge) (old : Within n es) (new : Within n fs) (xs : List ℕ) (best : RowsBest n ls es xs) where
     batch-row-rests : (r : ℕ) → r < rowCount ls → anyOf ((batchRow n ls es fs xs r) .waiting) ≡ false
-    batch-row-rests r h = settle-rests (L r) fs (landmarkOf ls r) n new (source r h) _
-        (prepared-good (L r) es fs (landmarkOf ls r) n old new (source r h) (row n r xs) (best r h))
+    batch-row-rests r h = batch-row-ends n ls es fs new xs r (λ t. best-fits (L r) es (landmarkOf ls r) n old (best r h t))
 
-    -- nothing waits in any row: the prepared row keeps the invariant of runs on the new edges
+    -- nothing waits in any row: best values are words, and from any words n rounds suffice
     pub batch-rests : unsettled (batchRows n ls es fs xs) ≡ false
     batch-rests = unsettled-map (batchRow n ls es fs xs) (rowsOf ls) (λ r m. batch-row-rests r (below r m))
 

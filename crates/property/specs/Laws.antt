@@ -29,3 +29,4 @@ pub record Joins (P : Property) : Type 0 where
   pub join-monotone : (a b c : ℕ) → P .better c b ≡ false → P .better (P .join a c) (P .join a b) ≡ false
   pub join-none : (b : ℕ) → b ≤ M → P .join (P .none) b ≡ P .none
   pub none-join : (a : ℕ) → a ≤ M → P .join a (P .none) ≡ P .none
+  pub join-fits : (a b : ℕ) → a ≤ M → b ≤ M → P .join a b ≤ M

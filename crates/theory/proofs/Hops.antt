@@ -2,13 +2,14 @@
 --
 --   Level j      == some vertex below n has the word j
 --   under j      == which of the n vertices have a word below j, as a list
-use mathlib.Core.Path.{_≡_, sym, _∙_}
-use mathlib.Core.Bool.{Bool, true, false, true≢false}
-use mathlib.Core.List.{List, map}
+use mathlib.Core.Path.{_≡_, refl, sym, _∙_}
+use mathlib.Core.Logic.{⊎-elim}
+use mathlib.Core.Bool.{Bool, true, false, true≢false, false≢true}
+use mathlib.Core.List.{List, [], _∷_, map}
 use Prim.Native.Nat.{ℕ, zero, suc, _≤_, _<_}
 use native.Mathlib.Decide.{decLt}
 use native.Mathlib.Omega.{arith}
-use lib.ListN.{getD, length, List·getD-eq-default}
+use lib.ListN.{getD, set, length, List·getD-eq-default}
 use lib.Dec.{ltb}
 use borrow.Author.Tests.{eqb-true, ltb-true, lt-ltb, le-ltb}
 use Rattle.property.specs.Property.{Property, plus, bfs}
@@ -16,26 +17,44 @@ use Rattle.property.specs.Laws.{Laws}
 use Rattle.property.proofs.Instances.{bfs-laws}
 use Rattle.frontier.specs.Waiting.{countOf}
 use Rattle.frontier.proofs.Counts.{count-le}
+use Rattle.frontier.proofs.Laws.{count-insert}
 use Rattle.graph.specs.Edge.{Edge, keep, range}
 use Rattle.graph.specs.Route.{Best}
-use Rattle.graph.proofs.Lists.{length-table, table-at}
+use Rattle.graph.proofs.Lists.{at-set, length-table, table-at}
 use Rattle.graph.proofs.Edges.{keep-in}
 use Rattle.graph.proofs.Order.{Within}
 use Rattle.run.specs.Run.{word, tight}
 use Rattle.run.specs.Start.{opened}
 use Rattle.run.specs.Values.{valuesFrom}
 use Rattle.theory.proofs.Walk.{Walk, stay, go}
-use Rattle.theory.proofs.Value.{opened-good, opened-best}
+use Rattle.theory.proofs.Value.{opened-best}
 use Rattle.theory.proofs.Tight.{tight-walk, source-word}
-use Rattle.theory.proofs.Rest.{count-less, settle-rests}
+use Rattle.theory.proofs.Chains.{settle-rests}
+use Rattle.theory.proofs.Fits.{opened-words}
 
 -- ---- the values from one vertex are best
 
--- an opened row keeps the invariant of runs, so nothing waits after n rounds, and where nothing waits words are best values
+-- from any words nothing waits after n rounds, and where nothing waits the words of an opened row are best values
 pub values-best : {P : Property} (L : Laws P) (es : List Edge) (s n : ℕ) → Within n es → s < n → (t : ℕ) → Best P es s t (word P (valuesFrom P es n s) t)
-values-best {P} L es s n inside h t = opened-best L es s n inside h n (settle-rests L es s n inside h (opened P n s) (opened-good L es s n inside h)) t
+values-best {P} L es s n inside h t = opened-best L es s n inside h n (settle-rests L es n inside (opened P n s) (opened-words L n s)) t
 
 -- ---- few edges
+
+count-mono : (a b : List Bool) → ((k : ℕ) → getD a k false ≡ true → getD b k false ≡ true) → countOf a ≤ countOf b
+unfolding countOf
+count-mono [] b h = omega arith
+count-mono (true ∷ a) [] h = absurd (false≢true (h 0 refl))
+count-mono (true ∷ a) (false ∷ b) h = absurd (false≢true (h 0 refl))
+count-mono (true ∷ a) (true ∷ b) h = let z = count-mono a b (λ k. h (suc k)) in omega arith
+count-mono (false ∷ a) [] h = count-mono a [] (λ k. h (suc k))
+count-mono (false ∷ a) (false ∷ b) h = count-mono a b (λ k. h (suc k))
+count-mono (false ∷ a) (true ∷ b) h = let z = count-mono a b (λ k. h (suc k)) in omega arith
+
+count-less : (a b : List Bool) (y : ℕ) → y < length a → ((k : ℕ) → getD a k false ≡ true → getD b k false ≡ true)
+    → getD a y false ≡ false → getD b y false ≡ true → countOf a < countOf b
+count-less a b y l h p q =
+    let z = count-mono (set a y true) b (λ k e. ⊎-elim (λ c. rw (c .0) q) (λ c. h k (sym (c .1) ∙ e)) (at-set a y true k false l)) in
+    omega (arith, count-insert a y l p)
 
 module _ (es : List Edge) (s n : ℕ) (inside : Within n es) (h : s < n) (ws : List ℕ) (best : (t : ℕ) → Best bfs es s t (word bfs ws t)) where
   abbrev Level : ℕ → Type 0

@@ -3,9 +3,10 @@ pub mod Settle
 pub mod Value
 pub mod Exists
 pub mod Tight
-pub mod Rest
+pub mod Rounds
+pub mod Chains
 pub mod Reverse
 pub mod Query
-pub mod Rounds
+pub mod Fits
 pub mod Hops
 pub mod Routed

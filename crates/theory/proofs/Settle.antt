@@ -193,7 +193,7 @@ module _ {P : Property} (L : Laws P) where
         head (inr e) = inr (ap (λ x. along x (o .weight)) e ∙ L .along-none (o .weight) w)
 
     module _ (c : relaxable P ws o ≡ true) where
-      store-betters : (t : ℕ) → better (word P ws t) (word P stored t) ≡ false
+      pub store-betters : (t : ℕ) → better (word P ws t) (word P stored t) ≡ false
       store-betters t =
           ⊎-elim (λ q. rw (q .1, q .0) (L .asymmetric _ _ c)) (λ q. rw (q .1) (L .irreflexive _)) (at-set ws (o .head) fresh t none inside)
 

@@ -1,2 +1,3 @@
 pub mod Best
 pub mod Routed
+pub mod Rest

@@ -1,0 +1,76 @@
+-- Where runs start, words are words of 32 bits: an opened row, and a query, whatever the rows tell it. Assumes nothing.
+--
+--   Told P l   == the words that a landmark's rows tell are at most M
+use mathlib.Core.Path.{_≡_, refl, _∙_}
+use mathlib.Core.Logic.{⊎-elim}
+use mathlib.Core.Bool.{Bool, true, false, cond}
+use mathlib.Core.List.{List, [], _∷_, List·Memᴰ, List·Memᴰ·head, List·Memᴰ·tail}
+use Prim.Native.Nat.{ℕ, _≤_, _<_}
+use native.Mathlib.Decide.{decLt}
+use native.Mathlib.Omega.{arith}
+use lib.ListN.{getD, set, length, replicate, length-set, length-replicate}
+use lib.Seq.{set-out}
+use lib.Dec.{eqb}
+use Rattle.property.specs.Property.{M, Property}
+use Rattle.property.specs.Laws.{Laws, Joins}
+use Rattle.graph.specs.Edge.{Edge, range}
+use Rattle.graph.specs.Route.{Best}
+use Rattle.graph.proofs.Lists.{at-set, getD-within, replicate-at, length-table, table-at}
+use Rattle.graph.proofs.Order.{Within}
+use Rattle.run.specs.Run.{word}
+use Rattle.theory.specs.Rest.{Words}
+use Rattle.run.specs.Start.{Landmark, bound, opened, asked}
+use Rattle.theory.proofs.Value.{value-fits}
+use Rattle.theory.proofs.Query.{by}
+
+pub cond-fits : (b : Bool) (x y : ℕ) → x ≤ M → y ≤ M → cond b x y ≤ M
+cond-fits true x y h k = h
+cond-fits false x y h k = k
+
+-- best values are words
+pub best-fits : {P : Property} (L : Laws P) (es : List Edge) (s n : ℕ) → Within n es → {t v : ℕ} → Best P es s t v → v ≤ M
+best-fits L es s n inside b = ⊎-elim (value-fits L es s n inside) (λ c. rw (c .1) (L .none-fits)) (b .attained)
+
+-- who waits at the start of a run: one vertex
+alone-length : (n s : ℕ) → length (set (replicate n false) s true) ≡ n
+alone-length n s = length-set (replicate n false) s true ∙ length-replicate n false
+
+pub opened-words : {P : Property} (L : Laws P) (n s : ℕ) → Words n (opened P n s)
+unfolding opened
+opened-words {P = P} L n s = record {
+  words = length-set (replicate n (P .none)) s (P .start) ∙ length-replicate n (P .none);
+  waiting = alone-length n s;
+  fits = λ t h. pick t h (decLt s n);
+}
+  where
+    nones : (t : ℕ) → t < n → getD (replicate n (P .none)) t 0 ≤ M
+    nones t h =
+        let b : t < length (replicate n (P .none)) = rw length-replicate h in
+        rw (getD-within (replicate n (P .none)) t 0 (P .none) b, replicate-at n t (P .none)) (L .none-fits)
+
+    pick : (t : ℕ) → t < n → Dec (s < n) → getD (set (replicate n (P .none)) s (P .start)) t 0 ≤ M
+    pick t h (yes k) =
+        let b : s < length (replicate n (P .none)) = rw length-replicate k in
+        ⊎-elim (λ c. rw (c .1) (L .start-fits)) (λ c. rw (c .1) (nones t h)) (at-set (replicate n (P .none)) s (P .start) t 0 b)
+    pick t h (no d) = rw (set-out (replicate n (P .none)) s (P .start) (rw length-replicate (omega arith))) (nones t h)
+
+pub record Told (P : Property) (l : Landmark) : Type 0 where
+  pub into : l .into ≤ M
+  pub row : (t : ℕ) → word P (l .row) t ≤ M
+
+module _ {P : Property} (L : Laws P) (J : Joins P) where
+  -- a bound joins two of the rows' words, or is none
+  bound-fits : (ls : List Landmark) → ((l : Landmark) → List·Memᴰ l ls → Told P l) → (t : ℕ) → bound P ls t ≤ M
+  unfolding bound
+  bound-fits [] h t = L .none-fits
+  bound-fits (l ∷ ls) h t =
+      let d = h l (List·Memᴰ·head refl) in
+      cond-fits (P .better (by P l t) (bound P ls t)) _ _ (J .join-fits _ _ (d .into) (d .row t)) (bound-fits ls (λ x m. h x (List·Memᴰ·tail m)) t)
+
+  pub asked-words : (ls : List Landmark) → ((l : Landmark) → List·Memᴰ l ls → Told P l) → (n s : ℕ) → Words n (asked P ls n s)
+  unfolding asked
+  asked-words ls h n s = record {
+    words = length-table _ 0 n;
+    waiting = alone-length n s;
+    fits = λ t k. rw (table-at (λ u. cond (eqb u s) (P .start) (bound P ls u)) n t 0 k) (cond-fits (eqb t s) _ _ (L .start-fits) (bound-fits ls h t));
+  }
