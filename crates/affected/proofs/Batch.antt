@@ -14,7 +14,7 @@ use Rattle.property.specs.Property.{Property}
 use Rattle.property.specs.Laws.{Laws}
 use Rattle.frontier.specs.Waiting.{anyOf}
 use Rattle.graph.specs.Edge.{Edge, exists, among}
-use Rattle.graph.specs.Route.{Route, Best}
+use Rattle.graph.specs.Route.{Best}
 use Rattle.graph.proofs.Tests.{and-true}
 use Rattle.graph.proofs.Lists.{length-table, table-at}
 use Rattle.graph.proofs.Edges.{true-exists, among-mem}
@@ -23,7 +23,7 @@ use Rattle.run.specs.Run.{State, word, waits, relaxable, settle}
 use Rattle.affected.specs.Affected.{added, Affected, marked, affected}
 use Rattle.affected.specs.Prepared.{cleared, reopened, prepared}
 use Rattle.affected.proofs.Sweeps.{unaffected-unmarked, landmark-safe, affected-closed}
-use Rattle.theory.proofs.Settle.{Sound, Inv, settle-good, settle-rises}
+use Rattle.theory.proofs.Settle.{Backed, Sound, Inv, settle-good, settle-rises}
 use Rattle.theory.proofs.Value.{none-quiet, settled-best, best-settled}
 use Rattle.theory.proofs.Tight.{source-word, still-sound}
 
@@ -59,7 +59,7 @@ module _ {P : Property} (L : Laws P) (es fs : List Edge) (s n : ℕ) (old : With
   prepared-sound : Sound P fs s (ready .words)
   prepared-sound t = pick (decLt t n) (out t) refl
     where
-      pick : Dec (t < n) → (b : Bool) → out t ≡ b → Route P fs s t (word P (ready .words) t) ⊎ (word P (ready .words) t ≡ none)
+      pick : Dec (t < n) → (b : Bool) → out t ≡ b → Backed P fs s t (word P (ready .words) t)
       pick (no d) b q = inr (prepared-beyond t (omega arith))
       pick (yes h) true q = inr (prepared-out t h q)
       pick (yes h) false q = rw (prepared-other t h q) (still-sound L es s n old ws best fs out (affected-closed P es fs s ws n old) t q)

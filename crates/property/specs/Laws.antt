@@ -2,7 +2,8 @@
 --
 -- "a is no worse than b" is written `better b a ≡ false`. Words are at most M.
 --
---   Laws P    == better is a strict total order; going along keeps it and never betters; no route leads on to no route
+--   Laws P    == better is a strict total order; going along keeps it and never betters; no route leads on to no route,
+--                and is no better than any word
 --   Joins P   == edges may be gone along in either order, and joining is going along from the value joined
 use mathlib.Core.Path.{_≡_}
 use mathlib.Core.Bool.{false, true}
@@ -20,7 +21,7 @@ pub record Laws (P : Property) : Type 0 where
   pub along-fits : (a w : ℕ) → a ≤ M → w ≤ M → P .along a w ≤ M
   pub start-fits : P .start ≤ M
   pub none-fits : P .none ≤ M
-  pub start-no-worse : P .better (P .none) (P .start) ≡ false
+  pub none-worst : (a : ℕ) → a ≤ M → P .better (P .none) a ≡ false
 
 pub record Joins (P : Property) : Type 0 where
   pub along-swaps : (a v w : ℕ) → P .along (P .along a v) w ≡ P .along (P .along a w) v

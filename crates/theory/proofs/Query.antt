@@ -21,7 +21,7 @@ use Rattle.graph.proofs.Lists.{length-table, table-at, at-set}
 use Rattle.graph.proofs.Order.{Within}
 use Rattle.run.specs.Run.{State, word, relaxable}
 use Rattle.run.specs.Start.{Landmark, bound, asked}
-use Rattle.theory.proofs.Settle.{Sound, Inv}
+use Rattle.theory.proofs.Settle.{Backed, Sound, Inv, route-backed}
 use Rattle.theory.proofs.Value.{value-fits, value-after, none-quiet, best-settled}
 
 -- ---- the bound: of all landmarks the best
@@ -116,11 +116,11 @@ module _ {P : Property} (L : Laws P) (J : Joins P) (es : List Edge) (s n : ℕ) 
     asked-sound : Sound P es s (ready .words)
     asked-sound t = pick (decLt t n) (ℕ-discrete t s) (bound-is P ls t)
       where
-        pick : Dec (t < n) → Dec (t ≡ s) → Bounded P ls t (bound P ls t) → Route P es s t (word P (ready .words) t) ⊎ (word P (ready .words) t ≡ none)
+        pick : Dec (t < n) → Dec (t ≡ s) → Bounded P ls t (bound P ls t) → Backed P es s t (word P (ready .words) t)
         pick (no d) k b = inr (asked-beyond t (omega arith))
-        pick (yes h) (yes q) b = inl (rw (asked-source t h q, q) here)
+        pick (yes h) (yes q) b = rw (asked-source t h q, q) (route-backed L here (L .start-fits))
         pick (yes h) (no d) (inl b) = inr (asked-other t h d ∙ b)
-        pick (yes h) (no d) (inr (l, m, b)) = rw (asked-other t h d, b) (via l m t)
+        pick (yes h) (no d) (inr (l, m, b)) = rw (asked-other t h d, b) (⊎-elim (λ r. route-backed L r (value-fits L es s n inside r)) inr (via l m t))
 
     -- Of the edges that do not leave the source none could better a start word. Its tail's bound is none, and then nothing leads on; or
     -- it comes by way of a landmark, whose own row is settled: so the tail's word there gone along the edge is no better than the
@@ -131,12 +131,13 @@ module _ {P : Property} (L : Laws P) (J : Joins P) (es : List Edge) (s n : ℕ) 
         k : word P (ready .words) (e .tail) ≡ bound P ls (e .tail)
         k = asked-other _ (inside .tails e m) d
 
-        pick : Route P es s (e .tail) (word P (ready .words) (e .tail)) ⊎ (word P (ready .words) (e .tail) ≡ none) → Dec (e .head ≡ s)
+        pick : Backed P es s (e .tail) (word P (ready .words) (e .tail)) → Dec (e .head ≡ s)
             → Bounded P ls (e .tail) (bound P ls (e .tail)) → relaxable P (ready .words) e ≡ false
         pick (inr z) h b = none-quiet L es s n inside (ready .words) asked-sound e m z
-        pick (inl r) (yes q) b = rw (relaxable, asked-source _ (inside .heads e m) q) (value-after L es s n inside (step r m))
-        pick (inl r) (no h) (inl b) = none-quiet L es s n inside (ready .words) asked-sound e m (k ∙ b)
-        pick (inl r) (no h) (inr (l, ml, b)) =
+        pick (inl (u, r, h, f)) (yes q) b =
+            rw (relaxable, asked-source _ (inside .heads e m) q) (L .transitive _ _ _ (value-after L es s n inside (step r m)) (L .along-monotone _ _ _ h))
+        pick (inl z) (no h) (inl b) = none-quiet L es s n inside (ready .words) asked-sound e m (k ∙ b)
+        pick (inl z) (no h) (inr (l, ml, b)) =
             rw (relaxable, asked-other _ (inside .heads e m) h, k, b, ← (J .join-along (l .into) (word P (l .row) (e .tail)) (e .weight)))
             (L .transitive _ _ _ (bound-under L ls (e .head) l ml)
             (J .join-monotone (l .into) _ _ (best-settled L es (l .vertex) n inside (l .row) (rows l ml) e m)))

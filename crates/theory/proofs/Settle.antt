@@ -2,7 +2,7 @@
 -- them settled once nothing waits. Assumes nothing.
 --
 --   Settled P es ws            == no edge of es would better its head's word
---   Backed P es s t v          == v is the value of a route from s to t, or the no-route word
+--   Backed P es s t v          == v is a word that is no better than the value of some route from s to t, or the no-route word
 --   Sound P es s ws            == each word is backed
 --   Good P es s n rest ws bs   == the invariant of runs, where the edges `rest` are still to come in the handling under way
 --   Inv P es s n st            == the same between two handlings, of a state
@@ -41,7 +41,7 @@ Sized n st = length (st .words) ≡ n
 
 module _ (P : Property) (es : List Edge) (s : ℕ) where
   abbrev pub Backed : ℕ → ℕ → Type 0
-  Backed t v = Route P es s t v ⊎ (v ≡ P .none)
+  Backed t v = ((u : ℕ) × Route P es s t u × (P .better v u ≡ false) × (v ≤ M)) ⊎ (v ≡ P .none)
 
   abbrev pub Sound : List ℕ → Type 0
   Sound ws = (t : ℕ) → Backed t (word P ws t)
@@ -167,6 +167,15 @@ module _ {P : Property} (L : Laws P) where
   settled-complete es s ws h settled (step {e = e} r m) =
       L .transitive _ _ _ (settled e m) (L .along-monotone _ _ (e .weight) (settled-complete es s ws h settled r))
 
+  -- ---- backed words
+
+  pub backed-fits : {es : List Edge} {s t v : ℕ} → Backed P es s t v → v ≤ M
+  backed-fits (inl (u, r, h, f)) = f
+  backed-fits (inr e) = rw e (L .none-fits)
+
+  pub route-backed : {es : List Edge} {s t v : ℕ} → Route P es s t v → v ≤ M → Backed P es s t v
+  route-backed {v = v} r f = inl (v, r, L .irreflexive v, f)
+
   -- ---- one store
 
   better-through : (a b c : ℕ) → better a b ≡ true → better c b ≡ false → better a c ≡ true
@@ -183,13 +192,13 @@ module _ {P : Property} (L : Laws P) where
     abbrev stored : List ℕ
     stored = set ws (o .head) fresh
 
-    -- a store keeps words sound: a route to the tail goes on along the edge, and no route leads on to no route
+    -- a store keeps words sound: the route that backs the tail goes on along the edge, and no route leads on to no route
     store-sound : (es : List Edge) (s : ℕ) → List·Memᴰ o es → o .weight ≤ M → Sound P es s ws → Sound P es s stored
     store-sound es s m w sound t =
         ⊎-elim (λ c. rw (c .1, c .0) (head (sound (o .tail)))) (λ c. rw (c .1) (sound t)) (at-set ws (o .head) fresh t none inside)
       where
         head : Backed P es s (o .tail) (word P ws (o .tail)) → Backed P es s (o .head) fresh
-        head (inl r) = inl (step r m)
+        head (inl (u, r, h, f)) = inl (along u (o .weight), step r m, L .along-monotone _ _ _ h, L .along-fits _ _ f w)
         head (inr e) = inr (ap (λ x. along x (o .weight)) e ∙ L .along-none (o .weight) w)
 
     module _ (c : relaxable P ws o ≡ true) where

@@ -20,7 +20,7 @@ use Rattle.graph.proofs.Edges.{keep-in, in-keep}
 use Rattle.graph.proofs.Order.{Within}
 use Rattle.run.specs.Run.{word, tight}
 use Rattle.theory.proofs.Walk.{Walk, stay, go, walk?, walk-map, walk-of, route-of}
-use Rattle.theory.proofs.Settle.{Backed}
+use Rattle.theory.proofs.Settle.{Backed, route-backed}
 use Rattle.theory.proofs.Value.{Attained, value-fits, value-after}
 
 -- ---- the best of those that have a property
@@ -142,5 +142,5 @@ module _ {P : Property} (L : Laws P) (es : List Edge) (s n : ℕ) (inside : With
       where
         pick : Dec (word P ws t ≡ none) → Attained P es s t (word P ws t) → Backed P fs s t (word P ws t)
         pick (yes p) a = inr p
-        pick (no d) (inl r) = inl (upheld (tight-walk (walk-of r)) d q)
+        pick (no d) (inl r) = route-backed L (upheld (tight-walk (walk-of r)) d q) (value-fits L es s n inside r)
         pick (no d) (inr c) = inr (c .1)

@@ -21,7 +21,7 @@ use Rattle.run.specs.Run.{State, word, relaxable, settle}
 use Rattle.run.specs.Start.{opened}
 use Rattle.theory.specs.Best.{Weighed}
 use Rattle.theory.proofs.Walk.{Walk, walk?, walk-of, route-of}
-use Rattle.theory.proofs.Settle.{Settled, Backed, Sound, Inv, settled-complete, settled, settle-good}
+use Rattle.theory.proofs.Settle.{Settled, Backed, Sound, Inv, settled-complete, backed-fits, route-backed, settled, settle-good}
 
 abbrev pub from : Property → ℕ → Property
 from P v = record { start = v; none = P .none; along = P .along; better = P .better; join = P .join }
@@ -58,20 +58,19 @@ module _ {P : Property} (L : Laws P) (es : List Edge) (s n : ℕ) (inside : With
 
   -- .. and none is worse than no route
   pub value-before : {t u : ℕ} → Route P es s t u → better none u ≡ false
-  value-before here = L .start-no-worse
-  value-before (step {e = e} {v = v} r m) =
-      rw (L .along-none (e .weight) (inside .weights e m)) at (L .along-monotone v none (e .weight) (value-before r))
+  value-before r = L .none-worst _ (value-fits r)
 
   -- an edge that leaves a vertex without a route could not better a sound word
   pub none-quiet : (ws : List ℕ) → Sound P es s ws → (e : Edge) → List·Memᴰ e es → word P ws (e .tail) ≡ none → relaxable P ws e ≡ false
   none-quiet ws sound e m q =
       let d : along (word P ws (e .tail)) (e .weight) ≡ none = ap (λ x. along x (e .weight)) q ∙ L .along-none _ (inside .weights e m) in
-      rw (d, relaxable) (⊎-elim value-before (λ z. rw z (L .irreflexive none)) (sound (e .head)))
+      rw (d, relaxable) (L .none-worst _ (backed-fits L (sound (e .head))))
 
   -- ---- settled words and best values
 
-  -- Where nothing waits the words are settled, so complete: no route betters them. They are sound: each is the value of a route, or
-  -- none. Where a word is none although there is a walk, that walk's route is no better than none and no worse, so none is its value.
+  -- Where nothing waits the words are settled, so complete: no route betters them. They are sound: each is none, or no better than the
+  -- value of a route, and so that value. Where a word is none although there is a walk, that walk's route is no better than none and no
+  -- worse, so none is its value.
   pub settled-best : (st : State) → Inv P es s n st → anyOf (st .waiting) ≡ false → (t : ℕ) → Best P es s t (word P (st .words) t)
   settled-best st g q t = record { unbettered = λ u r. all r; attained = reached (g .sound t) (walk? es s t) }
     where
@@ -82,18 +81,17 @@ module _ {P : Property} (L : Laws P) (es : List Edge) (s n : ℕ) (inside : With
       all r = settled-complete L es s (st .words) (g .source) (settled L es s n inside st g q) r
 
       reached : Backed P es s t w → Dec (Walk es s t) → Attained P es s t w
-      reached (inl r) d = inl r
+      reached (inl (u, r, h, f)) d = inl (rw (L .antisymmetric w u h (all r)) r)
       reached (inr e) (no d) = inr (λ u r. d (walk-of r), e)
       reached (inr e) (yes k) = let (u, r) = route-of P k in inl (rw (L .antisymmetric w u (rw e (value-before r)) (all r)) r)
 
   pub best-sound : (ws : List ℕ) → ((t : ℕ) → Best P es s t (word P ws t)) → Sound P es s ws
-  best-sound ws best t = ⊎-elim inl (λ c. inr (c .1)) ((best t) .attained)
+  best-sound ws best t = ⊎-elim (λ r. route-backed L r (value-fits r)) (λ c. inr (c .1)) ((best t) .attained)
 
   -- a route to the tail goes on to the head, where no route betters the word; with no route to the tail none leads on
   pub best-settled : (ws : List ℕ) → ((t : ℕ) → Best P es s t (word P ws t)) → Settled P es ws
   best-settled ws best e m =
-      let sound = best-sound ws best in
-      ⊎-elim (λ r. (best (e .head)) .unbettered _ (step r m)) (λ z. none-quiet ws sound e m z) (sound (e .tail))
+      ⊎-elim (λ r. (best (e .head)) .unbettered _ (step r m)) (λ c. none-quiet ws (best-sound ws best) e m (c .1)) ((best (e .tail)) .attained)
 
   -- ---- an opened row
 
@@ -105,7 +103,7 @@ module _ {P : Property} (L : Laws P) (es : List Edge) (s n : ℕ) (inside : With
       let b : s < length (replicate n none) = rw length-replicate h in
       let b′ : s < length (replicate n false) = rw length-replicate h in
       let sound : Sound P es s (set (replicate n none) s start) = λ t.
-      ⊎-elim (λ c. inl (rw (c .1, c .0) here)) (λ c. inr (c .1 ∙ replicate-at n t none)) (at-set (replicate n none) s start t none b) in
+      ⊎-elim (λ c. rw (c .1, c .0) (route-backed L here (L .start-fits))) (λ c. inr (c .1 ∙ replicate-at n t none)) (at-set (replicate n none) s start t none b) in
       let other : (e : Edge) → (e .tail ≡ s → ⊥) → word P (set (replicate n none) s start) (e .tail) ≡ none = λ e d.
       getD-set-other (replicate n none) s (e .tail) start none d ∙ replicate-at n (e .tail) none in
       record {
