@@ -8,14 +8,14 @@ use Rattle.property.specs.Laws.{Laws}
 use Rattle.graph.specs.Edge.{Edge}
 use Rattle.graph.proofs.Lists.{length-table, table-at}
 use Rattle.run.specs.Run.{word}
-use Rattle.theory.specs.Rest.{Words}
+use Rattle.theory.specs.Rest.{FitWords}
 use Rattle.affected.specs.Affected.{marked, affected}
 use Rattle.affected.specs.Prepared.{cleared, reopened, prepared}
 use Rattle.theory.proofs.Fits.{cond-fits}
 
 -- an affected vertex has no route, and any other its word
 pub prepared-words : {P : Property} (L : Laws P) (es fs : List Edge) (s n : ℕ) (ws : List ℕ) → ((t : ℕ) → word P ws t ≤ M)
-    → Words n (prepared P es fs s ws n)
+    → FitWords n (prepared P es fs s ws n)
 unfolding prepared cleared reopened
 prepared-words {P = P} L es fs s n ws h = record {
   words = length-table _ 0 n;

@@ -25,7 +25,7 @@ use Rattle.graph.proofs.Lists.{at-set, replicate-at, getD-within}
 use Rattle.graph.proofs.Edges.{leaving-in}
 use Rattle.graph.proofs.Order.{Within}
 use Rattle.run.specs.Run.{State, oneTaken, oneRound, counted, word, waits, relaxable, storeIf, relax, clear, handle, visitIf, visit, pass, round, settle}
-use Rattle.theory.specs.Rest.{Words, NothingWaits, NothingWaitsOn, AllRounds}
+use Rattle.theory.specs.Rest.{FitWords, NothingWaits, NothingWaitsOn, AllRounds}
 use Rattle.theory.proofs.Settle.{store-betters, pass-keeps, settle-idle, settle-more}
 use Rattle.theory.proofs.Rounds.{settle-all}
 
@@ -75,18 +75,18 @@ module _ {P : Property} (L : Laws P) (es : List Edge) (n : ℕ) (inside : Within
 
   -- ---- words of 32 bits
 
-  word-fits : (st : State) → Words n st → (t : ℕ) → word P (st .words) t ≤ M
+  word-fits : (st : State) → FitWords n st → (t : ℕ) → word P (st .words) t ≤ M
   word-fits st g t = pick (decLt t n)
     where
       pick : Dec (t < n) → word P (st .words) t ≤ M
       pick (yes h) = let b : t < length (st .words) = let z = g .words in omega arith in rw (getD-within (st .words) t none 0 b) (g .fits t h)
       pick (no d) = rw (List·getD-eq-default (st .words) none {n = t} (let z = g .words in omega arith)) (L .none-fits)
 
-  clear-words : (st : State) (i : ℕ) → Words n st → Words n (clear st i)
+  clear-words : (st : State) (i : ℕ) → FitWords n st → FitWords n (clear st i)
   unfolding clear
   clear-words st i g = record { words = g .words; waiting = length-set (st .waiting) i false ∙ g .waiting; fits = g .fits }
 
-  store-words : (st : State) (o : Edge) → List·Memᴰ o es → Words n st → Words n (storeIf true P st o)
+  store-words : (st : State) (o : Edge) → List·Memᴰ o es → FitWords n st → FitWords n (storeIf true P st o)
   unfolding storeIf
   store-words st o m g =
       let b : o .head < length (st .words) = let z = g .words in omega (arith, inside .heads o m) in
@@ -97,14 +97,14 @@ module _ {P : Property} (L : Laws P) (es : List Edge) (n : ℕ) (inside : Within
             (at-set (st .words) (o .head) (along (word P (st .words) (o .tail)) (o .weight)) t 0 b);
       }
 
-  handle-words : (st : State) (i : ℕ) → Words n st → Words n (handle P es st i)
+  handle-words : (st : State) (i : ℕ) → FitWords n st → FitWords n (handle P es st i)
   unfolding handle
-  handle-words st i g = relaxes-keep P (Words n) (leaving i es) (λ a o m c q. store-words a o ((leaving-in i es o m) .0) q) (clear st i) (clear-words st i g)
+  handle-words st i g = relaxes-keep P (FitWords n) (leaving i es) (λ a o m c q. store-words a o ((leaving-in i es o m) .0) q) (clear st i) (clear-words st i g)
 
   -- a schedule leaves words of 32 bits
-  pub pass-words : (vs : List ℕ) (st : State) → Words n st → Words n (pass P es vs st)
+  pub pass-words : (vs : List ℕ) (st : State) → FitWords n st → FitWords n (pass P es vs st)
   pass-words vs st g =
-      pass-keeps P es (Words n) handle-words (λ a q. record { words = q .words; waiting = q .waiting; fits = q .fits }) vs st g
+      pass-keeps P es (FitWords n) handle-words (λ a q. record { words = q .words; waiting = q .waiting; fits = q .fits }) vs st g
 
   -- ---- one store
 
@@ -151,7 +151,7 @@ module _ {P : Property} (L : Laws P) (es : List Edge) (n : ℕ) (inside : Within
   -- ---- one round
 
   pub record Deep (k i : ℕ) (st : State) : Type 0 where
-    pub sized : Words n st
+    pub sized : FitWords n st
     pub each : (v : ℕ) → waits st v ≡ true → Caused P es n (st .words) (suc k) v ⊎ ((i ≤ v) × Caused P es n (st .words) k v)
 
   pub record Going (k i : ℕ) (st : State) : Type 0 where
@@ -230,7 +230,7 @@ module _ {P : Property} (L : Laws P) (es : List Edge) (n : ℕ) (inside : Within
   visits-deep k i (suc m) st g = let e : i + suc m ≡ suc i + m = omega arith in rw e (visits-deep k (suc i) m (visit P es st i) (visit-deep k i st g))
 
   -- a vertex that waits is one of the n
-  waits-below : (st : State) → Words n st → (v : ℕ) → waits st v ≡ true → v < n
+  waits-below : (st : State) → FitWords n st → (v : ℕ) → waits st v ≡ true → v < n
   waits-below st g v w = pick (decLt v n)
     where
       pick : Dec (v < n) → v < n
@@ -251,7 +251,7 @@ module _ {P : Property} (L : Laws P) (es : List Edge) (n : ℕ) (inside : Within
   -- ---- n rounds
 
   -- every vertex is a chain of one
-  start-deep : (st : State) → Words n st → Deep 0 0 st
+  start-deep : (st : State) → FitWords n st → Deep 0 0 st
   start-deep st g = record { sized = g; each = λ v w. inr (omega arith, alone v (waits-below st g v w)) }
     where
       alone : (v : ℕ) → v < n → Caused P es n (st .words) 0 v
@@ -282,7 +282,7 @@ module _ {P : Property} (L : Laws P) (es : List Edge) (n : ℕ) (inside : Within
   -- Follow each store back to the handling that caused it, and that to the store by which its vertex waited. In such a chain words get no
   -- better from one vertex to the next, as going along never betters, and a store only betters the word of a vertex that is not in the
   -- chain. So no vertex stands twice in it. What still waits after n rounds would be the end of a chain of more than n vertices.
-  pub settle-rests : (st : State) → Words n st → anyOf ((settle P es n n st) .waiting) ≡ false
+  pub settle-rests : (st : State) → FitWords n st → anyOf ((settle P es n n st) .waiting) ≡ false
   settle-rests st g = pick (anyOf ((settle P es n n st) .waiting)) refl
     where
       no-more : {k v : ℕ} → n ≤ k → Caused P es n ((settle P es n n st) .words) k v → ⊥

@@ -18,7 +18,7 @@ use Rattle.graph.specs.Route.{Best}
 use Rattle.graph.proofs.Lists.{at-set, getD-within, replicate-at, length-table, table-at}
 use Rattle.graph.proofs.Order.{Within}
 use Rattle.run.specs.Run.{word}
-use Rattle.theory.specs.Rest.{Words}
+use Rattle.theory.specs.Rest.{FitWords}
 use Rattle.run.specs.Start.{Landmark, bound, opened, asked}
 use Rattle.theory.proofs.Value.{value-fits}
 use Rattle.theory.proofs.Query.{by}
@@ -35,7 +35,7 @@ best-fits L es s n inside b = ⊎-elim (value-fits L es s n inside) (λ c. rw (c
 alone-length : (n s : ℕ) → length (set (replicate n false) s true) ≡ n
 alone-length n s = length-set (replicate n false) s true ∙ length-replicate n false
 
-pub opened-words : {P : Property} (L : Laws P) (n s : ℕ) → Words n (opened P n s)
+pub opened-words : {P : Property} (L : Laws P) (n s : ℕ) → FitWords n (opened P n s)
 unfolding opened
 opened-words {P = P} L n s = record {
   words = length-set (replicate n (P .none)) s (P .start) ∙ length-replicate n (P .none);
@@ -67,7 +67,7 @@ module _ {P : Property} (L : Laws P) (J : Joins P) where
       let d = h l (List·Memᴰ·head refl) in
       cond-fits (P .better (by P l t) (bound P ls t)) _ _ (J .join-fits _ _ (d .into) (d .row t)) (bound-fits ls (λ x m. h x (List·Memᴰ·tail m)) t)
 
-  pub asked-words : (ls : List Landmark) → ((l : Landmark) → List·Memᴰ l ls → Told P l) → (n s : ℕ) → Words n (asked P ls n s)
+  pub asked-words : (ls : List Landmark) → ((l : Landmark) → List·Memᴰ l ls → Told P l) → (n s : ℕ) → FitWords n (asked P ls n s)
   unfolding asked
   asked-words ls h n s = record {
     words = length-table _ 0 n;

@@ -1,6 +1,6 @@
--- Runs end: document 02, Twelve. Assumes nothing.
+-- Runs end, whatever words they start from: document 01, "Rounds go on while any waits" and number 13. Assumes nothing.
 --
---   Words n st            == n words of 32 bits and n waiting bits, whatever they are
+--   FitWords n st         == n words of 32 bits and n waiting bits, whatever they are
 --   NothingWaits          == whatever the words, and whoever waits, nothing waits after n rounds
 --   NothingWaitsOn        == nor where a schedule went before them
 --   AllRounds             == so at most n rounds are all the rounds that document 01 asks for
@@ -16,20 +16,19 @@ use Rattle.graph.specs.Within.{Within}
 use Rattle.run.specs.Run.{State, pass, settle}
 use Rattle.run.specs.Rounds.{Rounds}
 
--- "whatever the .. standing words": any that a list of 32-bit words holds
-pub record Words (n : ℕ) (st : State) : Type 0 where
+-- any words that a list of 32-bit words holds
+pub record FitWords (n : ℕ) (st : State) : Type 0 where
   pub words : length (st .words) ≡ n
   pub waiting : length (st .waiting) ≡ n
   pub fits : (t : ℕ) → t < n → getD (st .words) t 0 ≤ M
 
--- "nothing waits after n rounds": of the sound table only `Within` is used
+-- of a table only `Within` is used
 abbrev pub NothingWaits : Type 0
-NothingWaits = (p n : ℕ) (es : List Edge) (st : State) → Within n es → Words n st → anyOf ((settle (property p) es n n st) .waiting) ≡ false
+NothingWaits = (p n : ℕ) (es : List Edge) (st : State) → Within n es → FitWords n st → anyOf ((settle (property p) es n n st) .waiting) ≡ false
 
--- "whatever the .. pick list"
 abbrev pub NothingWaitsOn : Type 0
-NothingWaitsOn = (p n : ℕ) (es : List Edge) (vs : List ℕ) (st : State) → Within n es → Words n st
+NothingWaitsOn = (p n : ℕ) (es : List Edge) (vs : List ℕ) (st : State) → Within n es → FitWords n st
     → anyOf ((settle (property p) es n n (pass (property p) es vs st)) .waiting) ≡ false
 
 abbrev pub AllRounds : Type 0
-AllRounds = (p n : ℕ) (es : List Edge) (st : State) → Within n es → Words n st → Rounds (property p) es n st (settle (property p) es n n st)
+AllRounds = (p n : ℕ) (es : List Edge) (st : State) → Within n es → FitWords n st → Rounds (property p) es n st (settle (property p) es n n st)
