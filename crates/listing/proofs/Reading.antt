@@ -21,8 +21,8 @@ use Rattle.dimacs.specs.Claims.{Table}
 use Rattle.dimacs.proofs.Network as networks
 use Rattle.dimacs.proofs.Theorems.{network-tables}
 use Rattle.dimacs.proofs.Written.{read-call}
-use Rattle.reader.specs.declared.network.ReadReply.{ReadReply}
-use Rattle.reader.specs.declared.network.ReadReply.the-variants as graphs
+use Rattle.reader.specs.declared.network_text.ReadReply.{ReadReply}
+use Rattle.reader.specs.declared.network_text.ReadReply.the-variants as graphs
 use Rattle.reader.specs.NetworkCode as graph
 use Rattle.reader.specs.declared.sources.SourcesReply.{SourcesReply}
 use Rattle.reader.specs.declared.sources.SourcesReply.the-variants as lists

@@ -39,8 +39,8 @@ use Rattle.dimacs.specs.Network.{readNetwork}
 use Rattle.dimacs.specs.Sources.{readSources}
 use Rattle.dimacs.specs.Call.{filled, vertexCount, edgesRead, sourcesRead}
 use Rattle.dimacs.specs.Claims.{Table}
-use Rattle.reader.specs.declared.network.ReadReply.{ReadReply}
-use Rattle.reader.specs.declared.network.ReadReply.the-variants as graphs
+use Rattle.reader.specs.declared.network_text.ReadReply.{ReadReply}
+use Rattle.reader.specs.declared.network_text.ReadReply.the-variants as graphs
 use Rattle.reader.specs.declared.sources.SourcesReply.{SourcesReply}
 use Rattle.reader.specs.declared.sources.SourcesReply.the-variants as sources
 use Rattle.listing.specs.declared.parts.Prepared.{Prepared}

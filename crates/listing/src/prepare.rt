@@ -4,7 +4,7 @@ use graph::Judged;
 use graph::words;
 use inspect::Choice;
 use inspect::choose;
-use reader::network::ReadReply;
+use reader::network_text::ReadReply;
 use reader::sources::SourcesReply;
 ghost use mathlib.Core.Path.{_≡_};
 ghost use mathlib.Core.List.{List};
@@ -69,7 +69,7 @@ fn read_graph(gr: &[u8], tails: &mut [u32], heads: &mut [u32], weights: &mut [u3
     words::fill(tails, 0);
     words::fill(heads, 0);
     words::fill(weights, 0);
-    reader::network::read_network(gr, tails, heads, weights)
+    reader::network_text::read_network(gr, tails, heads, weights)
 }
 
 // A source file of at most `MAX_FILE` bytes.

@@ -224,7 +224,7 @@ pub extern "C" fn plate_track_read(
     if reply.len() < REPLY_WORDS {
         return 2;
     }
-    let r = reader::network::read_network(text, tails, heads, weights);
+    let r = reader::network_text::read_network(text, tails, heads, weights);
     spell::spell_read(r, reply)
 }
 
@@ -244,7 +244,7 @@ pub extern "C" fn plate_track_write(
     if reply.len() < REPLY_WORDS {
         return 2;
     }
-    let r = writer::network::write_network(n, tails, heads, weights, count, text);
+    let r = writer::network_text::write_network(n, tails, heads, weights, count, text);
     spell::spell_write(r, reply)
 }
 

@@ -23,16 +23,16 @@ use Rattle.graph.specs.Code.{Room, columns}
 use Rattle.dimacs.specs.Read.{Read, good, bad}
 use Rattle.dimacs.specs.Network as net
 use Rattle.dimacs.specs.Call.{Size}
-use Rattle.reader.specs.declared.network.Said.{Said}
-use Rattle.reader.specs.declared.network.Said.the-variants as said
-use Rattle.reader.specs.declared.network.State.{State}
-use Rattle.reader.specs.declared.network.State.the-variants as state
-use Rattle.reader.specs.declared.network.Step.{Step}
-use Rattle.reader.specs.declared.network.Step.the-variants as step
-use Rattle.reader.specs.declared.network.Text.{Text}
-use Rattle.reader.specs.declared.network.Text.the-variants as text
-use Rattle.reader.specs.declared.network.ReadReply.{ReadReply}
-use Rattle.reader.specs.declared.network.ReadReply.the-variants as reply
+use Rattle.reader.specs.declared.network_text.Said.{Said}
+use Rattle.reader.specs.declared.network_text.Said.the-variants as said
+use Rattle.reader.specs.declared.network_text.State.{State}
+use Rattle.reader.specs.declared.network_text.State.the-variants as state
+use Rattle.reader.specs.declared.network_text.Step.{Step}
+use Rattle.reader.specs.declared.network_text.Step.the-variants as step
+use Rattle.reader.specs.declared.network_text.Text.{Text}
+use Rattle.reader.specs.declared.network_text.Text.the-variants as text
+use Rattle.reader.specs.declared.network_text.ReadReply.{ReadReply}
+use Rattle.reader.specs.declared.network_text.ReadReply.the-variants as reply
 
 abbrev pub itemSaid : Said → Option net.Item
 itemSaid (said.Problem n m) = some (net.problem n m)

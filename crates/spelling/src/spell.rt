@@ -5,7 +5,7 @@ use inspect::Checked;
 use inspect::Chosen;
 use open::Opened;
 use query::Answered;
-use reader::network::ReadReply;
+use reader::network_text::ReadReply;
 use reader::sources::SourcesReply;
 use writer::WriteReply;
 ghost use mathlib.Core.Path.{_≡_};

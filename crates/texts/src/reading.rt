@@ -1,8 +1,8 @@
 // A reading of network text or of a source file into lent lists, held to its reply and to every word.
 use model::lists;
 use model::score::Score;
-use reader::network;
-use reader::network::ReadReply;
+use reader::network_text;
+use reader::network_text::ReadReply;
 use reader::sources;
 use reader::sources::SourcesReply;
 
@@ -70,7 +70,7 @@ fn read_lent(
     let x = lists::cap(t, tails.len());
     let y = lists::cap(h, heads.len());
     let z = lists::cap(w, weights.len());
-    told(network::read_network(text, &mut tails[0..x], &mut heads[0..y], &mut weights[0..z]))
+    told(network_text::read_network(text, &mut tails[0..x], &mut heads[0..y], &mut weights[0..z]))
 }
 
 // Network text that is refused by lists of these lengths: every word stays.

@@ -6,7 +6,7 @@ use model::lent::Network;
 use model::lists;
 use model::score::Score;
 use writer::WriteReply;
-use writer::network;
+use writer::network_text;
 
 // A reply: number and place of a refusal, or the length, with number 0.
 pub struct Writing {
@@ -48,7 +48,7 @@ pub fn write(
     room: usize,
 ) -> Writing {
     let x = lists::cap(room, out.len());
-    told(network::write_network(n, tails, heads, weights, count, &mut out[0..x]))
+    told(network_text::write_network(n, tails, heads, weights, count, &mut out[0..x]))
 }
 
 // A writing with the parts of the lists that a network lends.

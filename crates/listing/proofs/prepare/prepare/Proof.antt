@@ -5,7 +5,7 @@ use mathlib.Core.Path.{refl, ap, _∙_}
 use Prim.Native.Nat.{ℕ, _≤_}
 use Rattle.graph.specs.Limits.{maxVertices}
 use Rattle.graph.proofs.Judging.{size-accept}
-use Rattle.reader.specs.declared.network.ReadReply.the-variants as graphs
+use Rattle.reader.specs.declared.network_text.ReadReply.the-variants as graphs
 use Rattle.dimacs.specs.Network.{readNetwork}
 use Rattle.dimacs.specs.Sources.{readSources}
 use Rattle.dimacs.specs.Call.{edgesRead, sourcesRead}

@@ -1,0 +1,37 @@
+-- `writer::network_text::arc_width` meets its contract. Assumes nothing.
+use borrow.Author.Needs.{needs}
+use native.Mathlib.Omega.{arith}
+use mathlib.Core.Path.{sym, ap, _∙_}
+use mathlib.Core.List.{[], _∷_}
+use Prim.Native.Nat.{_+_}
+use lib.ListN.{length}
+use Rattle.dimacs.specs.Lines.{fieldsOf}
+use Rattle.dimacs.specs.Network.{arcMark}
+use Rattle.writer.proofs.Text.{arc-fields, line-length}
+use Rattle.writer.proofs.network_text.arc_width.Statement.{statement}
+use Rattle.writer.proofs.network_text.arc_width.Tie as tie
+
+add-t7 : tie.Need-add-t7
+add-t7 c = search needs
+
+add-t9 : tie.Need-add-t9
+add-t9 c = search needs
+
+slice-aggregate-fields-width : tie.Need-slice-aggregate-fields-width
+slice-aggregate-fields-width c = search needs
+
+fields-width-requires : tie.Need-fields-width-requires
+fields-width-requires c κs = search needs
+
+add-result : tie.Need-add-result
+add-result c = omega (arith, c .fields-width .ensures .1)
+
+returns : tie.Need-returns
+returns c =
+    let a = c .before .before .args in
+    (line-length arcMark (fieldsOf ((a .t + 1) ∷ (a .h + 1) ∷ a .w ∷ [])) _ (c .fields-width .ensures .0) ∙ sym (ap length (arc-fields (a .t) (a .h) (a .w))), omega (arith, c .fields-width .ensures .1))
+
+pub arc-width-spec : {M : Type 1} → statement M
+arc-width-spec =
+    tie.close
+    (tie.spec add-t7 add-t9 slice-aggregate-fields-width fields-width-requires add-result returns)

@@ -1,0 +1,87 @@
+-- `writer::network_text::arcs_width` meets its contract: the lines below k are summed. Assumes nothing.
+use borrow.Author.Needs.{needs}
+use native.Mathlib.Omega.{arith}
+use mathlib.Core.Path.{_≡_}
+use Prim.Native.Nat.{_+_, _*_, _-_, _≤_}
+use lib.ListN.{length, drop}
+use Rattle.graph.specs.Edge.{edges}
+use Rattle.writer.specs.Code.{arcsOf}
+use Rattle.writer.proofs.Text.{arcs-sum, arcs-all}
+use Rattle.writer.proofs.network_text.arcs_width.Statement.{statement}
+use Rattle.writer.proofs.network_text.arcs_width.Tie as tie
+
+abbrev Inv-loop : tie.InvT-loop
+Inv-loop tails heads weights count sum₀ k₀ sum k =
+    (sum + length (arcsOf (drop k (edges tails heads weights count))) ≡ length (arcsOf (edges tails heads weights count))) × (sum ≤ 65 * k) × (k ≤ count)
+
+abbrev μ-loop : tie.MeasureT-loop
+μ-loop tails heads weights count sum₀ k₀ sum k = count - k
+
+loop-holds : tie.Need-loop-holds Inv-loop μ-loop
+loop-holds c = (omega arith, omega arith, omega arith)
+
+mul-arc-width : tie.Need-mul-arc-width Inv-loop μ-loop
+mul-arc-width c = search needs
+
+shared-slice-read-arc-width : tie.Need-shared-slice-read-arc-width Inv-loop μ-loop
+shared-slice-read-arc-width c = omega arith
+
+mul-arc-width-2 : tie.Need-mul-arc-width-2 Inv-loop μ-loop
+mul-arc-width-2 c = search needs
+
+shared-slice-read-arc-width-2 : tie.Need-shared-slice-read-arc-width-2 Inv-loop μ-loop
+shared-slice-read-arc-width-2 c = omega arith
+
+mul-arc-width-3 : tie.Need-mul-arc-width-3 Inv-loop μ-loop
+mul-arc-width-3 c = search needs
+
+shared-slice-read-arc-width-3 : tie.Need-shared-slice-read-arc-width-3 Inv-loop μ-loop
+shared-slice-read-arc-width-3 c = omega arith
+
+arc-width-requires : tie.Need-arc-width-requires Inv-loop μ-loop
+arc-width-requires c κs = search needs
+
+add-sum : tie.Need-add-sum Inv-loop μ-loop
+add-sum c = omega (arith, c .arc-width .ensures .1)
+
+add-k : tie.Need-add-k Inv-loop μ-loop
+add-k c = search needs
+
+loop-less : tie.Need-loop-less Inv-loop μ-loop
+loop-less c = search needs
+
+loop-again : tie.Need-loop-again Inv-loop μ-loop
+loop-again c =
+    let l = c .before .before .before .before .before in
+    let s = l .before .before .before .before in (
+      arcs-sum (s .args .tails .now) (s .args .heads .now) (s .args .weights .now) (s .args .count) (s .pre .1) (l .loop .k) (l .loop .sum) _ _ (omega arith)
+          (c .arc-width .ensures .0) (l .loop .inv .0),
+      omega (arith, c .arc-width .ensures .1),
+      omega arith,
+    )
+
+returns : tie.Need-returns Inv-loop μ-loop
+returns c =
+    let l = c .before in
+    let s = l .before .before .before .before in
+    (arcs-all (s .args .tails .now) (s .args .heads .now) (s .args .weights .now) (s .args .count) (s .pre .1) (l .loop .k) (l .loop .sum) _ (omega arith) (l .loop .inv .0), omega arith)
+
+pub arcs-width-spec : {M : Type 1} → statement M
+arcs-width-spec =
+    tie.close
+    (tie.spec
+    Inv-loop
+    μ-loop
+    loop-holds
+    mul-arc-width
+    shared-slice-read-arc-width
+    mul-arc-width-2
+    shared-slice-read-arc-width-2
+    mul-arc-width-3
+    shared-slice-read-arc-width-3
+    arc-width-requires
+    add-sum
+    add-k
+    loop-less
+    loop-again
+    returns)

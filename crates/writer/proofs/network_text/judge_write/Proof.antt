@@ -1,0 +1,60 @@
+-- `writer::network_text::judge_write` meets its contract: one refusal after the other. Assumes nothing.
+use borrow.Author.Needs.{needs}
+use Rattle.graph.proofs.Judging.{lengths-accept, then-refused, then-judged, fine-accept}
+use Rattle.writer.proofs.network_text.judge_write.Statement.{statement}
+use Rattle.writer.proofs.network_text.judge_write.Tie as tie
+
+judge-size-requires : tie.Need-judge-size-requires
+judge-size-requires c κs = search needs
+
+enum-told : tie.Need-enum-told
+enum-told c = search needs
+
+enum-told-2 : tie.Need-enum-told-2
+enum-told-2 c = search needs
+
+returns : tie.Need-returns
+returns c = then-refused _ _ _ _ _ (c .before .before .judge-size .ensures) (c .enum-told2 .given .1)
+
+judge-lengths-requires : tie.Need-judge-lengths-requires
+judge-lengths-requires c κs = search needs
+
+enum-told-3 : tie.Need-enum-told-3
+enum-told-3 c = search needs
+
+enum-told-4 : tie.Need-enum-told-4
+enum-told-4 c = search needs
+
+returns-2 : tie.Need-returns-2
+returns-2 c =
+    let l = c .before .before in
+    let s = l .before in
+    then-judged _ _ _ _ (s .before .before .judge-size .ensures) (s .enum-told .given .1) (then-refused _ _ _ _ _ (l .judge-lengths .ensures) (c .enum-told4 .given .1))
+
+judge-table-requires : tie.Need-judge-table-requires
+judge-table-requires c κs =
+    let l = c .before .before in
+    lengths-accept _ _ _ (fine-accept _ _ (l .judge-lengths .ensures) (c .enum-told3 .given .1))
+
+returns-3 : tie.Need-returns-3
+returns-3 c =
+    let t = c .before in
+    let l = t .before .before in
+    let s = l .before in
+    then-judged _ _ _ _ (s .before .before .judge-size .ensures) (s .enum-told .given .1)
+    (then-judged _ _ _ _ (l .judge-lengths .ensures) (t .enum-told3 .given .1) (c .judge-table .ensures))
+
+pub judge-write-spec : {M : Type 1} → statement M
+judge-write-spec =
+    tie.close
+    (tie.spec
+    judge-size-requires
+    enum-told
+    enum-told-2
+    returns
+    judge-lengths-requires
+    enum-told-3
+    enum-told-4
+    returns-2
+    judge-table-requires
+    returns-3)

@@ -1,0 +1,97 @@
+-- `writer::network_text::put_arcs` meets its contract: the lines from k on are still to be put. Assumes nothing.
+use borrow.Author.Needs.{needs}
+use native.Mathlib.Omega.{arith}
+use Prim.Native.Nat.{_+_, _-_, _≤_}
+use lib.ListN.{drop}
+use Rattle.graph.specs.Edge.{edges}
+use Rattle.graph.specs.Code.{edgeAt}
+use Rattle.writer.specs.Code.{arcsOf}
+use Rattle.writer.proofs.Laid.{Pending, pending-start, pending-fits, pending-turn, pending-done}
+use Rattle.writer.proofs.Text.{arcLine, arcs-more, arcs-none}
+use Rattle.writer.proofs.network_text.put_arcs.Statement.{statement}
+use Rattle.writer.proofs.network_text.put_arcs.Tie as tie
+
+abbrev Inv-loop : tie.InvT-loop
+Inv-loop tails heads weights count at out₀ end₀ k₀ out end k =
+    Pending (arcsOf (edges tails heads weights count)) at out₀ (arcsOf (drop k (edges tails heads weights count))) end out × (k ≤ count)
+
+abbrev μ-loop : tie.MeasureT-loop
+μ-loop tails heads weights count at out₀ end₀ k₀ out end k = count - k
+
+loop-holds : tie.Need-loop-holds Inv-loop μ-loop
+loop-holds c = (pending-start (c .before .before .before .before .pre .1), omega arith)
+
+mul-put-arc : tie.Need-mul-put-arc Inv-loop μ-loop
+mul-put-arc c = search needs
+
+shared-slice-read-put-arc : tie.Need-shared-slice-read-put-arc Inv-loop μ-loop
+shared-slice-read-put-arc c = search needs
+
+mul-put-arc-2 : tie.Need-mul-put-arc-2 Inv-loop μ-loop
+mul-put-arc-2 c = search needs
+
+shared-slice-read-put-arc-2 : tie.Need-shared-slice-read-put-arc-2 Inv-loop μ-loop
+shared-slice-read-put-arc-2 c = search needs
+
+mul-put-arc-3 : tie.Need-mul-put-arc-3 Inv-loop μ-loop
+mul-put-arc-3 c = search needs
+
+shared-slice-read-put-arc-3 : tie.Need-shared-slice-read-put-arc-3 Inv-loop μ-loop
+shared-slice-read-put-arc-3 c = search needs
+
+put-arc-requires : tie.Need-put-arc-requires Inv-loop μ-loop
+put-arc-requires c κs =
+    let l = c .before .before .before .before .before in
+    let s = l .before .before .before .before .before in
+    let a = s .args in
+    pending-fits (l .loop .inv .0) (arcLine (edgeAt (a .tails .now) (a .heads .now) (a .weights .now) (l .loop .k)))
+    (arcsOf (drop (l .loop .k + 1) (edges (a .tails .now) (a .heads .now) (a .weights .now) (a .count))))
+    (arcs-more (a .tails .now) (a .heads .now) (a .weights .now) (a .count) (s .pre .0) (l .loop .k) (omega arith))
+
+add-k : tie.Need-add-k Inv-loop μ-loop
+add-k c = search needs
+
+loop-less : tie.Need-loop-less Inv-loop μ-loop
+loop-less c = search needs
+
+loop-again : tie.Need-loop-again Inv-loop μ-loop
+loop-again c =
+    let p = c .before .before in
+    let l = p .before .before .before .before .before .before in
+    let s = l .before .before .before .before .before in
+    let a = s .args in (
+      pending-turn (l .loop .inv .0) (arcLine (edgeAt (a .tails .now) (a .heads .now) (a .weights .now) (l .loop .k)))
+          (arcsOf (drop (l .loop .k + 1) (edges (a .tails .now) (a .heads .now) (a .weights .now) (a .count))))
+          (arcs-more (a .tails .now) (a .heads .now) (a .weights .now) (a .count) (s .pre .0) (l .loop .k) (omega arith))
+          (p .put-arc .ensures),
+      omega arith,
+    )
+
+same-length : tie.Need-same-length Inv-loop μ-loop
+same-length c = c .before .loop .inv .0 .same
+
+returns : tie.Need-returns Inv-loop μ-loop
+returns c =
+    let l = c .before in
+    let s = l .before .before .before .before .before in
+    pending-done (l .loop .inv .0) (arcs-none (s .args .tails .now) (s .args .heads .now) (s .args .weights .now) (s .args .count) (s .pre .0) (l .loop .k) (omega arith))
+
+pub put-arcs-spec : {M : Type 1} → statement M
+put-arcs-spec =
+    tie.close
+    (tie.spec
+    Inv-loop
+    μ-loop
+    loop-holds
+    mul-put-arc
+    shared-slice-read-put-arc
+    mul-put-arc-2
+    shared-slice-read-put-arc-2
+    mul-put-arc-3
+    shared-slice-read-put-arc-3
+    put-arc-requires
+    add-k
+    loop-less
+    loop-again
+    same-length
+    returns)

@@ -1,0 +1,138 @@
+-- `writer::network_text::write_network` meets its contract: judged, measured, and written from the start of the buffer. Assumes nothing.
+use borrow.Author.Needs.{needs}
+use native.Mathlib.Omega.{arith}
+use mathlib.Core.Path.{_≡_, ap}
+use mathlib.Core.List.{List, _++_}
+use Prim.Native.Nat.{ℕ, _+_}
+use lib.ListN.{length, length-append}
+use Rattle.graph.proofs.Judging.{fine-accept}
+use Rattle.graph.specs.Refusal.{accept}
+use Rattle.graph.specs.Edge.{edges}
+use Rattle.graph.specs.Table.{Columns}
+use Rattle.graph.specs.Code.{columns}
+use Rattle.dimacs.specs.Network.{written}
+use Rattle.writer.specs.Code.{arcsOf, Fits}
+use Rattle.writer.proofs.Laid.{Pending, pending-start, pending-fits, pending-turn, pending-last}
+use Rattle.writer.proofs.Text.{problemLine, written-lines}
+use Rattle.writer.proofs.Writing.{judgedWrite, Writable, write-accept, write-refused, write-short, write-accepted, wrote-over}
+use Rattle.writer.proofs.network_text.write_network.Statement.{statement}
+use Rattle.writer.proofs.network_text.write_network.Tie as tie
+
+abbrev begin : tie.After-judge-write → tie.Start
+begin j = j .before .before .before .before .before
+
+abbrev table : tie.Start → Columns
+table s = columns (s .args .tails .now) (s .args .heads .now) (s .args .weights .now)
+
+abbrev text : tie.Start → List ℕ
+text s = written (s .args .n) (edges (s .args .tails .now) (s .args .heads .now) (s .args .weights .now) (s .args .count))
+
+abbrev arcs : tie.Start → List ℕ
+arcs s = arcsOf (edges (s .args .tails .now) (s .args .heads .now) (s .args .weights .now) (s .args .count))
+
+-- numbers 1, 2 of the table's lists and 4 do not apply
+fine : (c : tie.After-enum-told) → let s = begin (c .before .before) in judgedWrite (s .args .n) (table s) (s .args .count) ≡ accept
+fine c = fine-accept _ _ (c .before .before .judge-write .ensures) (c .enum-told .given .1)
+
+writable : (c : tie.After-enum-told) → let a = begin (c .before .before) .args in Writable (a .n) (a .tails .now) (a .heads .now) (a .weights .now) (a .count)
+writable c =
+    let a = begin (c .before .before) .args in
+    write-accept (a .n) (a .tails .now) (a .heads .now) (a .weights .now) (a .count) (fine c)
+
+lines : (c : tie.After-enum-told) → let s = begin (c .before .before) in text s ≡ problemLine (s .args .n) (s .args .count) ++ arcs s
+lines c =
+    let a = begin (c .before .before) .args in
+    written-lines (a .n) (a .tails .now) (a .heads .now) (a .weights .now) (a .count) (writable c .room)
+
+-- the length that is measured is the text's
+whole : (c : tie.After-arcs-width) → c .before .problem-width .result + c .arcs-width .result ≡ length (text (begin (c .before .before .before .before)))
+whole c =
+    let e = c .before .before in
+    let s = begin (e .before .before) in
+    omega (arith, ap length (lines e), length-append (problemLine (s .args .n) (s .args .count)) (arcs s), c .before .problem-width .ensures .0, c .arcs-width .ensures .0)
+
+room : (c : tie.Else1) → let s = begin (c .before .before .before .before .before) in Fits (text s) 0 (s .args .text .now)
+room c = record { room = omega (arith, whole (c .before)) }
+
+after-problem : (c : tie.After-put-problem) →
+    let s = begin (c .before .before .before .before .before .before .before) in
+    Pending (text s) 0 (s .args .text .now) (arcs s) (c .put-problem .result) (c .put-problem .last .1 .1 .1 .0)
+after-problem c =
+    let i = c .before .before in
+    let s = begin (i .before .before .before .before .before) in
+    pending-turn (pending-start (room i)) (problemLine (s .args .n) (s .args .count)) (arcs s) (lines (i .before .before .before)) (c .put-problem .ensures)
+
+judge-write-requires : tie.Need-judge-write-requires
+judge-write-requires c κs = search needs
+
+enum-known-judged : tie.Need-enum-known-judged
+enum-known-judged c = search needs
+
+returns : tie.Need-returns
+returns c =
+    let j = c .before .before .before in
+    let a = begin j .args in
+    write-refused (a .n) (table (begin j)) (a .count) (a .text .now) _ _ _ (j .judge-write .ensures) (c .before .judged .given .1)
+
+enum-told : tie.Need-enum-told
+enum-told c = search needs
+
+problem-width-requires : tie.Need-problem-width-requires
+problem-width-requires c κs = search needs
+
+arcs-width-requires : tie.Need-arcs-width-requires
+arcs-width-requires c κs =
+    let w = writable (c .before) in
+    (w .count, w .room)
+
+add-length : tie.Need-add-length
+add-length c =
+    let w = writable (c .before .before) in
+    omega (arith, w .count, c .before .problem-width .ensures .1, c .arcs-width .ensures .1)
+
+returns-2 : tie.Need-returns-2
+returns-2 c =
+    let e = c .before .before .before in
+    let s = begin (e .before .before) in
+    write-short (s .args .n) (table s) (s .args .count) (s .args .text .now) (fine e) (omega (arith, whole (c .before)))
+
+put-problem-requires : tie.Need-put-problem-requires
+put-problem-requires c κs =
+    let s = begin (c .before .before .before .before .before .before) in
+    pending-fits (pending-start (room (c .before))) (problemLine (s .args .n) (s .args .count)) (arcs s) (lines (c .before .before .before .before))
+
+put-arcs-requires : tie.Need-put-arcs-requires
+put-arcs-requires c κs =
+    let p = c .before .before .before in
+    (writable (p .before .before .before .before .before) .room, after-problem p .fits)
+
+same-length : tie.Need-same-length
+same-length c = search needs
+
+returns-3 : tie.Need-returns-3
+returns-3 c =
+    let b = c .before .before in
+    let p = b .before .before .before .before in
+    let i = p .before .before in
+    let e = i .before .before .before in
+    let s = begin (e .before .before) in
+    let w = whole (i .before) in
+    write-accepted (s .args .n) (table s) (s .args .count) (s .args .text .now) _ _ (fine e) (omega (arith, w)) w
+    (wrote-over (pending-last (after-problem p) (b .put-arcs .ensures)))
+
+pub write-network-spec : {M : Type 1} → statement M
+write-network-spec =
+    tie.close
+    (tie.spec
+    judge-write-requires
+    enum-known-judged
+    returns
+    enum-told
+    problem-width-requires
+    arcs-width-requires
+    add-length
+    returns-2
+    put-problem-requires
+    put-arcs-requires
+    same-length
+    returns-3)
