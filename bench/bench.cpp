@@ -1,170 +1,18 @@
 // Times of the calls beside the same rounds in plain Rust (plain.rs) and Boost.Graph, on the same networks in the same process. Every
-// result that is timed is compared first. Usage: bench [REPEATS]; bench once WHAT runs one alone, to count instructions: open, plain,
-// boost, batch1, batch10, batch100, read, readany, readplain, readanyplain, write, writeplain.
-#include "plate_track.h"
+// result that is timed is compared first. Usage: bench [REPEATS]; bench boost WHAT runs Boost alone, to count instructions:
+// rows, query1 to query5.
+#include "network.h"
 
 #include <boost/graph/breadth_first_search.hpp>
 #include <boost/graph/compressed_sparse_row_graph.hpp>
 #include <boost/graph/dijkstra_shortest_paths.hpp>
 
-#include <algorithm>
 #include <chrono>
 #include <cstdio>
-#include <cstdlib>
 #include <cstring>
 #include <functional>
-#include <set>
-#include <string>
-#include <vector>
-
-extern "C" void plain_open(uint32_t n, const uint32_t *landmarks, size_t landmarks_len, const uint32_t *tails, const uint32_t *heads,
-                           const uint32_t *weights, uint32_t count, uint32_t *forward, uint32_t *backward);
-
-extern "C" uint32_t plain_read(const uint8_t *text, size_t text_len, uint32_t *tails, uint32_t *heads, uint32_t *weights);
-extern "C" size_t plain_write(uint32_t n, const uint32_t *tails, const uint32_t *heads, const uint32_t *weights, uint32_t count, uint8_t *text,
-                              size_t text_len);
 
 namespace {
-
-const uint32_t M = UINT32_MAX;
-
-struct Random {
-    uint64_t state;
-    uint64_t next()
-    {
-        uint64_t z = (state += 0x9e3779b97f4a7c15u);
-        z = (z ^ (z >> 30)) * 0xbf58476d1ce4e5b9u;
-        z = (z ^ (z >> 27)) * 0x94d049bb133111ebu;
-        return z ^ (z >> 31);
-    }
-    uint32_t below(uint32_t n) { return static_cast<uint32_t>(next() % n); }
-};
-
-struct Network {
-    uint32_t n = 0, count = 0;
-    std::vector<uint32_t> landmarks, tails, heads, weights, forward, backward;
-};
-
-// Random pairs, weights 1 to 1,000; the landmarks are chosen by plate_track_choose.
-Network make(uint32_t n, uint32_t edges, uint64_t seed)
-{
-    Random r{seed};
-    std::set<std::pair<uint32_t, uint32_t>> pairs;
-    while (pairs.size() < edges) {
-        uint32_t t = r.below(n), h = r.below(n);
-        if (t != h)
-            pairs.insert({t, h});
-    }
-    Network w;
-    w.n = n;
-    w.count = edges;
-    for (auto &p : pairs) {
-        w.tails.push_back(p.first);
-        w.heads.push_back(p.second);
-        w.weights.push_back(1 + r.below(1000));
-    }
-    for (auto *list : {&w.tails, &w.heads, &w.weights})
-        list->resize(PLATE_TRACK_MOST_EDGES);
-    uint64_t reply[8];
-    if (plate_track_choose(n, w.tails.data(), w.tails.size(), w.heads.data(), w.heads.size(), w.weights.data(), w.weights.size(), edges, 4, reply, 8))
-        std::abort();
-    w.landmarks.assign(reply + 1, reply + 1 + reply[0]);
-    w.forward.resize(w.landmarks.size() * 5 * n);
-    w.backward.resize(w.landmarks.size() * 5 * n);
-    return w;
-}
-
-void open(Network &w)
-{
-    uint64_t reply[8];
-    if (plate_track_open(w.n, w.landmarks.data(), w.landmarks.size(), w.tails.data(), w.tails.size(), w.heads.data(), w.heads.size(), w.weights.data(),
-                         w.weights.size(), w.count, w.forward.data(), w.forward.size(), w.backward.data(), w.backward.size(), reply, 8))
-        std::abort();
-}
-
-void plain(Network &w)
-{
-    plain_open(w.n, w.landmarks.data(), w.landmarks.size(), w.tails.data(), w.heads.data(), w.weights.data(), w.count, w.forward.data(), w.backward.data());
-}
-
-struct Told {
-    uint64_t taken, rounds, stores;
-};
-
-Told query(const Network &w, uint32_t property, uint32_t source, std::vector<uint32_t> &starts, std::vector<uint32_t> &settled)
-{
-    uint64_t reply[8];
-    if (plate_track_query(w.n, w.landmarks.data(), w.landmarks.size(), w.tails.data(), w.tails.size(), w.heads.data(), w.heads.size(), w.weights.data(),
-                          w.weights.size(), w.count, w.forward.data(), w.forward.size(), w.backward.data(), w.backward.size(), property, source, nullptr, 0,
-                          starts.data(), starts.size(), settled.data(), settled.size(), reply, 8))
-        std::abort();
-    return {reply[0], reply[1], reply[2]};
-}
-
-void batch(Network &w, const std::vector<plate_track_change> &changes)
-{
-    uint64_t reply[8];
-    if (plate_track_batch(w.n, w.landmarks.data(), w.landmarks.size(), w.tails.data(), w.tails.size(), w.heads.data(), w.heads.size(), w.weights.data(),
-                          w.weights.size(), w.count, w.forward.data(), w.forward.size(), w.backward.data(), w.backward.size(), changes.data(), changes.size(),
-                          reply, 8))
-        std::abort();
-    w.count = static_cast<uint32_t>(reply[0]);
-}
-
-// ---- text
-
-using Text = std::vector<uint8_t>;
-
-size_t write(const Network &w, Text &text)
-{
-    uint64_t reply[8];
-    if (plate_track_write(w.n, w.tails.data(), w.tails.size(), w.heads.data(), w.heads.size(), w.weights.data(), w.weights.size(), w.count, text.data(),
-                          text.size(), reply, 8))
-        std::abort();
-    return static_cast<size_t>(reply[0]);
-}
-
-size_t write_plain(const Network &w, Text &text)
-{
-    return plain_write(w.n, w.tails.data(), w.heads.data(), w.weights.data(), w.count, text.data(), text.size());
-}
-
-void read(const Text &text, Network &w)
-{
-    uint64_t reply[8];
-    if (plate_track_read(text.data(), text.size(), w.tails.data(), w.tails.size(), w.heads.data(), w.heads.size(), w.weights.data(), w.weights.size(), reply,
-                         8))
-        std::abort();
-    w.n = static_cast<uint32_t>(reply[0]);
-    w.count = static_cast<uint32_t>(reply[1]);
-}
-
-void read_plain(const Text &text, Network &w)
-{
-    w.count = plain_read(text.data(), text.size(), w.tails.data(), w.heads.data(), w.weights.data());
-}
-
-// The network's text, in table order or its records in any order.
-Text text_of(const Network &w, bool ascending)
-{
-    Text text(PLATE_TRACK_LONGEST_TEXT);
-    text.resize(write(w, text));
-    if (ascending)
-        return text;
-    std::vector<std::string> lines;
-    for (size_t at = 0; at < text.size();) {
-        size_t end = std::find(text.begin() + at, text.end(), '\n') - text.begin() + 1;
-        lines.emplace_back(text.begin() + at, text.begin() + end);
-        at = end;
-    }
-    Random r{11};
-    for (uint32_t i = static_cast<uint32_t>(lines.size()) - 1; i > 1; i--)
-        std::swap(lines[i], lines[1 + r.below(i)]);
-    Text mixed;
-    for (auto &line : lines)
-        mixed.insert(mixed.end(), line.begin(), line.end());
-    return mixed;
-}
 
 // ---- Boost.Graph
 
@@ -245,6 +93,11 @@ extern "C" __attribute__((noinline)) void boost_rows(const void *both, const voi
         }
 }
 
+extern "C" __attribute__((noinline)) void boost_query(const void *network, uint32_t property, uint32_t source, uint32_t *out)
+{
+    boost_row(build(*static_cast<const Network *>(network), false), property, source, out);
+}
+
 namespace {
 
 // ---- time
@@ -273,20 +126,6 @@ void same(const char *what, const std::vector<uint32_t> &a, const std::vector<ui
         std::printf("bench: %s: the results differ\n", what);
         std::exit(1);
     }
-}
-
-// `size` deletes of different edges, and the inserts that undo them.
-std::pair<std::vector<plate_track_change>, std::vector<plate_track_change>> there_and_back(const Network &w, uint32_t size, Random &r)
-{
-    std::set<uint32_t> picked;
-    while (picked.size() < size)
-        picked.insert(r.below(w.count));
-    std::vector<plate_track_change> away, again;
-    for (uint32_t i : picked) {
-        away.push_back({PLATE_TRACK_DELETE, w.tails[i], w.heads[i], 0});
-        again.push_back({PLATE_TRACK_INSERT, w.tails[i], w.heads[i], w.weights[i]});
-    }
-    return {away, again};
 }
 
 void open_times(int repeats, uint32_t n, uint32_t edges)
@@ -413,44 +252,18 @@ void text_times(int repeats, uint32_t n, uint32_t edges)
                 n, edges, bytes / networks, a, b, a / b, c, d, c / d, e, f, e / f);
 }
 
-// Text in or out, once.
-bool text_once(const std::string &what, Network &w)
-{
-    Text out(PLATE_TRACK_LONGEST_TEXT), text = text_of(w, what.compare(0, 7, "readany") != 0);
-    if (what == "read" || what == "readany")
-        read(text, w);
-    else if (what == "readplain" || what == "readanyplain")
-        read_plain(text, w);
-    else if (what == "writeplain")
-        write_plain(w, out);
-    else
-        return what == "write"; // text_of has written once
-    return true;
-}
-
-int once(const std::string &what)
+// Runs Boost alone: its 40 rows, or (query1 to query5) a row from each vertex, its graph built first as our call judges and indexes what it is lent.
+int boost_once(const std::string &what)
 {
     Network w = make(256, 2048, 100);
-    if (text_once(what, w))
-        return 0;
     Both g = build(w);
-    if (what == "plain")
-        plain(w);
-    else if (what == "boost")
+    if (what == "rows") {
         boost_rows(&g, &w, w.forward.data(), w.backward.data());
-    else {
-        open(w);
-        if (!what.compare(0, 5, "batch")) {
-            // as many batches as are timed: 50 of deletes, each undone by one of inserts
-            Random r{7};
-            uint32_t size = static_cast<uint32_t>(std::atoi(what.c_str() + 5));
-            for (int i = 0; i < 50; i++) {
-                auto c = there_and_back(w, size, r);
-                batch(w, c.first);
-                batch(w, c.second);
-            }
-        }
+        return 0;
     }
+    std::vector<uint32_t> out(w.n);
+    for (uint32_t s = 0; s < w.n; s++)
+        boost_query(&w, static_cast<uint32_t>(std::atoi(what.c_str() + 5)), s, out.data());
     return 0;
 }
 
@@ -458,8 +271,8 @@ int once(const std::string &what)
 
 int main(int argc, char **argv)
 {
-    if (argc == 3 && !std::strcmp(argv[1], "once"))
-        return once(argv[2]);
+    if (argc == 3 && !std::strcmp(argv[1], "boost"))
+        return boost_once(argv[2]);
     int repeats = argc > 1 ? std::atoi(argv[1]) : 15;
     open_times(repeats, 256, 2048);
     open_times(repeats, 256, 512);

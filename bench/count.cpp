@@ -1,0 +1,63 @@
+// Runs one thing alone on the first network of 256 vertices and 2,048 edges, to count its instructions: open, plain, batch1, batch10,
+// batch100, query1 to query5 (from each vertex in turn), read, readany, readplain, readanyplain, write, writeplain.
+#include "network.h"
+
+namespace {
+
+// Text in or out, once.
+bool text_once(const std::string &what, Network &w)
+{
+    Text out(PLATE_TRACK_LONGEST_TEXT), text = text_of(w, what.compare(0, 7, "readany") != 0);
+    if (what == "read" || what == "readany")
+        read(text, w);
+    else if (what == "readplain" || what == "readanyplain")
+        read_plain(text, w);
+    else if (what == "writeplain")
+        write_plain(w, out);
+    else
+        return what == "write"; // text_of has written once
+    return true;
+}
+
+bool starts_with(const std::string &what, const char *word) { return what.rfind(word, 0) == 0; }
+
+int number_in(const std::string &what) { return std::atoi(what.c_str() + 5); }
+
+// as many batches as are timed: 50 of deletes, each undone by one of inserts
+void batches_once(Network &w, uint32_t size)
+{
+    Random r{7};
+    for (int i = 0; i < 50; i++) {
+        auto c = there_and_back(w, size, r);
+        batch(w, c.first);
+        batch(w, c.second);
+    }
+}
+
+void queries_once(const Network &w, uint32_t property)
+{
+    std::vector<uint32_t> starts(w.n), settled(w.n);
+    for (uint32_t s = 0; s < w.n; s++)
+        query(w, property, s, starts, settled);
+}
+
+int once(const std::string &what)
+{
+    Network w = make(256, 2048, 100);
+    if (text_once(what, w))
+        return 0;
+    if (what == "plain") {
+        plain(w);
+        return 0;
+    }
+    open(w);
+    if (starts_with(what, "batch"))
+        batches_once(w, static_cast<uint32_t>(number_in(what)));
+    else if (starts_with(what, "query"))
+        queries_once(w, static_cast<uint32_t>(number_in(what)));
+    return 0;
+}
+
+} // namespace
+
+int main(int argc, char **argv) { return argc == 2 ? once(argv[1]) : 2; }
