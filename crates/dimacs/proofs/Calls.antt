@@ -20,6 +20,7 @@ use Rattle.dimacs.proofs.Places.{place-one}
 use Rattle.dimacs.proofs.Network as network
 use Rattle.dimacs.proofs.Sources as sources
 use Rattle.dimacs.proofs.Written.{write-verdict, filled-edges, read-call}
+use Rattle.dimacs.proofs.Widths.{table-length}
 use Rattle.dimacs.proofs.Theorems.{network-places, network-writes, network-canonical, sources-places}
 use Rattle.dimacs.specs.Lines.{Place}
 use Rattle.dimacs.specs.Read.{Read, good, bad}
@@ -27,7 +28,7 @@ use Rattle.dimacs.specs.Network as net
 use Rattle.dimacs.specs.Sources as src
 use Rattle.dimacs.specs.Call.{judged, Size, vertexCount, edgesRead, sourcesRead, filled, readCall, writeCall, sourcesCall}
 use Rattle.dimacs.specs.Claims.{Canonical}
-use Rattle.dimacs.specs.Calls.{Writes, NetworkCover, SourcesCover, CallReads, CallRefuses, SourcesCallReads, SourcesCallRefuses, CallWrites, CallWritten, CallUnwritten}
+use Rattle.dimacs.specs.Calls.{Writes, NetworkCover, SourcesCover, CallReads, CallRefuses, SourcesCallReads, SourcesCallRefuses, CallWrites, CallWritten, CallUnwritten, WrittenLength}
 
 -- ---- every text
 
@@ -209,6 +210,9 @@ call-written n cs m out k h =
   where
     rest : (x : List ℕ) → length x ≡ k → drop k (over x out) ≡ drop k out
     rest x q = drop-at x (drop (length x) out) k q ∙ ap (λ (j : ℕ). drop j out) q
+
+pub written-length : WrittenLength
+written-length n cs m out k h = let (t, l, b, e) = write-verdict n cs m out k h in omega (arith, b, table-length n (edgesOf cs m) t)
 
 -- ---- the writing call refused
 

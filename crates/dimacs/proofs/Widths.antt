@@ -18,7 +18,8 @@ use Rattle.dimacs.proofs.Sorted.{sound-edges}
 use Rattle.dimacs.specs.Decimal.{digits}
 use Rattle.dimacs.specs.Lines.{joined, fieldsOf}
 use Rattle.dimacs.specs.Network.{problem, arc, problemMark, arcMark, itemOf, Edges, written}
-use Rattle.dimacs.specs.Calls.{WrittenLength}
+use Rattle.dimacs.specs.Calls.{longestText}
+use Rattle.dimacs.specs.Claims.{Table}
 
 -- ---- how many digits
 
@@ -95,9 +96,9 @@ arcs-width n (e ∷ es) m h =
     omega arith
 
 -- the p line has 14 bytes at most, and 2,048 a lines have 16 each
-pub written-length : WrittenLength
+pub table-length : (n : ℕ) (es : List Edge) → Table n es → length (written n es) ≤ longestText
 unfolding written joined
-written-length n es t =
+table-length n es t =
     let m = size-accept n (t .vertices) .1 in
     let a = problem-width n (length es) m (t .few) in
     let b = arcs-width n es m (sound-edges n es (rules-accept n es (t .rules))) in

@@ -17,7 +17,7 @@
 --   CallWrites          == the writing call accepts exactly where it must                                            call-writes
 --   CallWritten         == the first bytes are then the one canonical text of n and the table; the others stay       call-written
 --   CallUnwritten       == it refuses with 1, 2, 4 and 2, in this order, and leaves the buffer as it was             call-unwritten
---   WrittenLength       == no text that is written for an edge table has more than 32,782 bytes                      written-length, in Widths
+--   WrittenLength       == no text that the writing call wrote has more than 32,782 bytes                            written-length
 use mathlib.Core.Path.{_≡_}
 use mathlib.Core.Logic.{_↔_, _⊎_}
 use mathlib.Core.List.{List}
@@ -78,7 +78,7 @@ abbrev pub longestText : ℕ
 longestText = 32782
 
 abbrev pub WrittenLength : Type 0
-WrittenLength = (n : ℕ) (es : List Edge) → Table n es → length (net.written n es) ≤ longestText
+WrittenLength = (n : ℕ) (cs : Columns) (m : ℕ) (out : List ℕ) (k : ℕ) → (writeCall n cs m out) .reply ≡ accepted k → k ≤ longestText
 
 pub record Writes (n : ℕ) (cs : Columns) (m : ℕ) (out : List ℕ) (k : ℕ) : Type 0 where
   pub long : shortTable cs ≡ accept

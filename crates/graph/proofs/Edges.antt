@@ -7,7 +7,7 @@ use Prim.Native.Nat.{ℕ}
 use lib.Dec.{eqb}
 use Rattle.graph.specs.Edge.{Edge, reverse, same, keepIf, keep, exists, among, leaving}
 use borrow.Author.Tests.{eqb-true, eq-eqb}
-use Rattle.graph.proofs.Tests.{both}
+use Rattle.graph.proofs.Tests.{both, and-true}
 
 -- ---- keep
 
@@ -68,6 +68,10 @@ same-eq e f h =
 
 pub among-mem : (es : List Edge) (e : Edge) → among es e ≡ true → List·Memᴰ e es
 among-mem es e h = let (x, m, q) = exists-true (same e) es h in rw (same-eq e x q) m
+
+pub mem-among : {es : List Edge} {e : Edge} → List·Memᴰ e es → among es e ≡ true
+mem-among {e = e} m = true-exists (same e) m
+    (and-true (eq-eqb (e .tail) (e .tail) refl) (and-true (eq-eqb (e .head) (e .head) refl) (eq-eqb (e .weight) (e .weight) refl)))
 
 -- ---- reversed lists
 

@@ -8,5 +8,6 @@ pub mod History
 pub mod Never
 pub mod Chosen
 pub mod Held
+pub mod Stays
 pub mod Steady
 pub mod Routed

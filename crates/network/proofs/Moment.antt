@@ -225,8 +225,8 @@ module _ (n : ℕ) (ls : List ℕ) (w : Network) (b : List Change) (g : Good n l
       total = refl;
       storesAhead = storesOf (newForward n ls w fs);
       storesBack = storesOf (newBackward n ls w fs);
-      forwardRuns = rows-stores n ls es fs ahead (rowsOf ls) rests-ahead;
-      backwardRuns = rows-stores n ls (map reverse es) (map reverse fs) back (rowsOf ls) rests-back;
+      forwardRuns = rows-stores n ls es fs ahead (rowsOf ls) old-in rests-ahead;
+      backwardRuns = rows-stores n ls (map reverse es) (map reverse fs) back (rowsOf ls) old-back rests-back;
       stores = refl;
       count = refl;
     }

@@ -35,7 +35,7 @@ use Rattle.theory.proofs.Query.{by, Bounded, bound-under, bound-is, via, asked-
 use Rattle.theory.proofs.Fits.{best-fits}
 use Rattle.network.specs.Network.{Network, edgesIn, rowCount, shortRows, landmarks, row, propertyOf, landmarkOf}
 use Rattle.network.specs.Query.{Query, Words, rowAt, scheduled, known, atStart, atRounds, atEnd, longSchedule, shortWords, requested, queryFaults, queryVerdict, answered, queryCall}
-use Rattle.network.specs.History.{Triangle, Ran, QueryHolds}
+use Rattle.network.specs.History.{Triangle, QueryRun, QueryHolds}
 use Rattle.network.proofs.Ends.{query-ends}
 use Rattle.network.proofs.Moment.{Good, good-within}
 
@@ -203,7 +203,7 @@ module _ (n : ℕ) (ls : List ℕ) (w : Network) (g : Good n ls w) (q : Query) w
     front ws xs e = take-at ws (drop (length ws) xs) n e
 
     -- the start words and the settled words that are written are those of the run's states; where nothing waits after n rounds, these are all
-    ran : (out : Words) → anyOf ((atEnd n ls w q) .waiting) ≡ false → Ran P n es s (q .schedule) ((atEnd n ls w q) .tally) (answered n ls w q out)
+    ran : (out : Words) → anyOf ((atEnd n ls w q) .waiting) ≡ false → QueryRun P n es s (q .schedule) ((atEnd n ls w q) .tally) (answered n ls w q out)
     unfolding asked
     ran out rests = record {
       end = atEnd n ls w q;

@@ -1,24 +1,32 @@
 -- What a batch reports as affected is how many vertices the closure names, and what it reports as stores is what its runs store, row by row.
 -- Assumes nothing.
-use mathlib.Core.Path.{_≡_, refl, sym, subst}
-use mathlib.Core.Logic.{_↔_}
-use mathlib.Core.Bool.{Bool, true, false, _||_, false≢true}
-use mathlib.Core.List.{List, [], _∷_, map}
-use Prim.Native.Nat.{ℕ, suc, _+_}
+use mathlib.Core.Path.{_≡_, refl, sym, ap, _∙_, subst}
+use mathlib.Core.Logic.{_↔_, _⊎_, inl, inr}
+use mathlib.Core.Bool.{Bool, true, false, not, _&&_, _||_, cond, true≢false, false≢true}
+use mathlib.Core.List.{List, [], _∷_, map, List·Memᴰ}
+use Prim.Native.Nat.{ℕ, suc, _+_, _<_}
 use native.Mathlib.Nat.{add-zero, zero-add}
 use native.Mathlib.Omega.{arith}
-use lib.ListN.{length}
+use lib.ListN.{length, getD}
+use lib.Dec.{eqb}
+use borrow.Author.Tests.{eqb-true, eq-eqb, not-true}
+use Rattle.property.specs.Property.{Property}
 use Rattle.frontier.specs.Waiting.{anyOf, countOf}
-use Rattle.graph.specs.Edge.{Edge}
-use Rattle.graph.proofs.Tests.{neither}
+use Rattle.graph.specs.Edge.{Edge, exists, among, range}
+use Rattle.property.proofs.Tests.{is-false}
+use Rattle.graph.proofs.Tests.{and-true, both, neither, or-right}
+use Rattle.graph.proofs.Lists.{length-table, table-at}
+use Rattle.graph.proofs.Edges.{true-exists, exists-true, among-mem, mem-among}
+use Rattle.run.specs.Run.{word}
 use Rattle.graph.proofs.Order.{Within}
 use Rattle.theory.proofs.Rounds.{settle-all}
-use Rattle.affected.specs.Affected.{Affected, marked}
-use Rattle.affected.proofs.Sweeps.{affected-length, affected-exact}
+use Rattle.affected.specs.Affected.{added, Affected, marked, affected}
+use Rattle.affected.specs.Prepared.{cleared, reopened, prepared}
+use Rattle.affected.proofs.Sweeps.{affected-length, unaffected-unmarked, affected-exact}
 use Rattle.network.specs.Network.{row, propertyOf, landmarkOf, unsettled, storesOf}
 use Rattle.network.specs.Batch.{affectedIn, batchRow, affectedOver}
 use Rattle.network.specs.History as claim
-use Rattle.network.specs.History.{Counted, TotalAffected, TotalStores}
+use Rattle.network.specs.History.{Counted, TotalAffected, RowStart, TotalStores}
 
 -- marks that are exactly those of A, from i on, are as many as A has
 counted-marks : (A : ℕ → Type 0) (ms : List Bool) (i : ℕ) → ((t : ℕ) → (marked ms t ≡ true) ↔ A (i + t)) → Counted A i (length ms) (countOf ms)
@@ -51,11 +59,61 @@ module _ (n : ℕ) (ls : List ℕ) (es fs : List Edge) (xs : List ℕ) (inside :
   rows-affected [] = claim.none
   rows-affected (r ∷ rs) = claim.more (row-counted r) (rows-affected rs)
 
+-- ---- stores
+
+module _ (P : Property) (es fs : List Edge) (s : ℕ) (ws : List ℕ) (n : ℕ) (heads : (e : Edge) → List·Memᴰ e es → e .head < n) where
+  abbrev marks : List Bool
+  marks = affected P es fs s ws n
+
+  -- the edges by which a vertex t waits
+  abbrev Woken : ℕ → Type 0
+  Woken t = (e : Edge) × List·Memᴰ e fs × (e .tail ≡ t) × (Affected P es fs s ws (e .head) ⊎ (List·Memᴰ e es → ⊥))
+
+  abbrev wakes : ℕ → Edge → Bool
+  wakes t e = eqb (e .tail) t && (marked marks (e .head) || added es e)
+
+  -- an edge of the test is one into an affected vertex, or an added one
+  woken : (t : ℕ) → exists (wakes t) fs ≡ true → Woken t
+  woken t h =
+      let (e, m, q) = exists-true (wakes t) fs h in
+      let z = both (eqb (e .tail) t) (marked marks (e .head) || added es e) q in
+      (e, m, eqb-true _ _ (z .0), which e (marked marks (e .head)) refl (z .1))
+    where
+      which : (e : Edge) (b : Bool) → marked marks (e .head) ≡ b → (b || added es e) ≡ true → Affected P es fs s ws (e .head) ⊎ (List·Memᴰ e es → ⊥)
+      which e true p h = inl (affected-exact P es fs s ws n heads (e .head) .0 p)
+      which e false p h = inr (λ m. true≢false (sym (mem-among m) ∙ not-true _ h))
+
+  waking : (t : ℕ) → Woken t → exists (wakes t) fs ≡ true
+  waking t (e, m, q, w) = true-exists (wakes t) m (and-true (eq-eqb (e .tail) t q) (either w))
+    where
+      either : Affected P es fs s ws (e .head) ⊎ (List·Memᴰ e es → ⊥) → (marked marks (e .head) || added es e) ≡ true
+      either (inl a) = rw (affected-exact P es fs s ws n heads (e .head) .1 a)
+      either (inr d) = or-right (marked marks (e .head)) (ap not (is-false (among es e) (λ h. d (among-mem es e h))))
+
+  -- The marks are the closure: so the prepared state is the one that document 01 names, word by word and bit by bit.
+  prepared-start : RowStart P es fs s ws n (prepared P es fs s ws n)
+  unfolding prepared cleared reopened
+  prepared-start = record {
+    words = length-table _ 0 n;
+    waiting = length-table _ 0 n;
+    cleared = λ t h a. at t h ∙ rw (affected-exact P es fs s ws n heads t .1 a);
+    kept = λ t h d. at t h ∙ rw (unaffected-unmarked P es fs s ws n t d);
+    wakes = λ t h. (λ q. woken t (sym (bit t h) ∙ q), λ w. bit t h ∙ waking t w);
+    untallied = refl;
+  }
+    where
+      at : (t : ℕ) → t < n → word P (map (λ k. cond (marked marks k) (P .none) (word P ws k)) (range 0 n)) t ≡ cond (marked marks t) (P .none) (word P ws t)
+      at t h = table-at (λ k. cond (marked marks k) (P .none) (word P ws k)) n t (P .none) h
+
+      bit : (t : ℕ) → t < n → getD (map (λ k. exists (wakes k) fs) (range 0 n)) t false ≡ exists (wakes t) fs
+      bit t h = table-at (λ k. exists (wakes k) fs) n t false h
+
 -- Nothing waits in any row at the end, so the rounds of each are all its rounds; and the call sums their stores.
-pub rows-stores : (n : ℕ) (ls : List ℕ) (es fs : List Edge) (xs rs : List ℕ) → unsettled (map (batchRow n ls es fs xs) rs) ≡ false
+pub rows-stores : (n : ℕ) (ls : List ℕ) (es fs : List Edge) (xs rs : List ℕ) → Within n es → unsettled (map (batchRow n ls es fs xs) rs) ≡ false
     → TotalStores n ls es fs xs rs (storesOf (map (batchRow n ls es fs xs) rs))
 unfolding unsettled storesOf
-rows-stores n ls es fs xs [] h = claim.none
-rows-stores n ls es fs xs (r ∷ rs) h =
+rows-stores n ls es fs xs [] i h = claim.none
+rows-stores n ls es fs xs (r ∷ rs) i h =
     let z = neither (anyOf ((batchRow n ls es fs xs r) .waiting)) (unsettled (map (batchRow n ls es fs xs) rs)) h in
-    claim.more (settle-all (propertyOf r) fs n n _ (z .0)) (rows-stores n ls es fs xs rs (z .1))
+    claim.more (prepared-start (propertyOf r) es fs (landmarkOf ls r) (row n r xs) n (i .heads)) (settle-all (propertyOf r) fs n n _ (z .0))
+    (rows-stores n ls es fs xs rs i (z .1))

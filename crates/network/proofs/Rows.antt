@@ -42,7 +42,7 @@ use Rattle.network.proofs.Ends.{open-row-ends, batch-row-ends}
 
 -- f r is the state in which the run of row r ends
 module _ (n : ℕ) (f : ℕ → State) (sized : (r : ℕ) → length ((f r) .words) ≡ n) where
-  length-flat : (rs : List ℕ) → length (flat (map f rs)) ≡ length rs * n
+  pub length-flat : (rs : List ℕ) → length (flat (map f rs)) ≡ length rs * n
   unfolding flat
   length-flat [] = sym (zero-mul n)
   length-flat (r ∷ rs) =

@@ -19,7 +19,7 @@ use Rattle.graph.specs.Edge.{Edge, reverse, range, exists, same, among}
 use Rattle.graph.specs.Table.{size, shortTable, table}
 use Rattle.graph.proofs.Tests.{and-true, both, neither, or-false}
 use Rattle.graph.proofs.Lists.{length-table, table-at, range-below}
-use Rattle.graph.proofs.Edges.{true-exists, exists-true}
+use Rattle.graph.proofs.Edges.{exists-true, mem-among}
 use Rattle.graph.proofs.Verdicts.{accept-then, if-accept, accept-if, outcome-accepted}
 use Rattle.graph.proofs.Order.{Within}
 use Rattle.run.specs.Run.{State, word, settle}
@@ -43,14 +43,8 @@ use Rattle.network.proofs.Never.{open-judged}
 
 -- ---- nothing is removed, and nothing added
 
-same-itself : (e : Edge) → same e e ≡ true
-same-itself e = and-true (eq-eqb (e .tail) (e .tail) refl) (and-true (eq-eqb (e .head) (e .head) refl) (eq-eqb (e .weight) (e .weight) refl))
-
-stays : {es : List Edge} {e : Edge} → List·Memᴰ e es → among es e ≡ true
-stays {e = e} m = true-exists (same e) m (same-itself e)
-
 unmoved : {es : List Edge} {e : Edge} → List·Memᴰ e es → removed es e ≡ false
-unmoved m = ap not (stays m)
+unmoved m = ap not (mem-among m)
 
 -- where no edge is removed, no vertex is affected: a chain of held edges would have to begin at a removed one
 none-affected : (P : Property) (es : List Edge) (s : ℕ) (ws : List ℕ) {t : ℕ} → Affected P es es s ws t → ⊥
@@ -166,7 +160,7 @@ module _ (n : ℕ) (ls : List ℕ) (es : List Edge) (xs : List ℕ) (long : rowC
 -- waits, the run ends as it starts, with the row's own words and nothing stored. Nothing waits, so 13 does not come; and 1 to 4 let it pass.
 pub empty-batch : EmptyBatch
 unfolding batchCall batchFaults items _▷_ refuseIf reported
-empty-batch n ls w h = (whole, ap (λ o. edgesIn (handOn w o)) whole ∙ records)
+empty-batch n ls w h = (ap (λ o. o .reply) whole, ap (λ o. o .memory .rows) whole, ap (λ o. edgesIn (handOn w o)) whole ∙ records)
   where
     parts : (size n ≡ accept) × (shortTable (w .memory .table) ≡ accept) × (shortRows n ls (w .memory .rows) ≡ accept) × (landmarks n ls ≡ accept)
         × (table n (w .memory .table) (w .count) ≡ accept)

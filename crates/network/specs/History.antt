@@ -4,7 +4,7 @@
 --
 --   Triangle P es ls s t v   == v is the triangle bound from s to t: the best, over the landmarks, of the best value to the landmark
 --                               joined with the best value on from it
---   Ran P n es s vs tally out == the tally and the words that a query gives are those of its run: from its start words, where s alone waits,
+--   QueryRun P n es s vs tally out == the tally and the words that a query gives are those of its run: from its start words, where s alone waits,
 --                               the schedule vs is gone through, and then rounds go on while any waits
 --   QueryHolds ..            == what an accepted query gives: bounds and the source's value, rounds, its run, settled, best values
 --   BestRows n ls es w       == each word of the rows of w is the best value on the edges es, of its property, landmark and vertex
@@ -13,7 +13,9 @@
 --   Unworse ..               == rows xs that become ys: a vertex that is not affected keeps its word or gets a better one
 --   Counted A i m k          == of the m numbers from i on, k are such that A
 --   TotalAffected .. rs k    == the rows rs have k affected vertices in all
---   TotalStores .. rs k      == the runs of the rows rs, each from its prepared row and with rounds while any waits, store k words in all
+--   RowStart P es fs s ws n st == the state st in which a row's rounds start: affected vertices have no route and any other its word; waiting
+--                               are the tails of all new edges into affected vertices and of all added ones
+--   TotalStores .. rs k      == the runs of the rows rs, each from its start and with rounds while any waits, store k words in all
 --   Reported .. r            == the report r has the affected vertices of all rows and the stores of all their runs, no more and no fewer,
 --                               and how many edges there are now
 --   BatchHolds n ls es w b   == what the batch b does to w: it is turned back as document 01 says, and then hands on words and
@@ -26,7 +28,7 @@
 --   RoutesBest ..            == the words of the rows and of accepted queries are best values
 --   BestOverRoutes           == demand 2, by itself: they are after any list of batches
 use mathlib.Core.Path.{_≡_}
-use mathlib.Core.Logic.{_≢_}
+use mathlib.Core.Logic.{_≢_, _↔_, _⊎_}
 use mathlib.Core.Bool.{true, false}
 use mathlib.Core.List.{List, [], _∷_, _++_, map, List·Memᴰ}
 use Prim.Native.Nat.{ℕ, suc, _+_, _≤_, _<_}
@@ -35,10 +37,9 @@ use Rattle.property.specs.Property.{Property, property}
 use Rattle.graph.specs.Refusal.{accept, accepted, refused, verdictOf}
 use Rattle.graph.specs.Edge.{Edge, reverse}
 use Rattle.graph.specs.Route.{Best}
-use Rattle.run.specs.Run.{State, Tally, noTally, word, relaxable, pass}
+use Rattle.run.specs.Run.{State, Tally, noTally, word, waits, relaxable, pass}
 use Rattle.run.specs.Rounds.{Rounds}
 use Rattle.affected.specs.Affected.{Affected}
-use Rattle.affected.specs.Prepared.{prepared}
 use Rattle.network.specs.Network.{Network, edgesIn, faults, rowCount, row, propertyOf, landmarkOf, rowsOf}
 use Rattle.network.specs.Open.{openCall}
 use Rattle.network.specs.Query.{Query, Words, queryCall}
@@ -54,7 +55,7 @@ pub record Triangle (P : Property) (es : List Edge) (ls : List ℕ) (s t v : ℕ
   pub attained : (l a b : ℕ) × List·Memᴰ l ls × Best P es s l a × Best P es l t b × (v ≡ P .join a b)
 
 -- "In a run the tally is one record, raised at each step": the run of document 01, which puts no bound to its rounds
-pub record Ran (P : Property) (n : ℕ) (es : List Edge) (s : ℕ) (vs : List ℕ) (tally : Tally) (out : Words) : Type 0 where
+pub record QueryRun (P : Property) (n : ℕ) (es : List Edge) (s : ℕ) (vs : List ℕ) (tally : Tally) (out : Words) : Type 0 where
   pub end : State
   pub run : Rounds P es n (pass P es vs (record { words = take n (out .starts); waiting = set (replicate n false) s true; tally = noTally })) end
   pub tallied : tally ≡ end .tally
@@ -64,7 +65,7 @@ pub record QueryHolds (P : Property) (n : ℕ) (ls : List ℕ) (es : List Edge) 
   pub bounds : (t : ℕ) → t < n → t ≢ s → Triangle P es ls s t (word P (out .starts) t)
   pub source : word P (out .starts) s ≡ P .start
   pub quick : tally .rounds ≤ n
-  pub ran : Ran P n es s vs tally out
+  pub ran : QueryRun P n es s vs tally out
   pub settled : (e : Edge) → List·Memᴰ e es → relaxable P (out .settled) e ≡ false
   pub best : (t : ℕ) → t < n → Best P es s t (word P (out .settled) t)
 
@@ -101,9 +102,19 @@ pub data TotalAffected (n : ℕ) (ls : List ℕ) (es fs : List Edge) (xs : List 
   more : {r a k : ℕ} {rs : List ℕ} → Counted (Affected (propertyOf r) es fs (landmarkOf ls r) (row n r xs)) 0 n a → TotalAffected n ls es fs xs rs k
       → TotalAffected n ls es fs xs (r ∷ rs) (a + k)
 
+-- "Suspects get no route. Waiting are then the tails of all new segments into suspects and of all added ones."
+pub record RowStart (P : Property) (es fs : List Edge) (s : ℕ) (ws : List ℕ) (n : ℕ) (st : State) : Type 0 where
+  pub words : length (st .words) ≡ n
+  pub waiting : length (st .waiting) ≡ n
+  pub cleared : (t : ℕ) → t < n → Affected P es fs s ws t → word P (st .words) t ≡ P .none
+  pub kept : (t : ℕ) → t < n → (Affected P es fs s ws t → ⊥) → word P (st .words) t ≡ word P ws t
+  pub wakes : (t : ℕ) → t < n
+      → (waits st t ≡ true) ↔ ((e : Edge) × List·Memᴰ e fs × (e .tail ≡ t) × (Affected P es fs s ws (e .head) ⊎ (List·Memᴰ e es → ⊥)))
+  pub untallied : st .tally ≡ noTally
+
 pub data TotalStores (n : ℕ) (ls : List ℕ) (es fs : List Edge) (xs : List ℕ) : List ℕ → ℕ → Type 0 where
   none : TotalStores n ls es fs xs [] 0
-  more : {r k : ℕ} {rs : List ℕ} {end : State} → Rounds (propertyOf r) fs n (prepared (propertyOf r) es fs (landmarkOf ls r) (row n r xs) n) end
+  more : {r k : ℕ} {rs : List ℕ} {st end : State} → RowStart (propertyOf r) es fs (landmarkOf ls r) (row n r xs) n st → Rounds (propertyOf r) fs n st end
       → TotalStores n ls es fs xs rs k → TotalStores n ls es fs xs (r ∷ rs) (end .tally .stores + k)
 
 pub record Reported (n : ℕ) (ls : List ℕ) (es fs : List Edge) (w : Network) (r : Report) : Type 0 where

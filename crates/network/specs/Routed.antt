@@ -2,7 +2,7 @@
 -- values, and from which alone a value that had come to the no-route word could not be told from no route. Assumes nothing.
 --
 --   RoutedRows n ls es w    == each word of the rows of w is the no-route word exactly where the edges es have no route
---   RoutedWords n ls es w   == so is each word of the rows, and each settled word of an accepted query
+--   RoutedAt n ls es w      == so is each word of the rows, and each settled word of an accepted query
 --   WordsRouted             == the claim: they are so after any list of batches
 use mathlib.Core.Path.{_≡_}
 use mathlib.Core.List.{List}
@@ -23,11 +23,11 @@ pub record RoutedRows (n : ℕ) (ls : List ℕ) (es : List Edge) (w : Network) :
   pub backward : (r t : ℕ) → r < rowCount ls → t < n
       → Routed (propertyOf r) es t (landmarkOf ls r) (word (propertyOf r) (row n r (w .memory .rows .backward)) t)
 
-pub record RoutedWords (n : ℕ) (ls : List ℕ) (es : List Edge) (w : Network) : Type 0 where
+pub record RoutedAt (n : ℕ) (ls : List ℕ) (es : List Edge) (w : Network) : Type 0 where
   pub rows : RoutedRows n ls es w
   pub query : (q : Query) (out : Words) (tally : Tally) → (queryCall n ls w q out) .reply ≡ accepted tally → (t : ℕ) → t < n
       → Routed (property (q .property)) es (q .source) t (word (property (q .property)) ((queryCall n ls w q out) .memory .settled) t)
 
 abbrev pub WordsRouted : Type 0
 WordsRouted = (n : ℕ) (ls : List ℕ) (w : Network) → faults n ls w ≡ accept → (bs : List (List Change))
-    → RoutedWords n ls (edgesNow n w bs) (moment n ls w bs)
+    → RoutedAt n ls (edgesNow n w bs) (moment n ls w bs)

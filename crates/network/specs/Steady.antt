@@ -1,30 +1,64 @@
--- What stays: the batch without changes, on any network, and the settled check, at any moment: document 01, "Batch" ("An empty batch is
--- accepted") and "Settled check". Assumes nothing.
+-- What stays: past what an accepted call writes, in a batch without changes, and the settled check at any moment: document 01, "Network" ("words
+-- past those stay"), "Batch", "Settled check" and "Near the edges, and a small deck" ("An empty batch is accepted"). Assumes nothing.
 --
+--   RestStays k xs ys == past the first k words the list ys is as xs was
+--   RowsStay n ls v w == so are both row lists, past their rows
+--   Zeroed m xs ys    == a table list that was xs and has m records now: zeros from there to 2,047, and the words from 2,048 on as before
+--
+-- and the claims, each with its theorem in proofs/Stays.antt (the first two) or proofs/Steady.antt:
+--
+--   OpenStays    == an accepted opening, on whatever words, leaves the table and the words past the rows                     open-stays
+--   BatchStays   == so does an accepted batch of the words past the rows, and its table lists are zeroed past the new count   batch-stays
 --   EmptyBatch   == on any network that numbers 1 to 4 let pass, whatever words its rows hold, the batch without changes is accepted; it
---                   reports the count as before, no affected vertex and no store, and each word of the row lists stays. Of the table
---                   lists the records stay, and zeros follow them as after any batch                                  empty-batch
---   SettledAfter == after an accepted opening and any list of batches the settled check says settled                  settled-after
---
--- Each has its theorem in proofs/Steady.antt.
+--                   reports the count as before, no affected vertex and no store; each word of the row lists and each record stays  empty-batch
+--   SettledAfter == after an accepted opening and any list of batches the settled check says settled                         settled-after
 use mathlib.Core.Path.{_≡_}
 use mathlib.Core.List.{List, []}
-use Prim.Native.Nat.{ℕ}
+use Prim.Native.Nat.{ℕ, _-_, _*_}
+use lib.ListN.{take, drop, replicate}
+use Rattle.graph.specs.Limits.{maxEdges}
 use Rattle.graph.specs.Refusal.{accept, accepted}
-use Rattle.network.specs.Network.{Network, edgesIn, faults}
+use Rattle.network.specs.Network.{Memory, Network, edgesIn, rowCount, faults}
+use Rattle.network.specs.Open.{openCall}
 use Rattle.network.specs.Change.{Change}
-use Rattle.network.specs.Batch.{rewritten, batchCall}
+use Rattle.network.specs.Batch.{Report, batchCall}
 use Rattle.network.specs.Settled.{settled, settledCall}
 use Rattle.network.specs.Caller.{handOn}
 use Rattle.network.specs.History.{moment}
 
+-- ---- past what is written
+
+abbrev pub RestStays : ℕ → List ℕ → List ℕ → Type 0
+RestStays k xs ys = drop k ys ≡ drop k xs
+
+pub record RowsStay (n : ℕ) (ls : List ℕ) (v w : Memory) : Type 0 where
+  pub forward : RestStays (rowCount ls * n) (v .rows .forward) (w .rows .forward)
+  pub backward : RestStays (rowCount ls * n) (v .rows .backward) (w .rows .backward)
+
+pub record Zeroed (m : ℕ) (xs ys : List ℕ) : Type 0 where
+  pub zeros : take (maxEdges - m) (drop m ys) ≡ replicate (maxEdges - m) 0
+  pub rest : RestStays maxEdges xs ys
+
+abbrev pub OpenStays : Type 0
+OpenStays = (n : ℕ) (ls : List ℕ) (w : Network) → (openCall n ls w) .reply ≡ accepted tt
+    → ((openCall n ls w) .memory .table ≡ w .memory .table) × RowsStay n ls (w .memory) ((openCall n ls w) .memory)
+
+abbrev pub BatchStays : Type 0
+BatchStays = (n : ℕ) (ls : List ℕ) (w : Network) (b : List Change) (r : Report) → (batchCall n ls w b) .reply ≡ accepted r
+    → Zeroed (r .count) (w .memory .table .tails) ((batchCall n ls w b) .memory .table .tails)
+    × Zeroed (r .count) (w .memory .table .heads) ((batchCall n ls w b) .memory .table .heads)
+    × Zeroed (r .count) (w .memory .table .weights) ((batchCall n ls w b) .memory .table .weights)
+    × RowsStay n ls (w .memory) ((batchCall n ls w b) .memory)
+
+-- ---- a batch without changes
+
 abbrev pub EmptyBatch : Type 0
 EmptyBatch = (n : ℕ) (ls : List ℕ) (w : Network) → faults n ls w ≡ accept
-    → (batchCall n ls w [] ≡ record {
-      reply = accepted (record { count = w .count; affected = 0; stores = 0 });
-      memory = record { table = rewritten (edgesIn w) (w .memory .table); rows = w .memory .rows };
-    })
+    → ((batchCall n ls w []) .reply ≡ accepted (record { count = w .count; affected = 0; stores = 0 }))
+    × ((batchCall n ls w []) .memory .rows ≡ w .memory .rows)
     × (edgesIn (handOn w (batchCall n ls w [])) ≡ edgesIn w)
+
+-- ---- the settled check
 
 abbrev pub SettledAfter : Type 0
 SettledAfter = (n : ℕ) (ls : List ℕ) (w : Network) → faults n ls w ≡ accept → (bs : List (List Change))

@@ -1,3 +1,2 @@
 pub mod Property
 pub mod Laws
-pub mod RouteLaws

@@ -16,7 +16,7 @@ use Rattle.network.specs.Change.{Change}
 use Rattle.network.specs.Batch.{batchCall}
 use Rattle.network.specs.Caller.{openedNetwork, reported, handOn, lived}
 use Rattle.network.specs.Current.{turnedBack, after}
-use Rattle.network.specs.History.{Holds, moment, edgesNow}
+use Rattle.network.specs.History.{Holds, moment, edgesNow, Past}
 use Rattle.network.proofs.Moment.{Good, opens, steps}
 use Rattle.network.proofs.Never.{open-judged}
 use Rattle.network.proofs.History.{history}
@@ -31,7 +31,7 @@ use Rattle.open.specs.Code.{opening, openOutcome}
 use Rattle.replay.specs.declared.Replayed.{Replayed}
 use Rattle.replay.specs.declared.Replayed.the-variants.{Done, Refused}
 use Rattle.replay.specs.Replay.{Summary, batchesFrom, acceptedOf, replayCall}
-use Rattle.replay.specs.Code.{replaying, replayOutcome, carried, Ends}
+use Rattle.replay.specs.Code.{replaying, replayOutcome, carried, AtExit}
 
 -- ---- which changes a batch has
 
@@ -98,7 +98,7 @@ carried-none n ls ts hs ws f b m k bs e h = rw e at h
 -- after it, so that the calls accept as many batches as are reckoned from the edges and the change records alone.
 carried-good : (n : ℕ) (ls : List ℕ) (w : Network) (k : ℕ) (bs : List (List Change)) → Good n ls w
     → carried n ls w k bs ≡ record {
-      reply = accepted (record { count = (lived n ls w bs) .count; accepted = k + acceptedOf n (edgesIn w) bs });
+      reply = accepted (record { count = (lived n ls w bs) .count; acceptedBatches = k + acceptedOf n (edgesIn w) bs });
       memory = (lived n ls w bs) .memory;
     }
 unfolding carried acceptedOf
@@ -116,7 +116,7 @@ module _ (n : ℕ) (ls : List ℕ) (w : Network) (bs : List (List Change)) where
   -- its outcome where the opening is accepted
   abbrev done : Outcome Summary Memory
   done = record {
-    reply = accepted (record { count = (moment n ls w bs) .count; accepted = acceptedOf n (edgesIn w) bs });
+    reply = accepted (record { count = (moment n ls w bs) .count; acceptedBatches = acceptedOf n (edgesIn w) bs });
     memory = (moment n ls w bs) .memory;
   }
 
@@ -151,12 +151,19 @@ module _ (n : ℕ) (ls : List ℕ) (w : Network) (bs : List (List Change)) where
 -- Where the reply is no refusal, the opening was accepted, and what the lists hold is the network at the last moment of the batches: of
 -- that one demand 3 speaks.
 pub replay-ends : (n : ℕ) (ls : List ℕ) (w : Network) (bs : List (List Change)) (r : Replayed) (ts hs ws f b : List ℕ)
-    → replayOutcome r ts hs ws f b ≡ replayCall n ls w bs → Ends n ls w bs r ts hs ws f b
+    → replayOutcome r ts hs ws f b ≡ replayCall n ls w bs → AtExit n ls w bs r ts hs ws f b
 unfolding replaying replayCall
-replay-ends n ls w bs r ts hs ws f b o m k e =
-    let p : replayOutcome (Done m k) ts hs ws f b ≡ replayCall n ls w bs = rw e at o in
-    let x = reply-accepted (faults n ls w) _ (record { count = m; accepted = k }) (ap (λ y. y .reply) (sym p)) in
-    let a : (moment n ls w bs) .memory ≡ lists ts hs ws f b = ap (λ y. y .memory) (sym (call-done n ls w bs (x .0)) ∙ sym p) in
-    let c : (moment n ls w bs) .count ≡ m = ap (λ y. y .count) (x .1) in
-    let q : moment n ls w bs ≡ network ts hs ws f b m = rw (sym a, sym c) in
-    subst (Holds n ls (edgesNow n w bs)) q ((((history n ls w) .later (x .0) bs) .holds bs []) (sym (append-nil bs)))
+replay-ends n ls w bs r ts hs ws f b o = record { holds = λ m k e. subst (Holds n ls (edgesNow n w bs)) (same m k e) ((began m k e .holds bs []) (sym (append-nil bs))); past = began }
+  where
+    opened : (m k : ℕ) → r ≡ Done m k → (faults n ls w ≡ accept) × (record { count = (moment n ls w bs) .count; acceptedBatches = acceptedOf n (edgesIn w) bs } ≡ record { count = m; acceptedBatches = k })
+    opened m k e = reply-accepted (faults n ls w) _ (record { count = m; acceptedBatches = k }) (ap (λ y. y .reply) (sym (rw e at o)))
+
+    began : (m k : ℕ) → r ≡ Done m k → Past n ls w bs
+    began m k e = (history n ls w) .later (opened m k e .0) bs
+
+    same : (m k : ℕ) → r ≡ Done m k → moment n ls w bs ≡ network ts hs ws f b m
+    same m k e =
+        let x = opened m k e in
+        let a : (moment n ls w bs) .memory ≡ lists ts hs ws f b = ap (λ y. y .memory) (sym (call-done n ls w bs (x .0)) ∙ sym o) in
+        let c : (moment n ls w bs) .count ≡ m = ap (λ y. y .count) (x .1) in
+        rw (sym a, sym c)

@@ -35,8 +35,8 @@ acceptedOf n es (b ∷ bs) = choose (turnedBack n es b) 1 0 + acceptedOf n (afte
 
 pub record Summary : Type 0 where
   pub count : ℕ
-  pub accepted : ℕ
+  pub acceptedBatches : ℕ
 
 unfoldable pub replayCall : ℕ → List ℕ → Network → List (List Change) → Outcome Summary Memory
-replayCall n ls w bs = outcome (faults n ls w) (record { count = (moment n ls w bs) .count; accepted = acceptedOf n (edgesIn w) bs })
+replayCall n ls w bs = outcome (faults n ls w) (record { count = (moment n ls w bs) .count; acceptedBatches = acceptedOf n (edgesIn w) bs })
     ((moment n ls w bs) .memory) (w .memory)

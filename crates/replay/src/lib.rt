@@ -9,7 +9,7 @@ ghost use Rattle.calls.specs.Code.{network};
 ghost use Rattle.items.specs.Code.{changes};
 ghost use Rattle.apply.specs.Code.{batchOutcome};
 ghost use Rattle.replay.specs.Replay.{batches, replayCall};
-ghost use Rattle.replay.specs.Code.{replayOutcome, carried, Ends};
+ghost use Rattle.replay.specs.Code.{replayOutcome, carried, AtExit};
 
 // The reply to a replay: the present count and how many batches were accepted, or the opening's number and place.
 pub enum Replayed {
@@ -122,7 +122,7 @@ pub fn replay(
     ends: &[u32],
 ) -> Replayed
     ensures { λ r. ⌜ replayOutcome r (now (tails .exit)) (now (heads .exit)) (now (weights .exit)) (now (forward .exit)) (now (backward .exit)) ≡ replayCall n (now (landmarks .entry)) (network (now (tails .entry)) (now (heads .entry)) (now (weights .entry)) (now (forward .entry)) (now (backward .entry)) count) (batches (now (ends .entry)) (changes (now (kinds .entry)) (now (froms .entry)) (now (tos .entry)) (now (values .entry)))) ⌝ }
-    ensures { λ r. ⌜ Ends n (now (landmarks .entry)) (network (now (tails .entry)) (now (heads .entry)) (now (weights .entry)) (now (forward .entry)) (now (backward .entry)) count) (batches (now (ends .entry)) (changes (now (kinds .entry)) (now (froms .entry)) (now (tos .entry)) (now (values .entry)))) r (now (tails .exit)) (now (heads .exit)) (now (weights .exit)) (now (forward .exit)) (now (backward .exit)) ⌝ }
+    ensures { λ r. ⌜ AtExit n (now (landmarks .entry)) (network (now (tails .entry)) (now (heads .entry)) (now (weights .entry)) (now (forward .entry)) (now (backward .entry)) count) (batches (now (ends .entry)) (changes (now (kinds .entry)) (now (froms .entry)) (now (tos .entry)) (now (values .entry)))) r (now (tails .exit)) (now (heads .exit)) (now (weights .exit)) (now (forward .exit)) (now (backward .exit)) ⌝ }
 {
     let opened = open::open(
         n,

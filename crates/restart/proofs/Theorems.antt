@@ -30,7 +30,7 @@ use Rattle.dimacs.specs.Claims.{Table}
 use Rattle.dimacs.specs.Calls.{Writes}
 use Rattle.dimacs.proofs.Written.{filled-edges}
 use Rattle.dimacs.proofs.Theorems.{network-writes}
-use Rattle.dimacs.proofs.Widths.{written-length}
+use Rattle.dimacs.proofs.Widths.{table-length}
 use Rattle.dimacs.proofs.Calls.{call-reads, written-call}
 use Rattle.restart.specs.Claims.{restored, Same, Saved, Restart}
 
@@ -86,7 +86,7 @@ saved : (n : ℕ) (ls : List ℕ) (w : Network) (es : List Edge) → Good n ls w
 saved n ls w es g e = record {
   text = text;
   canonical = network-writes n es good;
-  short = written-length n es good;
+  short = table-length n es good;
   written = λ out r. written-call n (w .memory .table) (w .count) out (length text) (writes out r) ∙ ap (λ (fs : List Edge). record { reply = accepted (length text); memory = over (net.written n fs) out }) e;
   read = λ ds s. call-reads text ds s n es .1 (network-writes n es good .good);
   opens = λ ds xs s l. restored-opens n ls es good (g .chosen) ds xs s l;
@@ -120,7 +120,7 @@ saved n ls w es g e = record {
 -- call has no ground to refuse but room, and its text is the canonical one. That text is good, so that it is read as these edges. In lists that are
 -- long enough they pass numbers 1 to 4, so the opening is accepted and brings the invariant about on the same edges. Its rows then hold best
 -- words, as those of the network that was saved do; and a best value is one only.
-pub restarts : Restart
-restarts n ls w h bs =
+pub restart : Restart
+restart n ls w h bs =
     let z = moment-good n ls w (open-judged n ls w ∙ h) bs in
     saved n ls (moment n ls w bs) (edgesNow n w bs) (z .0) (z .1)

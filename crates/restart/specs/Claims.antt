@@ -9,7 +9,7 @@
 --
 -- and the claim, with its theorem in proofs/Theorems.antt:
 --
---   Restart           == after an accepted opening and any list of batches the network as it is now is saved so        restarts
+--   Restart           == after an accepted opening and any list of batches the network as it is now is saved so        restart
 use mathlib.Core.Path.{_≡_}
 use mathlib.Core.List.{List}
 use Prim.Native.Nat.{ℕ, _≤_, _<_}

@@ -1,1 +1,1 @@
-// A network that is written, read and opened again: what holds of it.
+// No code: a network that is saved as text, read and opened again is the same network.

@@ -1,5 +1,4 @@
 pub mod Run
 pub mod Start
 pub mod Code
-pub mod Values
 pub mod Rounds

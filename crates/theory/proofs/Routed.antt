@@ -1,6 +1,8 @@
 -- The no-route word stands exactly where there is no route: on n vertices a best route needs fewer than n edges, and no value of so few
 -- edges comes to the no-route word. Assumes nothing.
 --
+--   Lasting P n w  == routes of fewer than n edges, of weights 1 to w, have values better than no route: `floor k` is a value than
+--                     which a route of k edges is no worse
 --   Weighty w es   == weights are 1 to w
 use mathlib.Core.Path.{_≡_, sym, _∙_, subst}
 use mathlib.Core.Logic.{_⊎_, inl, inr, ⊎-elim}
@@ -12,7 +14,6 @@ use lib.Dec.{ltb, leb, eqb}
 use borrow.Author.Tests.{ltb-true, leb-true}
 use Rattle.property.specs.Property.{M, plus, Property, sssp, bfs, sswp, ssnp, ssr, property}
 use Rattle.property.specs.Laws.{Laws}
-use Rattle.property.specs.RouteLaws.{Lasting}
 use Rattle.property.proofs.Instances.{bfs-laws, property-laws}
 use Rattle.property.proofs.Tests.{tests}
 use Rattle.graph.specs.Limits.{maxVertices, maxWeight}
@@ -23,11 +24,16 @@ use Rattle.graph.specs.Routed.{Routed}
 use Rattle.graph.proofs.Tests.{both}
 use Rattle.graph.proofs.Order.{Sound, Within, within, sound-fit, rules-accept}
 use Rattle.run.specs.Run.{word}
-use Rattle.run.specs.Values.{valuesFrom}
 use Rattle.theory.specs.Routed.{BestRouted}
 use Rattle.theory.proofs.Walk.{walk-of}
 use Rattle.theory.proofs.Value.{Attained, value-fits}
-use Rattle.theory.proofs.Hops.{values-best, hops-few}
+use Rattle.theory.proofs.Hops.{valuesFrom, values-best, hops-few}
+
+pub record Lasting (P : Property) (n w : ℕ) : Type 0 where
+  pub floor : ℕ → ℕ
+  pub floor-start : P .better (floor 0) (P .start) ≡ false
+  pub floor-along : (k v x : ℕ) → v ≤ M → P .better (floor k) v ≡ false → 0 < x → x ≤ w → P .better (floor (suc k)) (P .along v x) ≡ false
+  pub floor-holds : (k : ℕ) → k < n → P .better (floor k) (P .none) ≡ true
 
 -- ---- the five properties, within the limits
 

@@ -1,5 +1,5 @@
 -- The no-route word tells that there is no route: document 01, "Words of demand 3" ("or the no-route word where there is none"). `Best` alone
--- also lets a route have that value; on 256 vertices, with weights up to 65,535, none has. Assumes nothing.
+-- also lets a best route have that value; on 256 vertices, with weights up to 65,535, none has. Assumes nothing.
 --
 -- The claim, with its theorem in proofs/Routed.antt:
 --

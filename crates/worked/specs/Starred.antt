@@ -2,7 +2,7 @@
 -- The numbers are document 01's. Assumes nothing.
 --
 --   graphA                   == Deck A: n 4; 0→1 4, 0→3 9, 1→2 4, 2→1 4, 3→2 2
---   takes t h, add t h w      == change records
+--   takes t h, adds t h w    == change records
 --   Ask                      == what a line asks of a network
 --     settled p s             == the settled words of a query from s for property p
 --     asked p s vs            == start words, settled words, rounds of a query with the schedule vs
