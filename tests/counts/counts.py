@@ -1,5 +1,15 @@
 #!/usr/bin/env python3
-"""What crates/counts prints, by document 01's rules and none of the library's code. Adjacency lists are made by plain filters."""
+"""A deck of 256 stations and 2,048 segments through the archive, held to document 01's rules as they stand here, with none of the library's code: the rows of an
+opening, what each row's run takes, a query of each property, a batch, and the rows after it.
+
+The run of a row is asked for as a query over rows of no-route words, which starts where an opening's row does: its rounds and stores are in the tally. The stations
+that it handles, in their order, are then a schedule: each is taken and nothing is left for a round, so they are as many as the library handles."""
+import sys
+from array import array
+
+from plate_track import calls
+from plate_track.deck import Deck, words as empty
+
 M = 4294967295
 N, RECORDS = 256, 2048
 POSTS = [0, 77, 154, 255]
@@ -29,7 +39,7 @@ def join(p, a, b):
     return max(a, b) if p == 4 else min(a, b)
 
 
-def deck():
+def deck_table():
     """Station v has 1 + v % 15 segments, the last station 8; heads ascend and pass over v."""
     table = []
     for v in range(N):
@@ -48,15 +58,16 @@ def segments(table):
 
 
 def rounds(p, out, words, waiting):
-    """Rounds until none waits: (rounds, handles, looks, stores)."""
-    n_rounds = handles = looks = stores = 0
+    """Rounds until none waits: (rounds, the stations handled in their order, looks, stores)."""
+    n_rounds = looks = stores = 0
+    handled = []
     while waiting:
         n_rounds += 1
         for v in range(N):
             if v not in waiting:
                 continue
             waiting.remove(v)
-            handles += 1
+            handled.append(v)
             for h, f in out[v]:
                 looks += 1
                 a = along(p, words[v], f)
@@ -64,18 +75,13 @@ def rounds(p, out, words, waiting):
                     words[h] = a
                     waiting.add(h)
                     stores += 1
-    return n_rounds, handles, looks, stores
+    return n_rounds, handled, looks, stores
 
 
 def opened(p, s):
     words = [NOROUTE[p]] * N
     words[s] = SOURCE[p]
     return words
-
-
-def digest(words):
-    """The sum, over every index, of the words up to it."""
-    return sum((len(words) - i) * word for i, word in enumerate(words))
 
 
 def reverse(table):
@@ -97,7 +103,8 @@ def query(table, fwd, bwd, p, source):
     start = [best(p, [join(p, bwd[i * 5 + p - 1][source], fwd[i * 5 + p - 1][v]) for i in range(len(POSTS))]) for v in range(N)]
     start[source] = SOURCE[p]
     words = start[:]
-    return rounds(p, segments(table), words, {source})
+    tally = rounds(p, segments(table), words, {source})
+    return start, words, tally
 
 
 def mend(old, new, rows):
@@ -125,29 +132,61 @@ def mend(old, new, rows):
     return total, stores
 
 
+def hold(what, found, due):
+    global held
+    held += 1
+    if found != due:
+        print(f"counts: {what}: {found}, and {due} is due")
+        sys.exit(1)
+
+
+def hold_runs(side, table, rows, counts):
+    """Every row of a side, run again from no-route words."""
+    deck = Deck(N, table)
+    none = array("I", [NOROUTE[p] for p in range(1, 6) for _ in range(N)])
+    for r, (n_rounds, handled, _, stores) in enumerate(counts):
+        p, s = r % 5 + 1, POSTS[r // 5]
+        for schedule, due in (([], (0, n_rounds, stores)), (handled, (len(handled), 0, stores))):
+            starts, settled = empty(N), empty(N)
+            tally = calls.query(N, array("I", [0]), deck.tails, deck.heads, deck.weights, RECORDS, none, none, p, s, array("I", schedule), starts, settled)
+            what = f"{side} row of landmark {s}, {NAMES[p]}"
+            hold(f"{what}: taken, rounds, stores", tuple(tally), due)
+            hold(f"{what}: words", list(settled), rows[r])
+
+
+def hold_rows(what, deck, fwd, bwd):
+    hold(f"{what}, forward rows", list(deck.forward), sum(fwd, []))
+    hold(f"{what}, backward rows", list(deck.backward), sum(bwd, []))
+
+
+held = 0
+
+
 def main():
-    table = deck()
+    table = deck_table()
     fwd, ahead = open_side(table)
     bwd, back = open_side(reverse(table))
-    print("opened")
-    for side, counts, rows in (("forward", ahead, fwd), ("backward", back, bwd)):
-        for r, (a, b, c, d) in enumerate(counts):
-            row = f"{side} landmark {POSTS[r // 5]} {NAMES[r % 5 + 1]}"
-            print(f"{row}: rounds {a} handles {b} looks {c} stores {d} digest {digest(rows[r])} same")
-    a, b, c, d = map(sum, zip(*(ahead + back)))
-    print(f"all: rounds {a} handles {b} looks {c} stores {d}")
-    print(f"scans of the table for each vertex in each round: looks {2048 * 256 * a}")
+    deck = Deck(N, table)
+    deck.open(POSTS)
+    hold_rows("the opening", deck, fwd, bwd)
+    hold_runs("forward", table, fwd, ahead)
+    hold_runs("backward", reverse(table), bwd, back)
     for p in range(1, 6):
-        a, b, c, d = query(table, fwd, bwd, p, 100)
-        print(f"query from 100 {NAMES[p]}: taken 0 rounds {a} stores {d}")
-    cut = table[0]
-    new = sorted([e for e in table if e != cut] + [(0, 255, 9)])
-    assert (0, 255) not in {(t, h) for t, h, _ in table}
+        start, words, (n_rounds, _, _, stores) = query(table, fwd, bwd, p, 100)
+        answer = deck.query(p, 100)
+        hold(f"query from 100, {NAMES[p]}", (list(answer.starts), list(answer.settled), tuple(answer.tally)), (start, words, (0, n_rounds, stores)))
+    cut, put = table[0], (0, 255, 9)
+    assert put[:2] not in {(t, h) for t, h, _ in table}
+    new = sorted([e for e in table if e != cut] + [put])
     sums = [mend(table, new, fwd), mend(reverse(table), reverse(new), bwd)]
-    print(f"batch: count {len(new)} affected {sums[0][0] + sums[1][0]} stores {sums[0][1] + sums[1][1]}")
-    print(f"rows after the batch: forward digest {digest(sum(fwd, []))} backward digest {digest(sum(bwd, []))}")
+    report = deck.batch([(2, *cut[:2], 0), (1, *put)])
+    hold("the batch's report", tuple(report), (len(new), sums[0][0] + sums[1][0], sums[0][1] + sums[1][1]))
+    hold_rows("the batch", deck, fwd, bwd)
     # each row of the mended network is that of a fresh opening
     assert open_side(new)[0] == fwd and open_side(reverse(new))[0] == bwd
+    total = [sum(c) for c in zip(*((a, len(b), c, d) for a, b, c, d in ahead + back))]
+    print(f"counts: {held} held; an opening takes {total[0]} rounds, {total[1]} handles, {total[2]} looks and {total[3]} stores; "
+          f"scans of the table would take {RECORDS * N * total[0]} looks")
 
 
 main()
