@@ -18,6 +18,10 @@ use reference::{Network, M};
 
 const FILES: [(&str, &str); 2] = [("networks.txt", include_str!("networks.txt")), ("texts.txt", include_str!("texts.txt"))];
 
+/// The words that a line may say of what is lent; those of the second list have an index.
+const NAMES: &str = " full widest n count landmarks tails heads weights forward backward rows open delete property source schedule starts settled changes k side landmark room said lines sources ";
+const PLACED: &str = " record change forward backward ";
+
 // ---- lines
 
 /// A word of a line: `full`, `n=4`, `record4=3,2,1`, or a text in quotes, whose name is empty.
@@ -69,6 +73,10 @@ fn numbers(list: &str) -> Vec<u32> {
     list.split(',').filter(|p| !p.is_empty()).flat_map(part).collect()
 }
 
+fn hex(digit: Option<u8>) -> u8 {
+    char::from(digit.expect("two digits")).to_digit(16).expect("a hexadecimal digit") as u8
+}
+
 fn bytes(quoted: &str) -> Vec<u8> {
     let mut out = Vec::new();
     let mut rest = quoted.strip_prefix('"').and_then(|q| q.strip_suffix('"')).expect("a text in quotes").bytes();
@@ -79,6 +87,7 @@ fn bytes(quoted: &str) -> Vec<u8> {
                 b'r' => b'\r',
                 b't' => b'\t',
                 b'0' => 0,
+                b'x' => (hex(rest.next()) << 4) | hex(rest.next()),
                 other => other,
             },
             _ => b,
@@ -125,12 +134,17 @@ fn cases(name: &str, file: &str) -> Vec<Together> {
             before = bytes(text);
         } else if !line.is_empty() && !line.starts_with('#') {
             let (joined, line) = line.strip_prefix("& ").map_or((false, line), |rest| (true, rest));
+            assert!(calls.is_empty() || !joined, "{place}: what goes on names its call");
             let (own, line) = if calls.is_empty() { line.split_once(' ').unwrap() } else { ("", line) };
             for call in if calls.is_empty() { vec![own] } else { calls.clone() } {
                 let group = if own.is_empty() { format!("{call} {title}") } else { title.into() };
                 let mut set = words(line);
                 let colon = set.iter().position(|w| w.name == ":").unwrap_or_else(|| panic!("{place}: no colon"));
                 let said = set.split_off(colon).into_iter().skip(1).collect();
+                for w in set.iter().filter(|w| !w.name.is_empty()) {
+                    let known = if w.index.is_some() { PLACED } else { NAMES };
+                    assert!(known.contains(&format!(" {} ", w.name)), "{place}: no word {:?}", w.name);
+                }
                 let call = call_named(call).unwrap_or_else(|| panic!("{place}: no call {call:?}"));
                 if !joined {
                     found.push(Together { group, lines: vec![] });
@@ -157,6 +171,10 @@ impl Line {
         self.set.iter().find(|w| w.name == name && w.index.is_none()).map(|w| w.value.as_str())
     }
 
+    fn has(&self, name: &str) -> bool {
+        self.value(name).is_some()
+    }
+
     fn number(&self, name: &str, usual: u32) -> u32 {
         self.value(name).map_or(usual, number)
     }
@@ -167,8 +185,13 @@ impl Line {
     }
 
     fn records(&self) -> Vec<[u32; 3]> {
-        let full = self.value("full").is_some();
-        let mut records: Vec<[u32; 3]> = if full { (0..2_049).map(full_record).collect() } else { DECK_A.to_vec() };
+        let mut records: Vec<[u32; 3]> = if self.has("full") {
+            (0..2_049).map(full_record).collect()
+        } else if self.has("widest") {
+            (99..256).flat_map(|t| (99..256).filter(move |&h| h != t).map(move |h| [t, h, 65_535])).take(2_048).collect()
+        } else {
+            DECK_A.to_vec()
+        };
         records.resize(2_049, [9; 3]);
         for (i, r) in self.placed("record") {
             records[i] = r.try_into().unwrap();
@@ -176,9 +199,9 @@ impl Line {
         records
     }
 
-    /// Deck A with landmark 0, or the full table, but for what the line says. Row words are 7.
+    /// Deck A with landmark 0, or a full table, but for what the line says. Row words are 7.
     fn network(&self) -> Network {
-        let (n, count, rows) = if self.value("full").is_some() { (256, 2_048, 1_280) } else { (4, 5, 20) };
+        let (n, count, rows) = if self.has("full") || self.has("widest") { (256, 2_048, 1_280) } else { (4, 5, 20) };
         let records = self.records();
         let column = |name: &str, i: usize| records.iter().map(|r| r[i]).take(self.number(name, 2_048) as usize).collect();
         let row_list = |name: &str| vec![7; self.number(name, self.number("rows", rows)) as usize];
@@ -220,7 +243,7 @@ impl Line {
     /// All that the call takes. Calls that come before it are made by the same side.
     fn made(&self, side: Side) -> Result<Case, String> {
         let mut w = self.network();
-        if self.value("open").is_some() {
+        if self.has("open") {
             w = accepted(side, &Case::new(Call::Open, w))?.network;
         }
         if let Some(pair) = self.value("delete").map(numbers) {

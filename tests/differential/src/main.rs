@@ -1,17 +1,15 @@
 //! Differential tests of the calls for C: each call is made through the archive and through the reference, on the same input; the
 //! number, the reply and every lent list are compared, and the words beside each list are looked at.
 //!
-//!   differential short [SEED]          examples, texts and histories, and 1,500,000 calls: about a minute
+//!   differential short [SEED]          texts and histories, and 1,500,000 calls: about a minute
 //!   differential long CALLS [SEED]     as many calls as said
 //!   differential replay SEED SESSION   one session again, with each of its calls printed
 //!   differential histories [SEED]      whole histories, at each state of which all is asked
-//!   differential examples              document 01's worked examples, by the reference and by the archive
 //!   differential texts COUNT [SEED]    the generators of texts, against the reference alone
 //!   differential vectors DIR           the reference's values program against DIR/*/{deck.gr,deck.ss,expected}
 
 mod calls;
 mod case;
-mod examples;
 mod generate;
 mod histories;
 #[path = "../../../bindings/plate_track.rs"]
@@ -246,7 +244,7 @@ fn main() {
     let good = match words.first().map(String::as_str) {
         Some("short") => {
             let seed = number(1).unwrap_or(1);
-            examples::all() && texts(seed, 2_000) && histories(seed) && run(seed, SHORT)
+            texts(seed, 2_000) && histories(seed) && run(seed, SHORT)
         }
         Some("long") => {
             let calls = number(1).expect("long CALLS [SEED]");
@@ -263,11 +261,10 @@ fn main() {
             }
         }
         Some("histories") => histories(number(1).unwrap_or(1)),
-        Some("examples") => examples::all(),
         Some("texts") => texts(number(2).unwrap_or(1), number(1).expect("texts COUNT [SEED]")),
         Some("vectors") => vectors(words.get(1).expect("vectors DIR")),
         _ => {
-            println!("differential short [SEED] | long CALLS [SEED] | replay SEED SESSION | histories [SEED] | examples | texts COUNT [SEED] | vectors DIR");
+            println!("differential short [SEED] | long CALLS [SEED] | replay SEED SESSION | histories [SEED] | texts COUNT [SEED] | vectors DIR");
             false
         }
     };
