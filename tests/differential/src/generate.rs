@@ -92,20 +92,22 @@ fn lengthen(r: &mut Random, list: &mut Vec<u32>, least: usize) {
     }
 }
 
-/// A sound network that is not opened yet: its rows hold anything.
-pub fn network(r: &mut Random) -> Network {
-    let n = vertices(r);
-    let edges = edges(r, n);
-    let mut w = Network { n, count: edges.len() as u32, ..Network::default() };
-    let most = n.min(4);
-    let wanted = if n > 60 && r.one_in(2) { 1 } else { 1 + r.below(most) } as usize;
-    while w.landmarks.len() < wanted {
+/// Different vertices, in no order.
+fn landmarks(r: &mut Random, n: u32, wanted: usize) -> Vec<u32> {
+    let mut list = Vec::new();
+    while list.len() < wanted {
         let v = r.below(n);
-        if !w.landmarks.contains(&v) {
-            w.landmarks.push(v);
+        if !list.contains(&v) {
+            list.push(v);
         }
     }
-    for e in &edges {
+    list
+}
+
+/// A network as it is lent before it is opened: its rows hold anything.
+fn lent(r: &mut Random, n: u32, edges: &[Edge], landmarks: Vec<u32>) -> Network {
+    let mut w = Network { n, count: edges.len() as u32, landmarks, ..Network::default() };
+    for e in edges {
         w.tails.push(e.tail);
         w.heads.push(e.head);
         w.weights.push(e.weight);
@@ -113,10 +115,33 @@ pub fn network(r: &mut Random) -> Network {
     lengthen(r, &mut w.tails, MOST_EDGES);
     lengthen(r, &mut w.heads, MOST_EDGES);
     lengthen(r, &mut w.weights, MOST_EDGES);
-    let rows = wanted * 5 * n as usize;
+    let rows = w.landmarks.len() * 5 * n as usize;
     lengthen(r, &mut w.forward, rows);
     lengthen(r, &mut w.backward, rows);
     w
+}
+
+/// A sound network of any size.
+pub fn network(r: &mut Random) -> Network {
+    let n = vertices(r);
+    let edges = edges(r, n);
+    let wanted = if n > 60 && r.one_in(2) { 1 } else { 1 + r.below(n.min(4)) } as usize;
+    let landmarks = landmarks(r, n, wanted);
+    lent(r, n, &edges, landmarks)
+}
+
+/// 256 vertices, 2,048 edges and four landmarks.
+pub fn full_network(r: &mut Random) -> Network {
+    let mut pairs = std::collections::BTreeSet::new();
+    while pairs.len() < MOST_EDGES {
+        let (t, h) = (r.below(256), r.below(256));
+        if t != h {
+            pairs.insert((t, h));
+        }
+    }
+    let edges: Vec<Edge> = pairs.into_iter().map(|(tail, head)| Edge { tail, head, weight: 1 + r.below(500) }).collect();
+    let landmarks = landmarks(r, 256, 4);
+    lent(r, 256, &edges, landmarks)
 }
 
 /// A network whose standing words are anything.

@@ -1,17 +1,17 @@
 //! Differential tests of the calls for C: each call is made through the archive and through the reference, on the same input; the
 //! number, the reply and every lent list are compared, and the words beside each list are looked at.
 //!
-//!   differential short [SEED]          about a minute
+//!   differential short [SEED]          texts and histories, and 1,500,000 calls: about a minute
 //!   differential long CALLS [SEED]     as many calls as said
 //!   differential replay SEED SESSION   one session again, with each of its calls printed
-//!   differential examples              document 01's worked examples, by the reference and by the archive
+//!   differential histories [SEED]      whole histories, at each state of which all is asked
 //!   differential texts COUNT [SEED]    the generators of texts, against the reference alone
 //!   differential vectors DIR           the reference's values program against DIR/*/{deck.gr,deck.ss,expected}
 
 mod calls;
 mod case;
-mod examples;
 mod generate;
+mod histories;
 #[path = "../../../bindings/plate_track.rs"]
 mod plate_track;
 mod random;
@@ -20,7 +20,10 @@ mod shrink;
 
 use case::{describe, difference, Call, Case};
 use random::Random;
-use std::time::{Duration, Instant};
+use std::time::Instant;
+
+/// The calls of the gate: about a minute.
+const SHORT: u64 = 1_500_000;
 
 /// How many calls of each kind were accepted or refused with each number.
 #[derive(Default)]
@@ -93,6 +96,9 @@ fn session(seed: u64, number: u64, counts: &mut Counts, tell: bool) -> Result<()
             return Err(Box::new(Failure { case: opening, said: format!("a good opening is refused with {number}") }));
         }
         w = after.network;
+        if let Some(said) = unlike_now(&w, &w.edges()).filter(|_| w.n <= 60) {
+            return Err(Box::new(Failure { case: opening, said }));
+        }
     }
     let mut now = w.edges();
     counts.histories += 1;
@@ -149,24 +155,42 @@ fn report(counts: &Counts, began: Instant) {
     }
 }
 
-fn run(seed: u64, enough: &dyn Fn(&Counts, Instant) -> bool) -> bool {
+/// Says where a session or a history went wrong, and writes the call that did, made small.
+fn tell(seed: u64, what: &str, number: u64, failure: &Failure) {
+    println!("{what} {number}: {}", failure.said);
+    let small = shrink::smallest(&failure.case);
+    let name = format!("failing-{what}-{seed}-{number}.txt");
+    let made = shrink::fault(&small).unwrap_or_else(|| format!("only in its {what}"));
+    let text = format!("seed {seed} {what} {number}\nas met: {}\nmade small: {made}\n{}", failure.said, describe(&small));
+    print!("{text}");
+    if std::fs::write(&name, &text).is_ok() {
+        println!("written to {name}");
+    }
+}
+
+fn run(seed: u64, calls: u64) -> bool {
     println!("seed {seed}");
     let began = Instant::now();
     let mut counts = Counts::default();
     let mut number = 0;
-    while !enough(&counts, began) {
+    while counts.calls < calls {
         if let Err(failure) = session(seed, number, &mut counts, false) {
-            println!("session {number}: {}", failure.said);
-            let small = shrink::smallest(&failure.case);
-            let name = format!("failing-{seed}-{number}.txt");
-            let text = format!("seed {seed} session {number}\nas met: {}\nmade small: {}\n{}", failure.said, shrink::fault(&small).unwrap_or_else(|| "only in its session".into()), describe(&small));
-            print!("{text}");
-            if std::fs::write(&name, &text).is_ok() {
-                println!("written to {name}");
-            }
+            tell(seed, "session", number, &failure);
             return false;
         }
         number += 1;
+    }
+    report(&counts, began);
+    true
+}
+
+fn histories(seed: u64) -> bool {
+    println!("histories, seed {seed}");
+    let began = Instant::now();
+    let mut counts = Counts::default();
+    if let Err((number, failure)) = histories::all(seed, &mut counts) {
+        tell(seed, "history", number, &failure);
+        return false;
     }
     report(&counts, began);
     true
@@ -220,11 +244,11 @@ fn main() {
     let good = match words.first().map(String::as_str) {
         Some("short") => {
             let seed = number(1).unwrap_or(1);
-            examples::all() && texts(seed, 2_000) && run(seed, &|_, began| began.elapsed() > Duration::from_secs(60))
+            texts(seed, 2_000) && histories(seed) && run(seed, SHORT)
         }
         Some("long") => {
             let calls = number(1).expect("long CALLS [SEED]");
-            run(number(2).unwrap_or(1), &|counts, _| counts.calls >= calls)
+            run(number(2).unwrap_or(1), calls)
         }
         Some("replay") => {
             let (seed, session_number) = (number(1).expect("replay SEED SESSION"), number(2).expect("replay SEED SESSION"));
@@ -236,11 +260,11 @@ fn main() {
                 }
             }
         }
-        Some("examples") => examples::all(),
+        Some("histories") => histories(number(1).unwrap_or(1)),
         Some("texts") => texts(number(2).unwrap_or(1), number(1).expect("texts COUNT [SEED]")),
         Some("vectors") => vectors(words.get(1).expect("vectors DIR")),
         _ => {
-            println!("differential short [SEED] | long CALLS [SEED] | replay SEED SESSION | examples | texts COUNT [SEED] | vectors DIR");
+            println!("differential short [SEED] | long CALLS [SEED] | replay SEED SESSION | histories [SEED] | texts COUNT [SEED] | vectors DIR");
             false
         }
     };

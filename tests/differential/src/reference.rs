@@ -245,7 +245,7 @@ impl<'a> Run<'a> {
     }
 }
 
-fn reversed(edges: &[Edge]) -> Vec<Edge> {
+pub fn reversed(edges: &[Edge]) -> Vec<Edge> {
     edges.iter().map(|e| e.reversed()).collect()
 }
 
