@@ -155,7 +155,7 @@ pub replay-ends : (n : ℕ) (ls : List ℕ) (w : Network) (bs : List (List Chang
 unfolding replaying replayCall
 replay-ends n ls w bs r ts hs ws f b o = record { holds = λ m k e. subst (Holds n ls (edgesNow n w bs)) (same m k e) ((began m k e .holds bs []) (sym (append-nil bs))); past = began }
   where
-    opened : (m k : ℕ) → r ≡ Done m k → (faults n ls w ≡ accept) × (record { count = (moment n ls w bs) .count; acceptedBatches = acceptedOf n (edgesIn w) bs } ≡ record { count = m; acceptedBatches = k })
+    opened : (m k : ℕ) → r ≡ Done m k → (faults n ls w ≡ accept) × (_≡_ {A = Summary} (record { count = (moment n ls w bs) .count; acceptedBatches = acceptedOf n (edgesIn w) bs }) (record { count = m; acceptedBatches = k }))
     opened m k e = reply-accepted (faults n ls w) _ (record { count = m; acceptedBatches = k }) (ap (λ y. y .reply) (sym (rw e at o)))
 
     began : (m k : ℕ) → r ≡ Done m k → Past n ls w bs
