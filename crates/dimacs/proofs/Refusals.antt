@@ -55,7 +55,7 @@ unfolding writeCall
 write-refused n cs m out =
     let x = net.written n (edgesOf cs m) in
     let last = refuseIf (ltb (length out) (length x)) 2 0 in
-    let call : (k i : ℕ) → (size n ▷ shortTable cs ▷ table n cs m ▷ last) ≡ refuse k i → writeCall n cs m out ≡ record { reply = refused k i; memory = out } = λ k i e. outcome-refused (size n ▷ shortTable cs ▷ table n cs m ▷ last) (length x) (over x out) out e in (
+    let call : (k i : ℕ) → (size n ▷ shortTable cs ▷ table n cs m ▷ last) ≡ refuse k i → writeCall n cs m out ≡ record { reply = refused k i; memory = out } = λ k i e. outcome-refused (size n ▷ shortTable cs ▷ table n cs m ▷ last) (length x) _ out e in (
       λ h. call 1 0 (refuse-then (size n) (shortTable cs ▷ table n cs m ▷ last) (if-refuses _ 1 0 h)),
       λ s h. call 2 0 (accept-then s ∙ refuse-then (shortTable cs) (table n cs m ▷ last) (if-refuses _ 2 0 h)),
       λ s l k i h. call k i (accept-then s ∙ accept-then l ∙ refuse-then (table n cs m) last h),

@@ -119,7 +119,7 @@ write-verdict n cs m out k h =
     let (d, e) = table-accept n cs m c in
     let l : length (edgesOf cs m) ≡ m = edges-length (cs .tails) (cs .heads) (cs .weights) m (room-less d (lengths-accept (cs .tails) (cs .heads) (cs .weights) b)) in
     let f : length (edgesOf cs m) ≤ maxEdges = omega arith in
-    (record { vertices = a; few = f; rules = e }, l, w, rw v (take-at text (drop (length text) out) k w))
+    (record { vertices = a; few = f; rules = e }, l, w, rw v (take-at text _ k w))
 
 -- edges stored in front of three lists are the records below their count
 pub filled-edges : (es : List Edge) (m : ℕ) (ds : Columns) → length es ≡ m → edgesOf (filled es ds) m ≡ es
