@@ -12,7 +12,7 @@ use borrow.Author.Tests.{eqb-true}
 use Rattle.graph.specs.declared.Found.the-variants.{At}
 use Rattle.graph.specs.declared.Found.the-variants as found
 use Rattle.graph.specs.Refusal.{accept}
-use Rattle.graph.specs.Edge.{Edge, edge, same, samePair, precedes, exists, among, present, edges}
+use Rattle.graph.specs.Edge.{Edge, edge, same, alike, precedes, exists, among, present, edges}
 use Rattle.graph.specs.Table.{rules}
 use Rattle.graph.specs.Code.{Room, seek, find}
 use Rattle.graph.proofs.Tests.{both, neither, or-false}
@@ -23,7 +23,7 @@ use Rattle.graph.proofs.Lookup.{seek-below, absent-present, find-below, find-pa
 -- ---- edges of one pair
 
 -- another pair, another edge
-same-apart : (e f : Edge) → samePair e f ≡ false → same e f ≡ false
+same-apart : (e f : Edge) → alike e f ≡ false → same e f ≡ false
 same-apart e f h = pick (eqb (e .tail) (f .tail)) h
   where
     pick : (a : Bool) → (a && eqb (e .head) (f .head)) ≡ false → (a && (eqb (e .head) (f .head) && eqb (e .weight) (f .weight))) ≡ false
@@ -31,16 +31,16 @@ same-apart e f h = pick (eqb (e .tail) (f .tail)) h
     pick false q = refl
 
 -- of one pair, the weight decides
-same-pair : (e f : Edge) → samePair e f ≡ true → same e f ≡ eqb (e .weight) (f .weight)
+same-pair : (e f : Edge) → alike e f ≡ true → same e f ≡ eqb (e .weight) (f .weight)
 same-pair e f h = let z = both (eqb (e .tail) (f .tail)) _ h in rw (z .0, z .1)
 
 among-absent : (e : Edge) (es : List Edge) → present es e ≡ false → among es e ≡ false
 unfolding exists
 among-absent e [] h = refl
-among-absent e (x ∷ es) h = let z = neither (samePair e x) (present es e) h in or-false (same-apart e x (z .0)) (among-absent e es (z .1))
+among-absent e (x ∷ es) h = let z = neither (alike e x) (present es e) h in or-false (same-apart e x (z .0)) (among-absent e es (z .1))
 
 -- the pair of an edge is not among those that follow it
-after-absent : (n : ℕ) (e x : Edge) (es : List Edge) → samePair e x ≡ true → Follows n x es → present es e ≡ false
+after-absent : (n : ℕ) (e x : Edge) (es : List Edge) → alike e x ≡ true → Follows n x es → present es e ≡ false
 unfolding exists
 after-absent n e x [] h s = refl
 after-absent n e x (y ∷ es) h s =
@@ -56,9 +56,9 @@ among-seek : (n i k : ℕ) (e : Edge) (es : List Edge) → Sound n es → seek i
     → among es e ≡ eqb (e .weight) (getD es (k - i) (edge 0 0 0) .weight)
 unfolding seek exists
 among-seek n i k e [] s h = let z : _≡_ {A = ℕ} 0 1 = cc in absurd (omega arith)
-among-seek n i k e (x ∷ es) s h = pick (samePair e x) refl h (among-seek n (suc i) k e es (follows-sound n x es (s .1)))
+among-seek n i k e (x ∷ es) s h = pick (alike e x) refl h (among-seek n (suc i) k e es (follows-sound n x es (s .1)))
   where
-    pick : (b : Bool) → samePair e x ≡ b → cond b (At i) (seek (suc i) e es) ≡ At k
+    pick : (b : Bool) → alike e x ≡ b → cond b (At i) (seek (suc i) e es) ≡ At k
         → (seek (suc i) e es ≡ At k → among es e ≡ eqb (e .weight) (getD es (k - suc i) (edge 0 0 0) .weight))
         → (same e x || among es e) ≡ eqb (e .weight) (getD (x ∷ es) (k - i) (edge 0 0 0) .weight)
     pick true q f ih =

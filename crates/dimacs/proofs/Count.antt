@@ -9,7 +9,7 @@ use native.Mathlib.Omega.{arith}
 use lib.Dec.{ltb, eqb}
 use lib.ListN.{length, length-append, length-map}
 use borrow.Author.Tests.{lt-ltb, ltb-true, ltb-false, eqb-true, eqb-false, eq-eqb, ne-eqb, not-true}
-use Rattle.graph.specs.Edge.{Edge, edge, samePair, exists, present}
+use Rattle.graph.specs.Edge.{Edge, edge, alike, exists, present}
 use Rattle.graph.specs.Table.{isEdge}
 use Rattle.graph.proofs.Tests.{both, neither, or-false}
 use Rattle.graph.proofs.Order.{Less, less-of, Follows, Sound}
@@ -174,9 +174,9 @@ member-append (x ∷ xs) ys i h =
 code-absent : (n : ℕ) (es : List Edge) (e : Edge) → member (map (code n) es) (code n e) ≡ false → present es e ≡ false
 unfolding member exists
 code-absent n [] e h = refl
-code-absent n (f ∷ es) e h = let (p, q) = neither (eqb (code n f) (code n e)) _ h in or-false (pick p (samePair e f) refl) (code-absent n es e q)
+code-absent n (f ∷ es) e h = let (p, q) = neither (eqb (code n f) (code n e)) _ h in or-false (pick p (alike e f) refl) (code-absent n es e q)
   where
-    pick : eqb (code n f) (code n e) ≡ false → (t : Bool) → samePair e f ≡ t → samePair e f ≡ false
+    pick : eqb (code n f) (code n e) ≡ false → (t : Bool) → alike e f ≡ t → alike e f ≡ false
     pick p true r =
         let (x, y) = both (eqb (e .tail) (f .tail)) _ r in
         absurd (eqb-false (code n f) (code n e) p (rw (eqb-true (e .tail) (f .tail) x, eqb-true (e .head) (f .head) y)))

@@ -12,7 +12,7 @@ use lib.Dec.{eqb}
 use lib.ListN.{length, length-append}
 use lib.Seq.{getD-append-seam}
 use borrow.Author.Tests.{eqb-true, eq-eqb}
-use Rattle.graph.specs.Edge.{Edge, edge, samePair, precedes, exists, present}
+use Rattle.graph.specs.Edge.{Edge, edge, alike, precedes, exists, present}
 use Rattle.graph.specs.Table.{insert}
 use Rattle.graph.proofs.Tests.{both, and-true, neither, or-false}
 use Rattle.graph.proofs.Order.{Follows, Sound, insert-sound, length-insert, precedes-asym, precedes-absent, follows-sound, sound-before}
@@ -20,15 +20,15 @@ use Rattle.dimacs.specs.Network.{Edges, Distinct, sorted}
 
 -- ---- pairs
 
-same-flip : (e f : Edge) → samePair e f ≡ true → samePair f e ≡ true
+same-flip : (e f : Edge) → alike e f ≡ true → alike f e ≡ true
 same-flip e f h =
     let (p, q) = both (eqb (e .tail) (f .tail)) _ h in
     and-true (eq-eqb (f .tail) (e .tail) (sym (eqb-true _ _ p))) (eq-eqb (f .head) (e .head) (sym (eqb-true _ _ q)))
 
-pub same-sym : (e f : Edge) → samePair e f ≡ samePair f e
-same-sym e f = pick (samePair e f) (samePair f e) refl refl
+pub same-sym : (e f : Edge) → alike e f ≡ alike f e
+same-sym e f = pick (alike e f) (alike f e) refl refl
   where
-    pick : (a b : Bool) → samePair e f ≡ a → samePair f e ≡ b → samePair e f ≡ samePair f e
+    pick : (a b : Bool) → alike e f ≡ a → alike f e ≡ b → alike e f ≡ alike f e
     pick true b p q = p ∙ sym (same-flip e f p)
     pick false true p q = same-flip f e q ∙ sym q
     pick false false p q = p ∙ sym q
@@ -80,14 +80,14 @@ pub fresh-insert : (e : Edge) (es fs : List Edge) → Fresh es fs → present fs
 unfolding exists
 fresh-insert e es [] a h = tt
 fresh-insert e es (f ∷ fs) a h =
-    let (x, y) = neither (samePair e f) (present fs e) h in
-    (exists-insert (samePair f) e es ∙ or-false (same-sym f e ∙ x) (a .0), fresh-insert e es fs (a .1) y)
+    let (x, y) = neither (alike e f) (present fs e) h in
+    (exists-insert (alike f) e es ∙ or-false (same-sym f e ∙ x) (a .0), fresh-insert e es fs (a .1) y)
 
 pub insert-fresh : (e : Edge) (es fs : List Edge) → Fresh (insert e es) fs → Fresh es fs × (present fs e ≡ false)
 unfolding exists
 insert-fresh e es [] a = (tt, refl)
 insert-fresh e es (f ∷ fs) a =
-    let (x, y) = neither (samePair f e) (present es f) (sym (exists-insert (samePair f) e es) ∙ a .0) in
+    let (x, y) = neither (alike f e) (present es f) (sym (exists-insert (alike f) e es) ∙ a .0) in
     let (u, v) = insert-fresh e es fs (a .1) in
     ((y, u), or-false (same-sym e f ∙ x) v)
 

@@ -11,7 +11,7 @@ use borrow.Author.Tests.{eqb-true, eq-eqb}
 use Rattle.graph.specs.declared.Found.{Found}
 use Rattle.graph.specs.declared.Found.the-variants.{At, Absent}
 use Rattle.graph.specs.Refusal.{accept}
-use Rattle.graph.specs.Edge.{Edge, edge, samePair, precedes, exists, present, edges}
+use Rattle.graph.specs.Edge.{Edge, edge, alike, precedes, exists, present, edges}
 use Rattle.graph.specs.Table.{rules, insert, delete}
 use Rattle.graph.specs.Code.{Room, edgeAt, position, seek, find, isAt, insertAt, deleteAt}
 use Rattle.graph.proofs.Tests.{both, and-true, neither}
@@ -44,41 +44,41 @@ position-is e (x ∷ es) (suc i) l a b =
 seek-absent : (i : ℕ) (e : Edge) (es : List Edge) → present es e ≡ false → seek i e es ≡ Absent
 unfolding seek exists
 seek-absent i e [] h = refl
-seek-absent i e (x ∷ es) h = let z = neither (samePair e x) (present es e) h in rw (z .0) (seek-absent (suc i) e es (z .1))
+seek-absent i e (x ∷ es) h = let z = neither (alike e x) (present es e) h in rw (z .0) (seek-absent (suc i) e es (z .1))
 
-seek-here : (i : ℕ) (e : Edge) (es : List Edge) → position e es < length es → samePair e (getD es (position e es) (edge 0 0 0)) ≡ true → seek i e es ≡ At (i + position e es)
+seek-here : (i : ℕ) (e : Edge) (es : List Edge) → position e es < length es → alike e (getD es (position e es) (edge 0 0 0)) ≡ true → seek i e es ≡ At (i + position e es)
 unfolding seek position
 seek-here i e [] l s = absurd (omega arith)
 seek-here i e (x ∷ es) l s = pick (precedes x e) refl l s (λ k z. seek-here (suc i) e es k z)
   where
-    pick : (b : Bool) → precedes x e ≡ b → cond b (suc (position e es)) 0 < suc (length es) → samePair e (getD (x ∷ es) (cond b (suc (position e es)) 0) (edge 0 0 0)) ≡ true
-        → (position e es < length es → samePair e (getD es (position e es) (edge 0 0 0)) ≡ true → seek (suc i) e es ≡ At (suc i + position e es))
-        → cond (samePair e x) (At i) (seek (suc i) e es) ≡ At (i + cond b (suc (position e es)) 0)
+    pick : (b : Bool) → precedes x e ≡ b → cond b (suc (position e es)) 0 < suc (length es) → alike e (getD (x ∷ es) (cond b (suc (position e es)) 0) (edge 0 0 0)) ≡ true
+        → (position e es < length es → alike e (getD es (position e es) (edge 0 0 0)) ≡ true → seek (suc i) e es ≡ At (suc i + position e es))
+        → cond (alike e x) (At i) (seek (suc i) e es) ≡ At (i + cond b (suc (position e es)) 0)
     pick true q k z ih = let f : i + suc (position e es) ≡ suc i + position e es = omega arith in rw (precedes-apart x e q .1, f) (ih (omega arith) z)
     pick false q k z ih = rw (z, add-zero i)
 
 -- nothing at the position, or another pair: the pair is absent
-present-past : (n : ℕ) (e : Edge) (es : List Edge) → Sound n es → (position e es < length es → samePair e (getD es (position e es) (edge 0 0 0)) ≡ false) → present es e ≡ false
+present-past : (n : ℕ) (e : Edge) (es : List Edge) → Sound n es → (position e es < length es → alike e (getD es (position e es) (edge 0 0 0)) ≡ false) → present es e ≡ false
 unfolding position exists
 present-past n e [] s h = refl
 present-past n e (x ∷ es) s h = pick (precedes x e) refl h (λ k. present-past n e es (follows-sound n x es (s .1)) k)
   where
-    pick : (b : Bool) → precedes x e ≡ b → (cond b (suc (position e es)) 0 < suc (length es) → samePair e (getD (x ∷ es) (cond b (suc (position e es)) 0) (edge 0 0 0)) ≡ false)
-        → ((position e es < length es → samePair e (getD es (position e es) (edge 0 0 0)) ≡ false) → present es e ≡ false) → (samePair e x || present es e) ≡ false
+    pick : (b : Bool) → precedes x e ≡ b → (cond b (suc (position e es)) 0 < suc (length es) → alike e (getD (x ∷ es) (cond b (suc (position e es)) 0) (edge 0 0 0)) ≡ false)
+        → ((position e es < length es → alike e (getD es (position e es) (edge 0 0 0)) ≡ false) → present es e ≡ false) → (alike e x || present es e) ≡ false
     pick true q z ih = rw (precedes-apart x e q .1) (ih (λ l. z (omega arith)))
     pick false q z ih = precedes-absent n e x es (precedes-after x e q (z (omega arith))) (s .1)
 
 module _ (e : Edge) (es : List Edge) where
-  find-here : position e es < length es → samePair e (getD es (position e es) (edge 0 0 0)) ≡ true → At (position e es) ≡ find e es
+  find-here : position e es < length es → alike e (getD es (position e es) (edge 0 0 0)) ≡ true → At (position e es) ≡ find e es
   find-here l s = sym (rw zero-add at (seek-here 0 e es l s))
 
-  find-none : (n : ℕ) → Sound n es → (position e es < length es → samePair e (getD es (position e es) (edge 0 0 0)) ≡ false) → Absent ≡ find e es
+  find-none : (n : ℕ) → Sound n es → (position e es < length es → alike e (getD es (position e es) (edge 0 0 0)) ≡ false) → Absent ≡ find e es
   find-none n s h = sym (seek-absent 0 e es (present-past n e es s h))
 
 seek-present : (i : ℕ) (e : Edge) (es : List Edge) → isAt (seek i e es) ≡ present es e
 unfolding seek isAt exists
 seek-present i e [] = refl
-seek-present i e (x ∷ es) = pick (samePair e x) (seek-present (suc i) e es)
+seek-present i e (x ∷ es) = pick (alike e x) (seek-present (suc i) e es)
   where
     pick : (b : Bool) → isAt (seek (suc i) e es) ≡ present es e → isAt (cond b (At i) (seek (suc i) e es)) ≡ (b || present es e)
     pick true h = refl
@@ -88,7 +88,7 @@ seek-present i e (x ∷ es) = pick (samePair e x) (seek-present (suc i) e es)
 pub seek-below : (i k : ℕ) (e : Edge) (es : List Edge) → seek i e es ≡ At k → (i ≤ k) × (k < i + length es)
 unfolding seek
 seek-below i k e [] h = let z : _≡_ {A = ℕ} 0 1 = cc in absurd (omega arith)
-seek-below i k e (x ∷ es) h = pick (samePair e x) h (seek-below (suc i) k e es)
+seek-below i k e (x ∷ es) h = pick (alike e x) h (seek-below (suc i) k e es)
   where
     pick : (b : Bool) → cond b (At i) (seek (suc i) e es) ≡ At k → (seek (suc i) e es ≡ At k → (suc i ≤ k) × (k < suc i + length es)) → (i ≤ k) × (k < i + suc (length es))
     pick true f ih = let z : i ≡ k = cc in (omega arith, omega arith)
@@ -97,7 +97,7 @@ seek-below i k e (x ∷ es) h = pick (samePair e x) h (seek-below (suc i) k e es
 seek-pair : (i t h v w : ℕ) (es : List Edge) → seek i (edge t h v) es ≡ seek i (edge t h w) es
 unfolding seek
 seek-pair i t h v w [] = refl
-seek-pair i t h v w (x ∷ es) = ap (λ (f : Found). cond (samePair (edge t h w) x) (At i) f) (seek-pair (suc i) t h v w es)
+seek-pair i t h v w (x ∷ es) = ap (λ (f : Found). cond (alike (edge t h w) x) (At i) f) (seek-pair (suc i) t h v w es)
 
 -- presence and look-up are one
 module _ (e : Edge) (es : List Edge) where
@@ -124,9 +124,9 @@ find-pair t h v w es = seek-pair 0 t h v w es
 pub insert-position : (e : Edge) (es : List Edge) → present es e ≡ false → insertAt (position e es) e es ≡ insert e es
 unfolding insert position insertAt exists
 insert-position e [] a = refl
-insert-position e (x ∷ es) a = let z = neither (samePair e x) (present es e) a in pick (precedes x e) refl (z .0) (insert-position e es (z .1))
+insert-position e (x ∷ es) a = let z = neither (alike e x) (present es e) a in pick (precedes x e) refl (z .0) (insert-position e es (z .1))
   where
-    pick : (b : Bool) → precedes x e ≡ b → samePair e x ≡ false → insertAt (position e es) e es ≡ insert e es
+    pick : (b : Bool) → precedes x e ≡ b → alike e x ≡ false → insertAt (position e es) e es ≡ insert e es
         → insertAt (cond b (suc (position e es)) 0) e (x ∷ es) ≡ cond (precedes e x) (e ∷ x ∷ es) (x ∷ insert e es)
     pick true q s h = rw (precedes-asym x e q) (ap (λ (l : List Edge). x ∷ l) h)
     pick false q s h = rw (precedes-after x e q s)
@@ -134,7 +134,7 @@ insert-position e (x ∷ es) a = let z = neither (samePair e x) (present es e) a
 seek-delete : (i k : ℕ) (e : Edge) (es : List Edge) → seek i e es ≡ At k → deleteAt (k - i) es ≡ delete e es
 unfolding seek delete deleteAt
 seek-delete i k e [] h = refl
-seek-delete i k e (x ∷ es) h = pick (samePair e x) h (seek-delete (suc i) k e es)
+seek-delete i k e (x ∷ es) h = pick (alike e x) h (seek-delete (suc i) k e es)
   where
     pick : (b : Bool) → cond b (At i) (seek (suc i) e es) ≡ At k → (seek (suc i) e es ≡ At k → deleteAt (k - suc i) es ≡ delete e es) → deleteAt (k - i) (x ∷ es) ≡ cond b es (x ∷ delete e es)
     pick true f ih =
@@ -179,8 +179,8 @@ module _ (ts hs ws : List ℕ) (m : ℕ) (r : Room m ts hs ws) (n : ℕ) (a : ru
   find-same l e f = ap At p ∙ find-here (edge t h 0) (edges ts hs ws m) (below l) (rw (there l) (and-true (eq-eqb t (getD ts i 0) (sym e)) (eq-eqb h (getD hs i 0) (sym f))))
 
   pub find-other : (i < m → getD ts i 0 ≡ t → getD hs i 0 ≡ h → ⊥) → Absent ≡ find (edge t h 0) (edges ts hs ws m)
-  find-other ne = find-none (edge t h 0) (edges ts hs ws m) n (rules-accept n _ a) (λ l. let k : i < m = (let z = edges-length ts hs ws m r in omega arith) in rw (there k) (pick k (samePair (edge t h 0) (edgeAt ts hs ws i)) refl))
+  find-other ne = find-none (edge t h 0) (edges ts hs ws m) n (rules-accept n _ a) (λ l. let k : i < m = (let z = edges-length ts hs ws m r in omega arith) in rw (there k) (pick k (alike (edge t h 0) (edgeAt ts hs ws i)) refl))
     where
-      pick : i < m → (b : Bool) → samePair (edge t h 0) (edgeAt ts hs ws i) ≡ b → samePair (edge t h 0) (edgeAt ts hs ws i) ≡ false
+      pick : i < m → (b : Bool) → alike (edge t h 0) (edgeAt ts hs ws i) ≡ b → alike (edge t h 0) (edgeAt ts hs ws i) ≡ false
       pick l true q = let z = both (eqb t (getD ts i 0)) (eqb h (getD hs i 0)) q in absurd (ne l (sym (eqb-true t (getD ts i 0) (z .0))) (sym (eqb-true h (getD hs i 0) (z .1))))
       pick l false q = q

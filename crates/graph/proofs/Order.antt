@@ -11,7 +11,7 @@ use lib.Dec.{ltb, leb, eqb}
 use Rattle.property.specs.Property.{M}
 use Rattle.graph.specs.Limits.{maxWeight}
 use Rattle.graph.specs.Refusal.{accept, refuseIf}
-use Rattle.graph.specs.Edge.{Edge, edge, samePair, precedes, exists, present}
+use Rattle.graph.specs.Edge.{Edge, edge, alike, precedes, exists, present}
 use Rattle.graph.specs.Table.{isWeight, isEdge, follow, rules, insert, delete}
 pub use Rattle.graph.specs.Within.{Within}
 use borrow.Author.Tests.{ltb-true, leb-true, eqb-true, not-false, lt-ltb, eq-eqb}
@@ -48,7 +48,7 @@ precedes-trans e f g h k = of-less e g (pick (less-of e f h) (less-of f g k))
     pick (inr a) (inr b) = inr (a .0 ∙ b .0, (let p = a .1 in let q = b .1 in omega arith))
 
 -- neither precedes nor the same pair: after
-precedes-else : (e f : Edge) → precedes e f ≡ false → samePair e f ≡ false → precedes f e ≡ true
+precedes-else : (e f : Edge) → precedes e f ≡ false → alike e f ≡ false → precedes f e ≡ true
 precedes-else e f h k = of-less f e (pick (decLt (f .tail) (e .tail)) (ℕ-discrete (e .tail) (f .tail)))
   where
     never : Less e f → ⊥
@@ -136,19 +136,19 @@ insert-follows : (n : ℕ) (p e : Edge) (es : List Edge) → Follows n p es → 
 unfolding insert exists
 insert-follows n p e [] h b f a = (b, f, tt)
 insert-follows n p e (x ∷ es) h b f a =
-    let z = neither (samePair e x) (present es e) a in
+    let z = neither (alike e x) (present es e) a in
     pick (precedes e x) refl (λ k. insert-follows n x e es (h .2) k f (z .1)) (z .0)
   where
-    pick : (c : Bool) → precedes e x ≡ c → (precedes x e ≡ true → Follows n x (insert e es)) → samePair e x ≡ false → Follows n p (cond c (e ∷ x ∷ es) (x ∷ insert e es))
+    pick : (c : Bool) → precedes e x ≡ c → (precedes x e ≡ true → Follows n x (insert e es)) → alike e x ≡ false → Follows n p (cond c (e ∷ x ∷ es) (x ∷ insert e es))
     pick true q below s = (b, f, (q, h .1, h .2))
     pick false q below s = (h .0, h .1, below (precedes-else e x q s))
 
 pub insert-sound : (n : ℕ) (e : Edge) (es : List Edge) → Sound n es → isEdge n e ≡ true → present es e ≡ false → Sound n (insert e es)
 unfolding insert exists
 insert-sound n e [] h f a = (f, tt)
-insert-sound n e (x ∷ es) h f a = let z = neither (samePair e x) (present es e) a in pick (precedes e x) refl (z .0) (z .1)
+insert-sound n e (x ∷ es) h f a = let z = neither (alike e x) (present es e) a in pick (precedes e x) refl (z .0) (z .1)
   where
-    pick : (c : Bool) → precedes e x ≡ c → samePair e x ≡ false → present es e ≡ false → Sound n (cond c (e ∷ x ∷ es) (x ∷ insert e es))
+    pick : (c : Bool) → precedes e x ≡ c → alike e x ≡ false → present es e ≡ false → Sound n (cond c (e ∷ x ∷ es) (x ∷ insert e es))
     pick true q s k = (f, (q, h .0, h .1))
     pick false q s k = (h .0, insert-follows n x e es (h .1) (precedes-else e x q s) f k)
 
@@ -159,7 +159,7 @@ skip n p x (y ∷ es) b h = (precedes-trans p x y b (h .0), h .1, h .2)
 delete-follows : (n : ℕ) (p e : Edge) (es : List Edge) → Follows n p es → Follows n p (delete e es)
 unfolding delete
 delete-follows n p e [] h = tt
-delete-follows n p e (x ∷ es) h = pick (samePair e x) (delete-follows n x e es (h .2))
+delete-follows n p e (x ∷ es) h = pick (alike e x) (delete-follows n x e es (h .2))
   where
     pick : (c : Bool) → Follows n x (delete e es) → Follows n p (cond c es (x ∷ delete e es))
     pick true below = skip n p x es (h .0) (h .2)
@@ -168,7 +168,7 @@ delete-follows n p e (x ∷ es) h = pick (samePair e x) (delete-follows n x e es
 pub delete-sound : (n : ℕ) (e : Edge) (es : List Edge) → Sound n es → Sound n (delete e es)
 unfolding delete
 delete-sound n e [] h = tt
-delete-sound n e (x ∷ es) h = pick (samePair e x) es (h .1)
+delete-sound n e (x ∷ es) h = pick (alike e x) es (h .1)
   where
     pick : (c : Bool) (l : List Edge) → Follows n x l → Sound n (cond c l (x ∷ delete e l))
     pick true [] k = tt
@@ -187,7 +187,7 @@ length-insert e (x ∷ es) = pick (precedes e x) (length-insert e es)
 pub length-delete : (e : Edge) (es : List Edge) → length (delete e es) ≤ length es
 unfolding delete
 length-delete e [] = omega arith
-length-delete e (x ∷ es) = pick (samePair e x) (length-delete e es)
+length-delete e (x ∷ es) = pick (alike e x) (length-delete e es)
   where
     pick : (c : Bool) → length (delete e es) ≤ length es → length (cond c es (x ∷ delete e es)) ≤ suc (length es)
     pick true k = omega arith
@@ -209,26 +209,26 @@ precedes-asym e f h = pick (precedes f e) refl
     pick false q = q
 
 -- an edge that precedes another is of another pair, whichever is asked first
-pub precedes-apart : (e f : Edge) → precedes e f ≡ true → (samePair e f ≡ false) × (samePair f e ≡ false)
-precedes-apart e f h = (one (samePair e f) refl, other (samePair f e) refl)
+pub precedes-apart : (e f : Edge) → precedes e f ≡ true → (alike e f ≡ false) × (alike f e ≡ false)
+precedes-apart e f h = (one (alike e f) refl, other (alike f e) refl)
   where
     never : e .tail ≡ f .tail → e .head ≡ f .head → Less e f → ⊥
     never p q (inl a) = omega arith
     never p q (inr a) = let z = a .1 in omega arith
 
-    one : (b : Bool) → samePair e f ≡ b → samePair e f ≡ false
+    one : (b : Bool) → alike e f ≡ b → alike e f ≡ false
     one true q = let z = both (eqb (e .tail) (f .tail)) _ q in absurd (never (eqb-true _ _ (z .0)) (eqb-true _ _ (z .1)) (less-of e f h))
     one false q = q
 
-    other : (b : Bool) → samePair f e ≡ b → samePair f e ≡ false
+    other : (b : Bool) → alike f e ≡ b → alike f e ≡ false
     other true q = let z = both (eqb (f .tail) (e .tail)) _ q in absurd (never (sym (eqb-true _ _ (z .0))) (sym (eqb-true _ _ (z .1))) (less-of e f h))
     other false q = q
 
 -- an edge that does not precede another, of another pair, comes after it
-pub precedes-after : (x e : Edge) → precedes x e ≡ false → samePair e x ≡ false → precedes e x ≡ true
-precedes-after x e h k = precedes-else x e h (flip (samePair x e) refl)
+pub precedes-after : (x e : Edge) → precedes x e ≡ false → alike e x ≡ false → precedes e x ≡ true
+precedes-after x e h k = precedes-else x e h (flip (alike x e) refl)
   where
-    flip : (b : Bool) → samePair x e ≡ b → samePair x e ≡ false
+    flip : (b : Bool) → alike x e ≡ b → alike x e ≡ false
     flip true q =
         let z = both (eqb (x .tail) (e .tail)) (eqb (x .head) (e .head)) q in
         let a = eq-eqb (e .tail) (x .tail) (sym (eqb-true (x .tail) (e .tail) (z .0))) in

@@ -12,7 +12,7 @@
 --   shortTable cs     == number 2: a list of the table has fewer than 2,048 words, whatever the count
 --   table n cs m      == number 4: a count over 2,048, at 0; or the first record that breaks the rules
 --   insert e es       == es with e put in, in table order
---   delete e es       == es with the edge of e's pair struck
+--   delete e es       == es with the edge alike e struck
 use mathlib.Core.Bool.{Bool, not, _&&_, _||_, cond}
 use mathlib.Core.List.{List, [], _∷_}
 use Prim.Native.Nat.{ℕ, suc}
@@ -20,7 +20,7 @@ use lib.ListN.{length}
 use lib.Dec.{eqb, ltb, leb}
 use Rattle.graph.specs.Limits.{maxVertices, maxEdges, maxWeight}
 use Rattle.graph.specs.Refusal.{Verdict, accept, _▷_, refuseIf}
-use Rattle.graph.specs.Edge.{Edge, samePair, precedes, edges}
+use Rattle.graph.specs.Edge.{Edge, alike, precedes, edges}
 
 pub record Columns : Type 0 where
   pub tails : List ℕ
@@ -65,4 +65,4 @@ insert e (x ∷ es) = cond (precedes e x) (e ∷ x ∷ es) (x ∷ insert e es)
 
 unfoldable pub delete : Edge → List Edge → List Edge
 delete e [] = []
-delete e (x ∷ es) = cond (samePair e x) es (x ∷ delete e es)
+delete e (x ∷ es) = cond (alike e x) es (x ∷ delete e es)
