@@ -7,7 +7,7 @@
 --   alike e f        == both can't stand in one table: the same tail and head
 --   precedes e f     == table order: "by tail, then head"
 --   keep f es        == the edges of es that pass the test f, in order
---   exists f es      == some edge of es passes the test f
+--   exists f xs      == some element of xs passes the test f
 --   among es e       == e is in es, by its three words
 --   present es e     == an edge alike e is in es
 --   leaving i es     == the edges of tail i, in table order
@@ -49,9 +49,9 @@ unfoldable pub keep : (Edge → Bool) → List Edge → List Edge
 keep f [] = []
 keep f (e ∷ es) = keepIf (f e) e (keep f es)
 
-unfoldable pub exists : (Edge → Bool) → List Edge → Bool
+unfoldable pub exists : {A : Type 0} → (A → Bool) → List A → Bool
 exists f [] = false
-exists f (e ∷ es) = f e || exists f es
+exists f (x ∷ xs) = f x || exists f xs
 
 abbrev pub among : List Edge → Edge → Bool
 among es e = exists (same e) es
