@@ -1,12 +1,13 @@
 -- How many digits a number has, and how many bytes a written text has at most. Assumes nothing.
 use mathlib.Core.Path.{_≡_, refl, ap, _∙_}
-use mathlib.Core.Bool.{Bool, true, false}
+use mathlib.Core.Bool.{true}
 use mathlib.Core.List.{List, [], _∷_, map}
 use Prim.Native.Nat.{ℕ, zero, suc, _+_, _*_, _/_, _%_, _^_, _≤_, _<_}
 use native.Mathlib.Omega.{arith}
 use lib.Dec.{ltb}
 use lib.ListN.{length, length-append}
 use borrow.Author.Tests.{ltb-true, ltb-false}
+use Rattle.property.proofs.Tests.{by-test}
 use Rattle.graph.specs.Limits.{maxVertices, maxEdges}
 use Rattle.graph.specs.Edge.{Edge}
 use Rattle.graph.specs.Table.{isEdge, tableOrder}
@@ -30,11 +31,9 @@ width-big v h = rw (digits-big v h) (length-append (digits (v / 10)) ((48 + v % 
 -- a number below ten to the power k + 1 has at most k + 1 digits
 pub width-most : (k v : ℕ) → v < 10 * 10 ^ k → length (digits v) ≤ suc k
 width-most zero v h = omega (arith, width-small v (omega arith))
-width-most (suc k) v h = pick (ltb v 10) refl (width-most k (v / 10) (omega arith))
-  where
-    pick : (b : Bool) → ltb v 10 ≡ b → length (digits (v / 10)) ≤ suc k → length (digits v) ≤ suc (suc k)
-    pick true e ih = omega (arith, width-small v (ltb-true v 10 e))
-    pick false e ih = omega (arith, width-big v (ltb-false v 10 e))
+width-most (suc k) v h = by-test (ltb v 10)
+    (λ e. omega (arith, width-small v (ltb-true v 10 e)))
+    (λ e. omega (arith, width-big v (ltb-false v 10 e), width-most k (v / 10) (omega arith)))
 
 -- ---- how many bytes
 
