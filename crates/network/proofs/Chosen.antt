@@ -21,21 +21,21 @@ use Rattle.network.specs.Choice.{ahead, ranking, place, ranked, choice}
 
 -- ---- what makes a list of landmarks longer by one
 
-record Leads (n l : ℕ) (ls : List ℕ) : Type 0 where
+record Longer (n l : ℕ) (ls : List ℕ) : Type 0 where
   below : ltb l n ≡ true
   other : isIn l ls ≡ false
   rest : areLandmarks n ls ≡ true
 
-leads : (n l : ℕ) (ls : List ℕ) → areLandmarks n (l ∷ ls) ≡ true → Leads n l ls
+longer : (n l : ℕ) (ls : List ℕ) → areLandmarks n (l ∷ ls) ≡ true → Longer n l ls
 unfolding areLandmarks
-leads n l ls h =
+longer n l ls h =
     let a = both (ltb l n) _ h in
     let b = both (not (isIn l ls)) (areLandmarks n ls) (a .1) in
     record { below = a .0; other = not-true _ (b .0); rest = b .1 }
 
-led : {n l : ℕ} {ls : List ℕ} → Leads n l ls → areLandmarks n (l ∷ ls) ≡ true
+of-longer : {n l : ℕ} {ls : List ℕ} → Longer n l ls → areLandmarks n (l ∷ ls) ≡ true
 unfolding areLandmarks
-led h = and-true (h .below) (and-true (ap not (h .other)) (h .rest))
+of-longer h = and-true (h .below) (and-true (ap not (h .other)) (h .rest))
 
 -- ---- ranked vertices are the same ones
 
@@ -55,21 +55,21 @@ place-landmarks : (n : ℕ) (es : List Edge) (v : ℕ) (us : List ℕ) → areLa
 unfolding insert exists
 place-landmarks n es v [] h = h
 place-landmarks n es v (u ∷ us) h =
-    let z = leads n v (u ∷ us) h in
-    let y = leads n u us (z .rest) in
+    let z = longer n v (u ∷ us) h in
+    let y = longer n u us (z .rest) in
     let x = neither (eqb v u) (isIn v us) (z .other) in
-    by-test (ahead es v u) (λ q. rw q h) (λ q. rw q (led (record {
+    by-test (ahead es v u) (λ q. rw q h) (λ q. rw q (of-longer (record {
       below = y .below;
       other = exists-insert (ranking es) (eqb u) v us ∙ or-false (ne-eqb u v (λ e. eqb-false v u (x .0) (sym e))) (y .other);
-      rest = place-landmarks n es v us (led (record { below = z .below; other = x .1; rest = y .rest }));
+      rest = place-landmarks n es v us (of-longer (record { below = z .below; other = x .1; rest = y .rest }));
     })))
 
 ranked-landmarks : (n : ℕ) (es : List Edge) (vs : List ℕ) → areLandmarks n vs ≡ true → areLandmarks n (ranked es vs) ≡ true
 unfolding ranked
 ranked-landmarks n es [] h = h
 ranked-landmarks n es (v ∷ vs) h =
-    let z = leads n v vs h in
-    place-landmarks n es v (ranked es vs) (led (record { below = z .below; other = ranked-in es v vs ∙ z .other; rest = ranked-landmarks n es vs (z .rest) }))
+    let z = longer n v vs h in
+    place-landmarks n es v (ranked es vs) (of-longer (record { below = z .below; other = ranked-in es v vs ∙ z .other; rest = ranked-landmarks n es vs (z .rest) }))
 
 -- ---- numbers in a row are different, and so are the first of different ones
 
@@ -82,7 +82,7 @@ range-landmarks : (n i k : ℕ) → i + k ≤ n → areLandmarks n (range i k) �
 unfolding areLandmarks range
 range-landmarks n i zero h = refl
 range-landmarks n i (suc k) h =
-    led (record { below = lt-ltb i n (omega arith); other = range-other i (suc i) k (omega arith); rest = range-landmarks n (suc i) k (omega arith) })
+    of-longer (record { below = lt-ltb i n (omega arith); other = range-other i (suc i) k (omega arith); rest = range-landmarks n (suc i) k (omega arith) })
 
 take-other : (a k : ℕ) (us : List ℕ) → isIn a us ≡ false → isIn a (take k us) ≡ false
 unfolding exists
@@ -95,8 +95,8 @@ unfolding areLandmarks
 take-landmarks n zero us h = refl
 take-landmarks n (suc k) [] h = refl
 take-landmarks n (suc k) (u ∷ us) h =
-    let z = leads n u us h in
-    led (record { below = z .below; other = take-other u k us (z .other); rest = take-landmarks n k us (z .rest) })
+    let z = longer n u us h in
+    of-longer (record { below = z .below; other = take-other u k us (z .other); rest = take-landmarks n k us (z .rest) })
 
 choice-length : (n : ℕ) (es : List Edge) (k : ℕ) → 0 < n → 0 < k → (0 < length (choice n es k)) × (length (choice n es k) ≤ k)
 choice-length n es k a b =
