@@ -11,6 +11,7 @@ use lib.ListN.{length, getD, drop, drop-of-length-le}
 use lib.Seq.{drop-cons}
 use lib.Dec.{eqb, ltb}
 use borrow.Author.Tests.{eq-eqb, ne-eqb, lt-ltb, le-ltb, ltb-false, not-false}
+use Rattle.graph.specs.Edge.{exists}
 use Rattle.graph.specs.Refusal.{accept}
 use Rattle.graph.specs.Limits.{maxVertices, maxEdges, maxLandmarks}
 use Rattle.graph.specs.Code.{Room, columns}
@@ -27,15 +28,15 @@ use Rattle.calls.specs.Code.{rowLists, network}
 
 module _ (v : ℕ) (vs : List ℕ) (i : ℕ) {b : Bool} (h : isIn v (drop i vs) ≡ b) where
   pub in-found : i < length vs → v ≡ getD vs i 0 → true ≡ b
-  unfolding isIn
+  unfolding exists
   in-found l e = rw (drop-cons vs i 0 l, eq-eqb v (getD vs i 0) e) at h
 
   pub in-more : i < length vs → (v ≡ getD vs i 0 → ⊥) → isIn v (drop (i + 1) vs) ≡ b
-  unfolding isIn
+  unfolding exists
   in-more l e = rw add-one (rw (drop-cons vs i 0 l, ne-eqb v (getD vs i 0) e) at h)
 
   pub in-none : length vs ≤ i → false ≡ b
-  unfolding isIn
+  unfolding exists
   in-none l = rw (drop-of-length-le vs {i = i} l) at h
 
 module _ (n : ℕ) (vs : List ℕ) (i : ℕ) {b : Bool} (h : areLandmarks n (drop i vs) ≡ b) where

@@ -11,11 +11,12 @@ use lib.ListN.{length, getD, set, length-set}
 use lib.Seq.{getD-set-same, getD-set-other}
 use Rattle.graph.specs.Refusal.{accept}
 use Rattle.graph.specs.Edge.{Edge, edge, precedes, edges, among}
-use Rattle.graph.specs.Table.{rules}
+use Rattle.graph.specs.Table.{isEdge, tableOrder, rules}
 use Rattle.graph.specs.Code.{Room, edgeAt, position}
-use Rattle.graph.proofs.Order.{precedes-trans, rules-accept, sound-before, sound-onward}
+use Rattle.graph.proofs.Sorted.{sorted-before, sorted-onward}
+use Rattle.graph.proofs.Seek.{position-is}
+use Rattle.graph.proofs.Order.{table-ordered, rules-accept}
 use Rattle.graph.proofs.Records.{edges-length, edges-at}
-use Rattle.graph.proofs.Lookup.{position-is}
 use Rattle.affected.specs.Affected.{removed}
 use Rattle.compare.specs.Code.{Missing, Passed}
 
@@ -36,11 +37,11 @@ pub passed-position : (n : ℕ) (ts hs ws : List ℕ) (m t h j : ℕ) → Room m
     → (j < m → precedes (edgeAt ts hs ws j) (edge t h 0) ≡ false) → j ≡ position (edge t h 0) (edges ts hs ws m)
 passed-position n ts hs ws m t h j r a at stop =
     let z = edges-length ts hs ws m r in
-    position-is (edge t h 0) (edges ts hs ws m) j (omega (arith, at .within))
+    position-is tableOrder (edge 0 0 0) (edge t h 0) (edges ts hs ws m) j (omega (arith, at .within))
     (λ k i. let l : k < m = omega (arith, at .within) in ap (λ e. precedes e (edge t h 0)) (edges-at ts hs ws m r k l) ∙ at .before k i)
     (λ k i l.
     let o : j < m = omega arith in
-    sound-onward n (edges ts hs ws m) (rules-accept n _ a) (edge t h 0) j (omega arith)
+    sorted-onward table-ordered (isEdge n) (edge 0 0 0) (edges ts hs ws m) (rules-accept n _ a) (edge t h 0) j (omega arith)
     (ap (λ e. precedes e (edge t h 0)) (edges-at ts hs ws m r j o) ∙ stop o) k i l)
 
 -- what precedes an edge precedes the next one of its table, and so does what has its pair
@@ -48,7 +49,7 @@ module _ (n : ℕ) (ts hs ws : List ℕ) (m : ℕ) (r : Room m ts hs ws) (a : ru
   rises : precedes (edgeAt ts hs ws k) (edgeAt ts hs ws (k + 1)) ≡ true
   rises =
       let z = edges-length ts hs ws m r in
-      let y = sound-before n (edges ts hs ws m) (rules-accept n _ a) k (k + 1) (omega arith) (omega arith) in
+      let y = sorted-before table-ordered (isEdge n) (edge 0 0 0) (edges ts hs ws m) (rules-accept n _ a) k (k + 1) (omega arith) (omega arith) in
       rw (edges-at ts hs ws m r k (omega arith), edges-at ts hs ws m r (k + 1) next) at y
 
   pub passed-next : (ts′ hs′ ws′ : List ℕ) (m′ j : ℕ) (b : Bool) → Passed ts′ hs′ ws′ m′ (getD ts k 0) (getD hs k 0) j
@@ -57,7 +58,7 @@ module _ (n : ℕ) (ts hs ws : List ℕ) (m : ℕ) (r : Room m ts hs ws) (a : ru
   passed-next ts′ hs′ ws′ m′ j b at f i p = rw p (pick b refl)
     where
       kept : Passed ts′ hs′ ws′ m′ (getD ts (k + 1) 0) (getD hs (k + 1) 0) j
-      kept = record { within = at .within; before = λ i l. precedes-trans (edgeAt ts′ hs′ ws′ i) (edgeAt ts hs ws k) (edgeAt ts hs ws (k + 1)) (at .before i l) rises }
+      kept = record { within = at .within; before = λ i l. table-ordered .transitive (edgeAt ts′ hs′ ws′ i) (edgeAt ts hs ws k) (edgeAt ts hs ws (k + 1)) (at .before i l) rises }
 
       pick : (c : Bool) → b ≡ c → Passed ts′ hs′ ws′ m′ (getD ts (k + 1) 0) (getD hs (k + 1) 0) (cond c (j + 1) j)
       pick true e =

@@ -1,18 +1,16 @@
 -- Code stops counting a number at a cap c while it goes on eating its digits. No reader can tell: neither what follows the
 -- number nor any limit below the cap. Assumes nothing.
 use mathlib.Core.Path.{_≡_, refl, sym, ap, _∙_}
-use mathlib.Core.Bool.{Bool, true, false, not, and-false}
+use mathlib.Core.Bool.{Bool, true, false, and-false}
 use mathlib.Core.List.{List, [], _∷_}
 use Prim.Native.Nat.{ℕ, _+_, _-_, _*_, _≤_, _<_, min}
 use native.Mathlib.Omega.{arith}
-use lib.Dec.{leb, ltb, eqb}
+use lib.Dec.{leb, ltb}
 use borrow.Author.Tests.{ltb-true, leb-true}
 use Rattle.graph.specs.Limits.{maxVertices, maxEdges, maxWeight}
 use Rattle.graph.specs.Edge.{Edge, edge}
-use Rattle.graph.specs.Table.{isEdge, isWeight}
-use Rattle.graph.proofs.Tests.{both}
+use Rattle.graph.proofs.Order.{edge-facts}
 use Rattle.dimacs.proofs.Digits.{scan-digit, scan-other}
-use Rattle.dimacs.proofs.Count.{edge-ends}
 use Rattle.dimacs.proofs.Network.{opens-facts, takes-facts}
 use Rattle.dimacs.specs.Decimal.{isDigit, scan}
 use Rattle.dimacs.specs.Network as net
@@ -57,13 +55,6 @@ module _ (c : ℕ) where
       pick false true p q = let (x, y, z, w) = opens-facts n m q in same (omega arith) (omega arith)
       pick false false p q = rw (p, q)
 
-  weight-most : (n : ℕ) (e : Edge) → isEdge n e ≡ true → e .weight ≤ maxWeight
-  weight-most n e h =
-      let a = both (ltb (e .tail) n) _ h in
-      let b = both (ltb (e .head) n) _ (a .1) in
-      let d = both (not (eqb (e .tail) (e .head))) (isWeight (e .weight)) (b .1) in
-      leb-true _ _ (both (ltb 0 (e .weight)) (leb (e .weight) maxWeight) (d .1) .1)
-
   -- the text has the vertices from 1: a number t + 1 at the cap is vertex c − 1
   pub arc-capped : maxWeight < c → (n m : ℕ) (es : List Edge) (t h w : ℕ) → n ≤ maxVertices
       → net.act (net.within n m es) (net.arc (edge (min t (c - 1)) (min h (c - 1)) (min w c))) ≡ net.act (net.within n m es) (net.arc (edge t h w))
@@ -80,12 +71,12 @@ module _ (c : ℕ) where
           → net.act (net.within n m es) (net.arc (edge (min t (c - 1)) (min h (c - 1)) (min w c))) ≡ net.act (net.within n m es) (net.arc (edge t h w))
       pick true b p q =
           let (x, y, z) = takes-facts n m es (edge (min t (c - 1)) (min h (c - 1)) (min w c)) p in
-          let s = edge-ends n (edge (min t (c - 1)) (min h (c - 1)) (min w c)) y in
-          same (omega (arith, s .tail-below)) (omega (arith, s .head-below)) (omega (arith, weight-most n (edge (min t (c - 1)) (min h (c - 1)) (min w c)) y))
+          let s = edge-facts n (edge (min t (c - 1)) (min h (c - 1)) (min w c)) y in
+          same (omega (arith, s .tail-below)) (omega (arith, s .head-below)) (omega (arith, s .weight-most))
       pick false true p q =
           let (x, y, z) = takes-facts n m es (edge t h w) q in
-          let s = edge-ends n (edge t h w) y in
-          same (omega (arith, s .tail-below)) (omega (arith, s .head-below)) (omega (arith, weight-most n (edge t h w) y))
+          let s = edge-facts n (edge t h w) y in
+          same (omega (arith, s .tail-below)) (omega (arith, s .head-below)) (omega (arith, s .weight-most))
       pick false false p q = rw (p, q)
 
   pub header-capped : src.maxSources < c → (n k : ℕ) → src.act n src.start (src.header (min k c)) ≡ src.act n src.start (src.header k)

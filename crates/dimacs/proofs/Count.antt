@@ -1,34 +1,21 @@
 -- How many edges a table of n vertices can hold: n × (n − 1). A table with fewer lacks a pair. Assumes nothing.
 use mathlib.Core.Path.{_≡_, refl, sym, ap, _∙_}
 use mathlib.Core.Logic.{_⊎_, inl, inr}
-use mathlib.Core.Bool.{Bool, true, false, _||_, not, cond, or-true, true≢false}
+use mathlib.Core.Bool.{Bool, true, false, _||_, cond, or-true, true≢false}
 use mathlib.Core.List.{List, [], _∷_, _++_, map}
 use Prim.Native.Nat.{ℕ, zero, suc, _+_, _-_, _*_, _/_, _%_, _≤_, _<_}
 use native.Mathlib.Nat.{mul-le-mul-right, div-add-mod', div-lt-iff-lt-mul, mod-lt}
 use native.Mathlib.Omega.{arith}
 use lib.Dec.{ltb, eqb}
 use lib.ListN.{length, length-append, length-map}
-use borrow.Author.Tests.{lt-ltb, ltb-true, ltb-false, eqb-true, eqb-false, eq-eqb, ne-eqb, not-true}
-use Rattle.graph.specs.Edge.{Edge, edge, samePair, exists, present}
+use borrow.Author.Tests.{lt-ltb, ltb-true, ltb-false, eqb-true, eqb-false, eq-eqb, ne-eqb}
+use Rattle.property.proofs.Tests.{is-false, by-test}
+use Rattle.graph.specs.Edge.{Edge, edge, alike, exists, present}
 use Rattle.graph.specs.Table.{isEdge}
-use Rattle.graph.proofs.Tests.{both, neither, or-false}
-use Rattle.graph.proofs.Order.{Less, less-of, Follows, Sound}
+use Rattle.graph.proofs.Tests.{neither, or-false}
+use Rattle.graph.proofs.Order.{alike-pair, Less, less-of, EdgeFacts, edge-facts, Sound}
 
--- ---- an edge's parts as facts
-
-pub record EdgeEnds (n : ℕ) (e : Edge) : Type 0 where
-  pub tail-below : e .tail < n
-  pub head-below : e .head < n
-  pub no-loop : e .tail ≡ e .head → ⊥
-
-pub edge-ends : (n : ℕ) (e : Edge) → isEdge n e ≡ true → EdgeEnds n e
-edge-ends n e h =
-    let (p, h₁) = both (ltb (e .tail) n) _ h in
-    let (q, h₂) = both (ltb (e .head) n) _ h₁ in
-    let (r, h₃) = both (not (eqb (e .tail) (e .head))) _ h₂ in
-    record { tail-below = ltb-true _ _ p; head-below = ltb-true _ _ q; no-loop = eqb-false _ _ (not-true _ r) }
-
-pub light-edge : (n t h : ℕ) → t < n → h < n → (t ≡ h → ⊥) → isEdge n (edge t h 1) ≡ true
+light-edge : (n t h : ℕ) → t < n → h < n → (t ≡ h → ⊥) → isEdge n (edge t h 1) ≡ true
 light-edge n t h p q d = rw (lt-ltb t n p, lt-ltb h n q, ne-eqb t h d)
 
 -- ---- at most n × (n − 1)
@@ -40,23 +27,19 @@ place t h = cond (ltb h t) h (h - 1)
 
 place-cases : (t h : ℕ) → ((h < t) × (place t h ≡ h)) ⊎ ((t ≤ h) × (place t h ≡ h - 1))
 unfolding place
-place-cases t h = pick (ltb h t) refl
-  where
-    pick : (b : Bool) → ltb h t ≡ b → ((h < t) × (place t h ≡ h)) ⊎ ((t ≤ h) × (place t h ≡ h - 1))
-    pick true e = inl (ltb-true _ _ e, rw e)
-    pick false e = inr (ltb-false _ _ e, rw e)
+place-cases t h = by-test (ltb h t) (λ e. inl (ltb-true _ _ e, rw e)) (λ e. inr (ltb-false _ _ e, rw e))
 
 abbrev spot : ℕ → Edge → ℕ
 spot n e = e .tail * (n - 1) + place (e .tail) (e .head)
 
-place-below : (n : ℕ) (e : Edge) → EdgeEnds n e → place (e .tail) (e .head) < n - 1
+place-below : (n : ℕ) (e : Edge) → EdgeFacts n e → place (e .tail) (e .head) < n - 1
 place-below n e s = pick (place-cases (e .tail) (e .head)) (s .tail-below) (s .head-below) (s .no-loop)
   where
     pick : ((e .head < e .tail) × (place (e .tail) (e .head) ≡ e .head)) ⊎ ((e .tail ≤ e .head) × (place (e .tail) (e .head) ≡ e .head - 1)) → e .tail < n → e .head < n → (e .tail ≡ e .head → ⊥) → place (e .tail) (e .head) < n - 1
     pick (inl c) p q d = omega arith
     pick (inr c) p q d = omega arith
 
-spot-below : (n : ℕ) (e : Edge) → EdgeEnds n e → spot n e < n * (n - 1)
+spot-below : (n : ℕ) (e : Edge) → EdgeFacts n e → spot n e < n * (n - 1)
 spot-below n e s = omega (arith, place-below n e s, mul-le-mul-right (n - 1) (s .tail-below))
 
 place-row : (t a b : ℕ) → (t ≡ a → ⊥) → (t ≡ b → ⊥) → a < b → place t a < place t b
@@ -68,25 +51,23 @@ place-row t a b x y l = pick (place-cases t a) (place-cases t b)
     pick (inr p) (inl q) = absurd (omega arith)
     pick (inr p) (inr q) = omega arith
 
-spot-row : (n : ℕ) (e f : Edge) → EdgeEnds n e → EdgeEnds n f → e .head < f .head → e .tail ≡ f .tail → spot n e < spot n f
+spot-row : (n : ℕ) (e f : Edge) → EdgeFacts n e → EdgeFacts n f → e .head < f .head → e .tail ≡ f .tail → spot n e < spot n f
 spot-row n e f s r l q =
     let p : place (f .tail) (e .head) < place (f .tail) (f .head) = place-row (f .tail) (e .head) (f .head) (λ z. s .no-loop (q ∙ z)) (r .no-loop) l in
     rw q (omega arith)
 
-spot-less : (n : ℕ) (e f : Edge) → EdgeEnds n e → EdgeEnds n f → Less e f → spot n e < spot n f
+spot-less : (n : ℕ) (e f : Edge) → EdgeFacts n e → EdgeFacts n f → Less e f → spot n e < spot n f
 spot-less n e f s r (inl p) = omega (arith, place-below n e s, mul-le-mul-right (n - 1) p)
 spot-less n e f s r (inr (q, l)) = spot-row n e f s r l q
 
-spots : (n : ℕ) (e : Edge) (es : List Edge) → EdgeEnds n e → Follows n e es → spot n e + length es < n * (n - 1)
-spots n e [] s b = omega (arith, spot-below n e s)
-spots n e (f ∷ es) s b =
-    let r = edge-ends n f (b .1) in
-    omega (arith, spot-less n e f s r (less-of e f (b .0)), spots n f es r (b .2))
+spots : (n : ℕ) (e : Edge) (es : List Edge) → Sound n (e ∷ es) → spot n e + length es < n * (n - 1)
+spots n e [] s = omega (arith, spot-below n e (edge-facts n e (s .0)))
+spots n e (f ∷ es) s = omega (arith, spot-less n e f (edge-facts n e (s .0)) (edge-facts n f (s .2 .0)) (less-of e f (s .1)), spots n f es (s .2))
 
 -- the numbers of ascending edges ascend and stay below n × (n − 1), so that there are no more of them
 pub sound-length : (n : ℕ) (es : List Edge) → Sound n es → length es ≤ n * (n - 1)
 sound-length n [] s = omega arith
-sound-length n (e ∷ es) s = omega (arith, spots n e es (edge-ends n e (s .0)) (s .1))
+sound-length n (e ∷ es) s = omega (arith, spots n e es s)
 
 -- ---- with fewer, a pair is left
 
@@ -103,42 +84,27 @@ without i (x ∷ xs) = cond (eqb x i) (without i xs) (x ∷ without i xs)
 without-length : (i : ℕ) (xs : List ℕ) → length (without i xs) ≤ length xs
 unfolding without
 without-length i [] = omega arith
-without-length i (x ∷ xs) = pick (eqb x i) refl (without-length i xs)
-  where
-    pick : (t : Bool) → eqb x i ≡ t → length (without i xs) ≤ length xs → length (without i (x ∷ xs)) ≤ suc (length xs)
-    pick true e ih = rw e (omega arith)
-    pick false e ih = rw e (omega arith)
+without-length i (x ∷ xs) = let ih = without-length i xs in by-test (eqb x i) (λ e. rw e (omega arith)) (λ e. rw e (omega arith))
 
 without-shorter : (i : ℕ) (xs : List ℕ) → member xs i ≡ true → length (without i xs) < length xs
 unfolding without member
 without-shorter i [] h = absurd (true≢false (sym h))
-without-shorter i (x ∷ xs) h = pick (eqb x i) refl (without-shorter i xs)
-  where
-    pick : (t : Bool) → eqb x i ≡ t → (member xs i ≡ true → length (without i xs) < length xs) → length (without i (x ∷ xs)) < suc (length xs)
-    pick true e ih = rw e (omega (arith, without-length i xs))
-    pick false e ih = let g : member xs i ≡ true = rw e at h in rw e (omega (arith, ih g))
+without-shorter i (x ∷ xs) h = by-test (eqb x i)
+    (λ e. rw e (omega (arith, without-length i xs)))
+    (λ e. let g : member xs i ≡ true = rw e at h in rw e (omega (arith, without-shorter i xs g)))
 
 without-member : (i j : ℕ) (xs : List ℕ) → (i ≡ j → ⊥) → member (without i xs) j ≡ false → member xs j ≡ false
 unfolding without member
 without-member i j [] d h = refl
-without-member i j (x ∷ xs) d h = pick (eqb x i) refl (without-member i j xs d)
-  where
-    pick : (t : Bool) → eqb x i ≡ t → (member (without i xs) j ≡ false → member xs j ≡ false) → (eqb x j || member xs j) ≡ false
-    pick true e ih = or-false (ne-eqb x j (λ z. d (sym (eqb-true x i e) ∙ z))) (ih (rw e at h))
-    pick false e ih =
-        let g : (eqb x j || member (without i xs) j) ≡ false = rw e at h in
-        let (p, q) = neither (eqb x j) _ g in
-        or-false p (ih q)
+without-member i j (x ∷ xs) d h = by-test (eqb x i)
+    (λ e. or-false (ne-eqb x j (λ z. d (sym (eqb-true x i e) ∙ z))) (without-member i j xs d (rw e at h)))
+    (λ e. let (p, q) = neither (eqb x j) (member (without i xs) j) (rw e at h) in or-false p (without-member i j xs d q))
 
 missing : (k : ℕ) (xs : List ℕ) → length xs < k → (i : ℕ) × (i < k) × (member xs i ≡ false)
 missing zero xs h = absurd (omega arith)
-missing (suc k) xs h = pick (member xs k) refl (missing k (without k xs))
-  where
-    pick : (t : Bool) → member xs k ≡ t → (length (without k xs) < k → (i : ℕ) × (i < k) × (member (without k xs) i ≡ false)) → (i : ℕ) × (i < suc k) × (member xs i ≡ false)
-    pick false e ih = (k, omega arith, e)
-    pick true e ih =
-        let (i, l, q) = ih (omega (arith, without-shorter k xs e)) in
-        (i, omega arith, without-member k i xs (λ z. omega arith) q)
+missing (suc k) xs h = by-test (member xs k)
+    (λ e. let (i, l, q) = missing k (without k xs) (omega (arith, without-shorter k xs e)) in (i, omega arith, without-member k i xs (λ z. omega arith) q))
+    (λ e. (k, omega arith, e))
 
 -- The pairs as numbers tail × n + head; those of the diagonal count as used.
 
@@ -157,11 +123,9 @@ length-diagonal n (suc k) = ap suc (length-diagonal n k)
 on-diagonal : (n k t : ℕ) → t < k → member (diagonal n k) (t * n + t) ≡ true
 unfolding diagonal member
 on-diagonal n zero t h = absurd (omega arith)
-on-diagonal n (suc k) t h = pick (eqb k t) refl (on-diagonal n k t)
-  where
-    pick : (b : Bool) → eqb k t ≡ b → (t < k → member (diagonal n k) (t * n + t) ≡ true) → (eqb (k * n + k) (t * n + t) || member (diagonal n k) (t * n + t)) ≡ true
-    pick true e ih = let q : k ≡ t = eqb-true k t e in rw (eq-eqb (k * n + k) (t * n + t) (ap (λ (x : ℕ). x * n + x) q))
-    pick false e ih = rw (ih (omega (arith, eqb-false k t e)), or-true)
+on-diagonal n (suc k) t h = by-test (eqb k t)
+    (λ e. let q : k ≡ t = eqb-true k t e in rw (eq-eqb (k * n + k) (t * n + t) (ap (λ (x : ℕ). x * n + x) q)))
+    (λ e. rw (on-diagonal n k t (omega (arith, eqb-false k t e)), or-true))
 
 member-append : (xs ys : List ℕ) (i : ℕ) → member (xs ++ ys) i ≡ false → (member xs i ≡ false) × (member ys i ≡ false)
 unfolding member
@@ -174,13 +138,7 @@ member-append (x ∷ xs) ys i h =
 code-absent : (n : ℕ) (es : List Edge) (e : Edge) → member (map (code n) es) (code n e) ≡ false → present es e ≡ false
 unfolding member exists
 code-absent n [] e h = refl
-code-absent n (f ∷ es) e h = let (p, q) = neither (eqb (code n f) (code n e)) _ h in or-false (pick p (samePair e f) refl) (code-absent n es e q)
-  where
-    pick : eqb (code n f) (code n e) ≡ false → (t : Bool) → samePair e f ≡ t → samePair e f ≡ false
-    pick p true r =
-        let (x, y) = both (eqb (e .tail) (f .tail)) _ r in
-        absurd (eqb-false (code n f) (code n e) p (rw (eqb-true (e .tail) (f .tail) x, eqb-true (e .head) (f .head) y)))
-    pick p false r = r
+code-absent n (f ∷ es) e h = let (p, q) = neither (eqb (code n f) (code n e)) _ h in or-false (is-false (alike e f) (λ r. let (x, y) = alike-pair e f r in eqb-false (code n f) (code n e) p (rw (x, y)))) (code-absent n es e q)
 
 square : (n : ℕ) → 0 < n → n * (n - 1) + n ≡ n * n
 square zero h = absurd (omega arith)

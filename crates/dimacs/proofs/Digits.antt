@@ -8,6 +8,7 @@ use native.Mathlib.Omega.{arith}
 use lib.Dec.{ltb, leb, eqb}
 use lib.Arith.{digits-div, digits-mod}
 use borrow.Author.Tests.{lt-ltb, le-ltb, le-leb, ltb-true, ltb-false, leb-true, eqb-true, eqb-false, ne-eqb, not-true}
+use Rattle.property.proofs.Tests.{by-test}
 use Rattle.graph.proofs.Tests.{both}
 use Rattle.dimacs.proofs.Options.{none-some, some-same}
 use Rattle.dimacs.specs.Decimal.{digitsBy, digits, isDigit, scan, number}
@@ -79,11 +80,7 @@ digits-take v b s h e =
 pub scan-spells : (v : ℕ) (s : List ℕ) → 0 < v → digits v ++ s ≡ digits (scan v s .0) ++ scan v s .1
 unfolding scan
 scan-spells v [] h = refl
-scan-spells v (b ∷ s) h = pick (isDigit b) refl (scan-spells (v * 10 + (b - 48)) s (omega arith))
-  where
-    pick : (t : Bool) → isDigit b ≡ t → digits (v * 10 + (b - 48)) ++ s ≡ digits (scan (v * 10 + (b - 48)) s .0) ++ scan (v * 10 + (b - 48)) s .1 → digits v ++ (b ∷ s) ≡ digits (scan v (b ∷ s) .0) ++ scan v (b ∷ s) .1
-    pick true e ih = rw e (digits-take v b s h e ∙ ih)
-    pick false e ih = rw e
+scan-spells v (b ∷ s) h = by-test (isDigit b) (λ e. rw e (digits-take v b s h e ∙ scan-spells (v * 10 + (b - 48)) s (omega arith))) (λ e. rw e)
 
 pub number-spells : (s r : List ℕ) (v : ℕ) → number s ≡ some (v, r) → s ≡ digits v ++ r
 unfolding number
@@ -117,14 +114,12 @@ number-small v s l h =
 
 number-in : (k v : ℕ) (s : List ℕ) → v ≤ k → 0 < v → number (digits v ++ s) ≡ some (scan v s)
 number-in zero v s h hv = absurd (omega arith)
-number-in (suc k) v s h hv = pick (ltb v 10) refl (λ l. number-in k (v / 10) ((48 + v % 10) ∷ s) (omega arith) (omega arith))
-  where
-    pick : (b : Bool) → ltb v 10 ≡ b → (10 ≤ v → number (digits (v / 10) ++ ((48 + v % 10) ∷ s)) ≡ some (scan (v / 10) ((48 + v % 10) ∷ s))) → number (digits v ++ s) ≡ some (scan v s)
-    pick true e ih = number-small v s (ltb-true v 10 e) hv
-    pick false e ih =
-        let l : 10 ≤ v = ltb-false v 10 e in
-        let w : v / 10 * 10 + (48 + v % 10 - 48) ≡ v = omega arith in
-        rw (digits-big v l, append-assoc) (ih l ∙ ap (λ (q : ℕ × List ℕ). some q) (scan-digit (v / 10) (48 + v % 10) s (digit-is (v % 10) (omega arith)) ∙ ap (λ (x : ℕ). scan x s) w))
+number-in (suc k) v s h hv = by-test (ltb v 10)
+    (λ e. number-small v s (ltb-true v 10 e) hv)
+    (λ e. let l : 10 ≤ v = ltb-false v 10 e in
+    let w : v / 10 * 10 + (48 + v % 10 - 48) ≡ v = omega arith in
+    rw (digits-big v l, append-assoc) (number-in k (v / 10) ((48 + v % 10) ∷ s) (omega arith) (omega arith)
+    ∙ ap (λ (q : ℕ × List ℕ). some q) (scan-digit (v / 10) (48 + v % 10) s (digit-is (v % 10) (omega arith)) ∙ ap (λ (x : ℕ). scan x s) w)))
 
 pub number-digits : (v : ℕ) (s : List ℕ) → stops s ≡ true → number (digits v ++ s) ≡ some (v, s)
 unfolding number

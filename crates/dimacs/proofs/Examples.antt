@@ -13,7 +13,8 @@ use Prim.Native.String.{String, [] as empty, _∷_ as _then_}
 use lib.ListN.{replicate}
 use Rattle.graph.specs.Refusal.{accepted, refused, Outcome, _▷_, refuseIf, replied, choose}
 use Rattle.graph.specs.Edge.{edge, exists, zip, edges}
-use Rattle.graph.specs.Table.{Columns, follow, rules, insert}
+use Rattle.graph.specs.Table.{Columns}
+use Rattle.graph.specs.Sorted as order
 use Rattle.dimacs.specs.Decimal.{digitsBy, digits, isDigit, scan, number}
 use Rattle.dimacs.specs.Lines.{joined, before, split, fieldsOf}
 use Rattle.dimacs.specs.Read.{after, fields, commentOf, spokenBy, lineIn, Read, good, bad, heard, step, ended, reading, read}
@@ -164,7 +165,7 @@ networks =
     ∷ []
 
 networks-said : map (λ c. readNetwork (bytes (c .0))) networks ≡ map (λ c. c .1) networks
-unfolding bytes readNetwork read reading step heard ended lineIn commentOf spokenBy split before itemIn orElse after fields number scan isDigit problemFrom arcFrom arcOf act opens takes complete exists insert bind
+unfolding bytes readNetwork read reading step heard ended lineIn commentOf spokenBy split before itemIn orElse after fields number scan isDigit problemFrom arcFrom arcOf act opens takes complete exists order.insert bind
 networks-said = refl
 
 -- ---- source files, for a network of 3 vertices
@@ -254,7 +255,7 @@ readings =
     ∷ []
 
 readings-said : map (λ c. c .0) readings ≡ map (λ c. c .1) readings
-unfolding bytes readCall judged vertexCount edgesRead replied choose _▷_ refuseIf readNetwork read reading step heard ended lineIn commentOf spokenBy split before itemIn orElse after fields number scan isDigit problemFrom arcFrom arcOf act opens takes complete exists insert bind
+unfolding bytes readCall judged vertexCount edgesRead replied choose _▷_ refuseIf readNetwork read reading step heard ended lineIn commentOf spokenBy split before itemIn orElse after fields number scan isDigit problemFrom arcFrom arcOf act opens takes complete exists order.insert bind
 readings-said = refl
 
 -- ---- writing network text
@@ -296,7 +297,7 @@ writings =
     ∷ []
 
 writings-said : map (λ c. c .0) writings ≡ map (λ c. c .1) writings
-unfolding bytes writeCall written joined itemOf fieldsOf digits digitsBy replied choose _▷_ refuseIf edges zip rules follow
+unfolding bytes writeCall written joined itemOf fieldsOf digits digitsBy replied choose _▷_ refuseIf edges zip order.rules order.follow
 writings-said = refl
 
 -- ---- reading a source file into a lent list

@@ -8,6 +8,7 @@ use native.Mathlib.Omega.{arith}
 use lib.Dec.{ltb, eqb}
 use lib.ListN.{length}
 use borrow.Author.Tests.{eqb-true, eq-eqb, ne-eqb}
+use Rattle.property.proofs.Tests.{by-test}
 use Rattle.graph.proofs.Tests.{both}
 use Rattle.dimacs.proofs.Options.{none-some, some-same, bind-some}
 use Rattle.dimacs.proofs.Digits.{number-digits, number-spells, stops}
@@ -27,11 +28,7 @@ pub after-spells : (p s r : List ℕ) → after p s ≡ some r → s ≡ p ++ r
 unfolding after
 after-spells [] s r h = some-same h
 after-spells (c ∷ p) [] r h = absurd (none-some h)
-after-spells (c ∷ p) (b ∷ s) r h = pick (eqb b c) refl (after-spells p s r)
-  where
-    pick : (t : Bool) → eqb b c ≡ t → (after p s ≡ some r → s ≡ p ++ r) → b ∷ s ≡ c ∷ (p ++ r)
-    pick true e ih = rw (eqb-true b c e, ih (rw e at h))
-    pick false e ih = absurd (none-some (rw e at h))
+after-spells (c ∷ p) (b ∷ s) r h = by-test (eqb b c) (λ e. rw (eqb-true b c e, after-spells p s r (rw e at h))) (λ e. absurd (none-some (rw e at h)))
 
 -- ---- fields
 

@@ -6,7 +6,6 @@ pub mod Fields
 pub mod Positions
 pub mod Reading
 pub mod Places
-pub mod Sorted
 pub mod Count
 pub mod Network
 pub mod Sources

@@ -12,13 +12,14 @@ use lib.ListN.{length}
 use borrow.Author.Tests.{lt-ltb, le-leb, ltb-true, leb-true, eqb-true, eq-eqb, not-true}
 use Rattle.graph.specs.Limits.{maxVertices, maxEdges}
 use Rattle.graph.specs.Edge.{Edge, edge, present}
-use Rattle.graph.specs.Table.{isEdge, insert}
+use Rattle.graph.specs.Table.{isEdge, tableOrder, insert}
 use Rattle.graph.proofs.Tests.{both, and-true}
-use Rattle.graph.proofs.Order.{length-insert}
+use Rattle.graph.proofs.Sorted.{length-insert}
+use Rattle.graph.proofs.Gather.{into, length-sorted, Fresh, fresh-insert, insert-fresh, fresh-none, into-sorted}
+use Rattle.graph.proofs.Order.{table-ordered}
 use Rattle.dimacs.proofs.Options.{none-some, some-same, bind-some, cond-some}
 use Rattle.dimacs.proofs.Fields.{plain-fields, marked-fields, either-spells}
 use Rattle.dimacs.proofs.Reading.{acts, speaks, Ends, Spelling, NoDeadEnd, accepts, accepted}
-use Rattle.dimacs.proofs.Sorted.{into, length-sorted, Fresh, fresh-insert, insert-fresh, fresh-none, sorted-sound}
 use Rattle.dimacs.proofs.Count.{sound-length, unused}
 use Rattle.dimacs.specs.Lines.{plain, fieldsOf, Spelled}
 use Rattle.dimacs.specs.Read.{after, good}
@@ -97,27 +98,27 @@ takes-true n m es e p q r = and-true (lt-ltb (length es) m p) (and-true q (ap no
 -- ---- items after the p line
 
 -- edges that keep the rules are all taken
-arcs-taken : (n m : ℕ) (es fs : List Edge) → Edges n fs → Fresh es fs → Distinct fs → length es + length fs ≤ m → acts act (within n m es) (map arc fs) ≡ some (within n m (into es fs))
+arcs-taken : (n m : ℕ) (es fs : List Edge) → Edges n fs → Fresh tableOrder es fs → Distinct fs → length es + length fs ≤ m → acts act (within n m es) (map arc fs) ≡ some (within n m (into tableOrder es fs))
 unfolding acts act bind
 arcs-taken n m es [] a f d h = refl
 arcs-taken n m es (e ∷ fs) a f d h =
     ap (λ (b : Bool). bind (cond b (some (within n m (insert e es))) none) (λ s. acts act s (map arc fs))) (takes-true n m es e (omega arith) (a .0) (f .0))
-    ∙ arcs-taken n m (insert e es) fs (a .1) (fresh-insert e es fs (f .1) (d .0)) (d .1) (omega (arith, length-insert e es))
+    ∙ arcs-taken n m (insert e es) fs (a .1) (fresh-insert table-ordered e es fs (f .1) (d .0)) (d .1) (omega (arith, length-insert tableOrder e es))
 
 -- and what is taken keeps them
 record Taken (n m : ℕ) (es : List Edge) (xs : List Item) (s : State) : Type 0 where
   pub arcs : List Edge
   pub items : xs ≡ map arc arcs
   pub edges : Edges n arcs
-  pub fresh : Fresh es arcs
+  pub fresh : Fresh tableOrder es arcs
   pub distinct : Distinct arcs
   pub few : length es ≤ m → length es + length arcs ≤ m
-  pub state : s ≡ within n m (into es arcs)
+  pub state : s ≡ within n m (into tableOrder es arcs)
 
 taken-arc : (n m : ℕ) (es : List Edge) (e : Edge) (xs : List Item) (s : State) → length es < m → isEdge n e ≡ true → present es e ≡ false → Taken n m (insert e es) xs s → Taken n m es (arc e ∷ xs) s
 taken-arc n m es e xs s l p q t =
-    let i = length-insert e es in
-    let (u, v) = insert-fresh e es (t .arcs) (t .fresh) in
+    let i = length-insert tableOrder e es in
+    let (u, v) = insert-fresh table-ordered e es (t .arcs) (t .fresh) in
     record {
       arcs = e ∷ t .arcs;
       items = ap (λ (ys : List Item). arc e ∷ ys) (t .items);
@@ -175,7 +176,7 @@ fill zero n m es o h = record { items = []; end = within n m es; reached = refl;
 fill (suc k) n m es o h =
     let (a, b, c, d) = opens-facts n m o in
     let (e, p, q) = unused n es a (omega arith) in
-    more-arc n m es e (omega arith) p q (fill k n m (insert e es) o (omega (arith, length-insert e es)))
+    more-arc n m es e (omega arith) p q (fill k n m (insert e es) o (omega (arith, length-insert tableOrder e es)))
 
 -- before the p line, `p sp 1 0` completes the text
 pub network-goes-on : NoDeadEnd act complete start
@@ -188,9 +189,9 @@ network-goes-on xs s h = pick (opened xs s h)
     pick (inl q) = rw q first
     pick (inr o) =
         let t = o .taken in
-        let l : length (into [] (t .arcs)) ≡ length (t .arcs) = length-sorted (t .arcs) in
+        let l : length (into tableOrder [] (t .arcs)) ≡ length (t .arcs) = length-sorted tableOrder (t .arcs) in
         let f : length (t .arcs) ≤ o .m = omega (arith, t .few (omega arith)) in
-        rw (t .state) (fill (o .m - length (t .arcs)) (o .n) (o .m) (into [] (t .arcs)) (o .opens) (omega arith))
+        rw (t .state) (fill (o .m - length (t .arcs)) (o .n) (o .m) (into tableOrder [] (t .arcs)) (o .opens) (omega arith))
 
 -- ---- the items of a good text, and no others, lead to a complete state
 
@@ -198,14 +199,14 @@ good-acts : (n : ℕ) (fs : List Edge) → 0 < n → n ≤ maxVertices → lengt
     → acts act start (problem n (length fs) ∷ map arc fs) ≡ some (within n (length fs) (sorted fs))
 unfolding acts act bind
 good-acts n fs p q r a d =
-    let l : length fs ≤ n * (n - 1) = omega (arith, length-sorted fs, sound-length n (sorted fs) (sorted-sound n fs a d)) in
+    let l : length fs ≤ n * (n - 1) = omega (arith, length-sorted tableOrder fs, sound-length n (sorted fs) (into-sorted table-ordered (isEdge n) [] fs tt a (fresh-none tableOrder fs) d)) in
     ap (λ (b : Bool). bind (cond b (some (within n (length fs) [])) none) (λ s. acts act s (map arc fs))) (opens-true n (length fs) p q r l)
-    ∙ arcs-taken n (length fs) [] fs a (fresh-none fs) d (omega arith)
+    ∙ arcs-taken n (length fs) [] fs a (fresh-none tableOrder fs) d (omega arith)
 
 pub good-read : (text : List ℕ) (n : ℕ) (es : List Edge) → Good text n es → readNetwork text ≡ good (within n (length es) es)
 unfolding readNetwork complete
 good-read text n es g =
-    let l : length (g .arcs) ≡ length es = sym (length-sorted (g .arcs)) ∙ ap length (sym (g .table)) in
+    let l : length (g .arcs) ≡ length es = sym (length-sorted tableOrder (g .arcs)) ∙ ap length (sym (g .table)) in
     accepts network-spelling act complete start (within n (length es) es) (g .spelled)
     (good-acts n (g .arcs) (g .some-vertex) (g .vertices) (g .few) (g .edges) (g .distinct)
     ∙ ap (λ (fs : List Edge). some (within n (length (g .arcs)) fs)) (sym (g .table))
@@ -219,7 +220,7 @@ opened-good text xs s d o c =
     let t = o .taken in
     let (a, b, m, z) = opens-facts (o .n) (o .m) (o .opens) in
     let l : length (sorted (t .arcs)) ≡ o .m = eqb-true _ _ (subst (λ (u : State). complete u ≡ true) (t .state) c) in
-    let k : o .m ≡ length (t .arcs) = sym l ∙ length-sorted (t .arcs) in (
+    let k : o .m ≡ length (t .arcs) = sym l ∙ length-sorted tableOrder (t .arcs) in (
       o .n,
       sorted (t .arcs),
       t .state ∙ ap (λ (j : ℕ). within (o .n) j (sorted (t .arcs))) (sym l),

@@ -21,6 +21,7 @@ use lib.Dec.{eqb}
 use lib.ListN.{length, take, drop, drop-of-length-le}
 use lib.Seq.{drop-cons}
 use borrow.Author.Tests.{eqb-true, not-true}
+use Rattle.property.proofs.Tests.{by-test}
 use Rattle.dimacs.proofs.Options.{none-some, some-same, bind-some}
 use Rattle.dimacs.proofs.Split.{Plains, joined-append, split-joined, split-spelled, split-plain, split-lines, plains-append, plains-take}
 use Rattle.dimacs.specs.Lines.{joined, Split, split, plain, Line, bare, comment, says, lineOf, spoken, Plain, Spelled, Begins, Place}
@@ -120,11 +121,9 @@ module _ {A S : Type 0} {spell : A → List ℕ} {parse : List ℕ → Option A}
   comment-spells : (s : List ℕ) (x : Line A) → commentOf s ≡ some x → 99 ∷ s ≡ lineOf spell x
   unfolding commentOf lineOf
   comment-spells [] x h = let w : bare ≡ x = some-same h in rw (← w)
-  comment-spells (b ∷ s) x h = pick (eqb b 32) refl
-    where
-      pick : (t : Bool) → eqb b 32 ≡ t → 99 ∷ (b ∷ s) ≡ lineOf spell x
-      pick true e = let w : comment s ≡ x = some-same (rw e at h) in rw (eqb-true b 32 e, ← w)
-      pick false e = absurd (none-some (rw e at h))
+  comment-spells (b ∷ s) x h = by-test (eqb b 32)
+      (λ e. let w : comment s ≡ x = some-same (rw e at h) in rw (eqb-true b 32 e, ← w))
+      (λ e. absurd (none-some (rw e at h)))
 
   spoken-spells : (l : List ℕ) (o : Option A) (x : Line A) → parse l ≡ o → spokenBy o ≡ some x → l ≡ lineOf spell x
   unfolding spokenBy lineOf
@@ -134,11 +133,9 @@ module _ {A S : Type 0} {spell : A → List ℕ} {parse : List ℕ → Option A}
   pub line-spells : (l : List ℕ) (x : Line A) → lineIn parse l ≡ some x → l ≡ lineOf spell x
   unfolding lineIn
   line-spells [] x h = absurd (none-some h)
-  line-spells (b ∷ s) x h = pick (eqb b 99) refl
-    where
-      pick : (t : Bool) → eqb b 99 ≡ t → b ∷ s ≡ lineOf spell x
-      pick true e = rw (eqb-true b 99 e) (comment-spells s x (rw e at h))
-      pick false e = spoken-spells (b ∷ s) (parse (b ∷ s)) x refl (rw e at h)
+  line-spells (b ∷ s) x h = by-test (eqb b 99)
+      (λ e. rw (eqb-true b 99 e) (comment-spells s x (rw e at h)))
+      (λ e. spoken-spells (b ∷ s) (parse (b ∷ s)) x refl (rw e at h))
 
   -- ---- several lines
 
@@ -191,14 +188,9 @@ module _ {A S : Type 0} {spell : A → List ℕ} {parse : List ℕ → Option A}
   ended-good : (r : List ℕ) (k : ℕ) (s t : S) → ended parse act complete r k s ≡ good t → (s ≡ t) × (r ≡ []) × (complete t ≡ true)
   unfolding ended
   ended-good (b ∷ r) k s t h = absurd (good-bad h)
-  ended-good [] k s t h = pick (complete s) refl
-    where
-      same : complete s ≡ true → _≡_ {A = Read S} (good s) (good t) → (s ≡ t) × (_≡_ {A = List ℕ} [] []) × (complete t ≡ true)
-      same e q = let w : s ≡ t = cc in (w, refl, rw w at e)
-
-      pick : (b : Bool) → complete s ≡ b → (s ≡ t) × (_≡_ {A = List ℕ} [] []) × (complete t ≡ true)
-      pick true e = same e (rw e at h)
-      pick false e = absurd (good-bad (rw e at h))
+  ended-good [] k s t h = by-test (complete s)
+      (λ e. let q : _≡_ {A = Read S} (good s) (good t) = rw e at h in let w : s ≡ t = cc in (w, refl, rw w at e))
+      (λ e. absurd (good-bad (rw e at h)))
 
   -- the reader goes by steps
   reading-good : (ls : List (List ℕ)) (r : List ℕ) (k : ℕ) (s t : S) → reading parse act complete ls r k s ≡ good t
@@ -272,11 +264,9 @@ module _ {A S : Type 0} {spell : A → List ℕ} {parse : List ℕ → Option A}
   ended-bad : (r : List ℕ) (k : ℕ) (s : S) (j : ℕ) → ended parse act complete r k s ≡ bad j → j ≡ suc k
   unfolding ended
   ended-bad (b ∷ r) k s j h = cc
-  ended-bad [] k s j h = pick (complete s) refl
-    where
-      pick : (b : Bool) → complete s ≡ b → j ≡ suc k
-      pick true e = absurd (good-bad (sym (rw e at h)))
-      pick false e = let q : _≡_ {A = Read S} (bad (suc k)) (bad j) = rw e at h in cc
+  ended-bad [] k s j h = by-test (complete s)
+      (λ e. absurd (good-bad (sym (rw e at h))))
+      (λ e. let q : _≡_ {A = Read S} (bad (suc k)) (bad j) = rw e at h in cc)
 
   reading-stops : (ls : List (List ℕ)) (r : List ℕ) (k : ℕ) (s : S) (j : ℕ) → reading parse act complete ls r k s ≡ bad j → (i : ℕ) × (j ≡ suc (k + i)) × Stopped s ls i
   unfolding reading steps bind

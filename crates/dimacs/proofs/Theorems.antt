@@ -8,13 +8,13 @@ use borrow.Author.Tests.{ne-eqb, le-ltb}
 use Rattle.graph.specs.Limits.{maxVertices, maxEdges}
 use Rattle.graph.specs.Refusal.{accept}
 use Rattle.graph.specs.Edge.{Edge, exists, same, among}
-use Rattle.graph.specs.Table.{edgesOf, rules, size}
+use Rattle.graph.specs.Table.{edgesOf, isEdge, tableOrder, rules, size}
 use Rattle.graph.proofs.Verdicts.{accept-if}
 use Rattle.graph.proofs.Tests.{or-false}
-use Rattle.graph.proofs.Order.{accept-rules}
+use Rattle.graph.proofs.Gather.{exists-into, length-sorted, fresh-none, into-sorted}
+use Rattle.graph.proofs.Order.{table-ordered, accept-rules}
 use Rattle.dimacs.proofs.Reading.{refused}
 use Rattle.dimacs.proofs.Places.{place-agrees, place-one}
-use Rattle.dimacs.proofs.Sorted.{exists-into, length-sorted, sorted-sound}
 use Rattle.dimacs.proofs.Network as network
 use Rattle.dimacs.proofs.Sources as sources
 use Rattle.dimacs.proofs.Written.{written-canonical, canonical-written, write-verdict, filled-edges, read-call}
@@ -47,11 +47,11 @@ accept-size : (n : ℕ) → 0 < n → n ≤ maxVertices → size n ≡ accept
 accept-size n p q = accept-if 1 0 (or-false (ne-eqb n 0 (λ z. omega arith)) (le-ltb maxVertices n q))
 
 table-sorted : (n : ℕ) (fs es : List Edge) → es ≡ net.sorted fs → 0 < n → n ≤ maxVertices → length fs ≤ maxEdges → net.Edges n fs → net.Distinct fs → Table n es
-table-sorted n fs es e p q r a d = rw e record { vertices = accept-size n p q; few = omega (arith, length-sorted fs); rules = accept-rules n (net.sorted fs) (sorted-sound n fs a d) }
+table-sorted n fs es e p q r a d = rw e record { vertices = accept-size n p q; few = omega (arith, length-sorted tableOrder fs); rules = accept-rules n (net.sorted fs) (into-sorted table-ordered (isEdge n) [] fs tt a (fresh-none tableOrder fs) d) }
 
 pub network-tables : NetworkTables
 unfolding exists
-network-tables text n es g = (table-sorted n (g .arcs) es (g .table) (g .some-vertex) (g .vertices) (g .few) (g .edges) (g .distinct), λ e. ap (λ (fs : List Edge). among fs e) (g .table) ∙ exists-into (same e) [] (g .arcs))
+network-tables text n es g = (table-sorted n (g .arcs) es (g .table) (g .some-vertex) (g .vertices) (g .few) (g .edges) (g .distinct), λ e. ap (λ (fs : List Edge). among fs e) (g .table) ∙ exists-into tableOrder (same e) [] (g .arcs))
 
 -- a text that has a place is not good, so that it is refused; and it has no second place
 place-only : {S : Type 0} (Good : List ℕ → Type 0) (text : List ℕ) (k : ℕ) (r : Read S) → ((s : S) → r ≡ good s → Good text) → ((j : ℕ) → r ≡ bad j → Place Good text j) → Place Good text k → r ≡ bad k

@@ -1,20 +1,20 @@
 -- How many digits a number has, and how many bytes a written text has at most. Assumes nothing.
 use mathlib.Core.Path.{_≡_, refl, ap, _∙_}
-use mathlib.Core.Bool.{Bool, true, false, not}
+use mathlib.Core.Bool.{true}
 use mathlib.Core.List.{List, [], _∷_, map}
 use Prim.Native.Nat.{ℕ, zero, suc, _+_, _*_, _/_, _%_, _^_, _≤_, _<_}
 use native.Mathlib.Omega.{arith}
-use lib.Dec.{ltb, leb, eqb}
+use lib.Dec.{ltb}
 use lib.ListN.{length, length-append}
-use borrow.Author.Tests.{ltb-true, ltb-false, leb-true}
-use Rattle.graph.specs.Limits.{maxVertices, maxEdges, maxWeight}
+use borrow.Author.Tests.{ltb-true, ltb-false}
+use Rattle.property.proofs.Tests.{by-test}
+use Rattle.graph.specs.Limits.{maxVertices, maxEdges}
 use Rattle.graph.specs.Edge.{Edge}
-use Rattle.graph.specs.Table.{isWeight, isEdge}
-use Rattle.graph.proofs.Tests.{both}
-use Rattle.graph.proofs.Order.{rules-accept}
+use Rattle.graph.specs.Table.{isEdge, tableOrder}
+use Rattle.graph.proofs.Sorted.{sorted-all}
+use Rattle.graph.proofs.Order.{edge-facts, rules-accept}
 use Rattle.graph.proofs.Judging.{size-accept}
 use Rattle.dimacs.proofs.Digits.{digits-small, digits-big}
-use Rattle.dimacs.proofs.Sorted.{sound-edges}
 use Rattle.dimacs.specs.Decimal.{digits}
 use Rattle.dimacs.specs.Lines.{joined, fieldsOf}
 use Rattle.dimacs.specs.Network.{problem, arc, problemMark, arcMark, itemOf, Edges, written}
@@ -32,11 +32,9 @@ width-big v h = rw (digits-big v h) (length-append (digits (v / 10)) ((48 + v % 
 -- a number below ten to the power k + 1 has at most k + 1 digits
 pub width-most : (k v : ℕ) → v < 10 * 10 ^ k → length (digits v) ≤ suc k
 width-most zero v h = omega (arith, width-small v (omega arith))
-width-most (suc k) v h = pick (ltb v 10) refl (width-most k (v / 10) (omega arith))
-  where
-    pick : (b : Bool) → ltb v 10 ≡ b → length (digits (v / 10)) ≤ suc k → length (digits v) ≤ suc (suc k)
-    pick true e ih = omega (arith, width-small v (ltb-true v 10 e))
-    pick false e ih = omega (arith, width-big v (ltb-false v 10 e))
+width-most (suc k) v h = by-test (ltb v 10)
+    (λ e. omega (arith, width-small v (ltb-true v 10 e)))
+    (λ e. omega (arith, width-big v (ltb-false v 10 e), width-most k (v / 10) (omega arith)))
 
 -- ---- how many bytes
 
@@ -52,13 +50,10 @@ no-width = refl
 arc-width : (n : ℕ) (e : Edge) → n ≤ maxVertices → isEdge n e ≡ true → length (itemOf (arc e)) ≤ 15
 unfolding itemOf
 arc-width n e m h =
-    let a = both (ltb (e .tail) n) _ h in
-    let b = both (ltb (e .head) n) _ (a .1) in
-    let c = both (not (eqb (e .tail) (e .head))) (isWeight (e .weight)) (b .1) in
-    let d = both (ltb 0 (e .weight)) (leb (e .weight) maxWeight) (c .1) in
-    let t : suc (e .tail) < 10 * 10 ^ 2 = omega (arith, ltb-true (e .tail) n (a .0)) in
-    let u : suc (e .head) < 10 * 10 ^ 2 = omega (arith, ltb-true (e .head) n (b .0)) in
-    let w : e .weight < 10 * 10 ^ 4 = omega (arith, leb-true (e .weight) maxWeight (d .1)) in
+    let a = edge-facts n e h in
+    let t : suc (e .tail) < 10 * 10 ^ 2 = omega (arith, a .tail-below) in
+    let u : suc (e .head) < 10 * 10 ^ 2 = omega (arith, a .head-below) in
+    let w : e .weight < 10 * 10 ^ 4 = omega (arith, a .weight-most) in
     omega (
       arith,
       length-append arcMark (fieldsOf (suc (e .tail) ∷ suc (e .head) ∷ e .weight ∷ [])),
@@ -101,7 +96,7 @@ unfolding written joined
 table-length n es t =
     let m = size-accept n (t .vertices) .1 in
     let a = problem-width n (length es) m (t .few) in
-    let b = arcs-width n es m (sound-edges n es (rules-accept n es (t .rules))) in
+    let b = arcs-width n es m (sorted-all tableOrder (isEdge n) es (rules-accept n es (t .rules))) in
     let c = length-append (itemOf (problem n (length es))) (10 ∷ joined (map itemOf (map arc es))) in
     let f = t .few in
     omega arith

@@ -10,13 +10,14 @@ use lib.Seq.{take-at}
 use Rattle.graph.specs.Limits.{maxEdges}
 use Rattle.graph.specs.Refusal.{accept, _▷_, refuseIf, accepted, replied, choose}
 use Rattle.graph.specs.Edge.{Edge}
-use Rattle.graph.specs.Table.{Columns, edgesOf, rules, size, shortTable, table}
+use Rattle.graph.specs.Table.{Columns, edgesOf, isEdge, tableOrder, rules, size, shortTable, table}
 use Rattle.graph.proofs.Verdicts.{then-accept, reply-accepted}
-use Rattle.graph.proofs.Order.{Follows, Sound, rules-accept}
+use Rattle.graph.proofs.Sorted.{sorted-all, sorted-distinct}
+use Rattle.graph.proofs.Gather.{into-ascending}
+use Rattle.graph.proofs.Order.{table-ordered, Sound, rules-accept}
 use Rattle.graph.proofs.Judging.{size-accept, lengths-accept, table-accept}
 use Rattle.graph.proofs.Records.{edges-length, edges-back, room-less}
 use Rattle.dimacs.proofs.Reading.{spoken-says, map-says}
-use Rattle.dimacs.proofs.Sorted.{sound-distinct, sound-edges, sorted-ascending}
 use Rattle.dimacs.proofs.Network.{network-spelling}
 use Rattle.dimacs.specs.Lines.{joined, Line, bare, comment, says, lineOf, spoken, Plain}
 use Rattle.dimacs.specs.Read.{good}
@@ -44,21 +45,15 @@ plain-says (x ∷ xs) = (network-spelling .one-line x, plain-says xs)
 
 -- ---- edges that ascend
 
-follows-ascending : (n : ℕ) (e : Edge) (es : List Edge) → Follows n e es → Ascending (e ∷ es)
-follows-ascending n e [] h = tt
-follows-ascending n e (f ∷ es) h = (h .0, follows-ascending n f es (h .2))
-
 sound-ascending : (n : ℕ) (es : List Edge) → Sound n es → Ascending es
 sound-ascending n [] h = tt
-sound-ascending n (e ∷ es) h = follows-ascending n e es (h .1)
-
-ascending-follows : (n : ℕ) (e : Edge) (es : List Edge) → Ascending (e ∷ es) → Edges n es → Follows n e es
-ascending-follows n e [] h a = tt
-ascending-follows n e (f ∷ es) h a = (h .0, a .0, ascending-follows n f es (h .1) (a .1))
+sound-ascending n (e ∷ []) h = tt
+sound-ascending n (e ∷ f ∷ es) h = (h .1, sound-ascending n (f ∷ es) (h .2))
 
 ascending-sound : (n : ℕ) (es : List Edge) → Ascending es → Edges n es → Sound n es
 ascending-sound n [] h a = tt
-ascending-sound n (e ∷ es) h a = (a .0, ascending-follows n e es h (a .1))
+ascending-sound n (e ∷ []) h a = (a .0, tt, tt)
+ascending-sound n (e ∷ f ∷ es) h a = (a .0, h .0, ascending-sound n (f ∷ es) (h .1) (a .1))
 
 -- ---- written text is canonical
 
@@ -78,9 +73,9 @@ written-good n es t =
       some-vertex = a;
       vertices = b;
       few = t .few;
-      edges = sound-edges n es s;
-      distinct = sound-distinct n es s;
-      table = sym (sorted-ascending n es s);
+      edges = sorted-all tableOrder (isEdge n) es s;
+      distinct = sorted-distinct table-ordered (isEdge n) es s;
+      table = sym (into-ascending table-ordered (isEdge n) [] es s);
     }
 
 pub written-canonical : (n : ℕ) (es : List Edge) → Table n es → Canonical (written n es) n es
@@ -98,7 +93,7 @@ unfolding written
 canonical-written text n es c =
     let g = c .good in
     let d = g .spelled in
-    let w : es ≡ g .arcs = g .table ∙ sorted-ascending n (g .arcs) (ascending-sound n (g .arcs) (c .ascends) (g .edges)) in
+    let w : es ≡ g .arcs = g .table ∙ into-ascending table-ordered (isEdge n) [] (g .arcs) (ascending-sound n (g .arcs) (c .ascends) (g .edges)) in
     d .spells
     ∙ ap (λ (xs : List (Line Item)). joined (map (lineOf itemOf) xs)) (says-uncommented (d .lines) (c .no-comment) ∙ ap (λ (xs : List Item). map says xs) (d .speaks))
     ∙ ap joined (map-says itemOf (problem n (length (g .arcs)) ∷ map arc (g .arcs)))

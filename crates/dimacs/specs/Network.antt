@@ -20,7 +20,7 @@
 --   act st x                                == the state after an item; none where no good text can go on with it
 --   complete st                             == the state may be the last
 use mathlib.Core.Path.{_≡_}
-use mathlib.Core.Bool.{Bool, true, false, _&&_, not, cond}
+use mathlib.Core.Bool.{Bool, false, _&&_, not, cond}
 use mathlib.Core.List.{List, [], _∷_, _++_, map, foldl}
 use mathlib.Core.Option.{Option, none, some, bind}
 use Prim.Native.Nat.{ℕ, zero, suc, _-_, _*_, _≤_, _<_}
@@ -28,7 +28,9 @@ use lib.Dec.{ltb, leb, eqb}
 use lib.ListN.{length}
 use Rattle.graph.specs.Limits.{maxVertices, maxEdges}
 use Rattle.graph.specs.Edge.{Edge, edge, present}
-use Rattle.graph.specs.Table.{isEdge, insert}
+use Rattle.graph.specs.Table.{isEdge, tableOrder, insert}
+use Rattle.graph.specs.Sorted.{All}
+use Rattle.graph.specs.Sorted as order
 use Rattle.dimacs.specs.Lines.{Spelled, fieldsOf, joined}
 use Rattle.dimacs.specs.Read.{after, fields, Read, read}
 
@@ -50,12 +52,10 @@ itemOf (problem n m) = problemMark ++ fieldsOf (n ∷ m ∷ [])
 itemOf (arc e) = arcMark ++ fieldsOf (suc (e .tail) ∷ suc (e .head) ∷ e .weight ∷ [])
 
 abbrev pub Distinct : List Edge → Type 0
-Distinct [] = Unit {0}
-Distinct (e ∷ es) = (present es e ≡ false) × Distinct es
+Distinct es = order.Distinct tableOrder es
 
 abbrev pub Edges : ℕ → List Edge → Type 0
-Edges n [] = Unit {0}
-Edges n (e ∷ es) = (isEdge n e ≡ true) × Edges n es
+Edges n es = All (isEdge n) es
 
 abbrev pub sorted : List Edge → List Edge
 sorted arcs = foldl (λ es e. insert e es) [] arcs

@@ -1,33 +1,28 @@
 -- Lists of edges: those that pass a test, whether one does, membership by the three words, reversed lists. Assumes nothing.
 use mathlib.Core.Path.{_≡_, refl, sym, ap, _∙_}
-use mathlib.Core.Logic.{_⊎_, inl, inr, ⊎-elim}
-use mathlib.Core.Bool.{Bool, true, false, _||_, false≢true}
+use mathlib.Core.Logic.{⊎-elim}
+use mathlib.Core.Bool.{Bool, true, false, false≢true}
 use mathlib.Core.List.{List, [], _∷_, _++_, map, List·Memᴰ, List·Memᴰ·head, List·Memᴰ·tail, List·Memᴰ·cases-cons, List·Memᴰ·not-nil}
 use Prim.Native.Nat.{ℕ}
 use lib.Dec.{eqb}
+use Rattle.property.proofs.Tests.{by-test}
 use Rattle.graph.specs.Edge.{Edge, reverse, same, keepIf, keep, exists, among, leaving}
 use borrow.Author.Tests.{eqb-true, eq-eqb}
-use Rattle.graph.proofs.Tests.{both, and-true}
+use Rattle.graph.proofs.Tests.{both, and-true, or-right}
 
 -- ---- keep
 
 pub keep-in : (f : Edge → Bool) (es : List Edge) (x : Edge) → List·Memᴰ x (keep f es) → List·Memᴰ x es × (f x ≡ true)
 unfolding keep keepIf
 keep-in f [] x m = absurd (List·Memᴰ·not-nil m)
-keep-in f (e ∷ es) x m = pick (λ k. keep-in f es x k) (f e) refl m
-  where
-    pick : (List·Memᴰ x (keep f es) → List·Memᴰ x es × (f x ≡ true)) → (b : Bool) → f e ≡ b → List·Memᴰ x (keepIf b e (keep f es)) → List·Memᴰ x (e ∷ es) × (f x ≡ true)
-    pick below true q k = ⊎-elim (λ p. (List·Memᴰ·head p, ap f p ∙ q)) (λ k′. let z = below k′ in (List·Memᴰ·tail (z .0), z .1)) (List·Memᴰ·cases-cons k)
-    pick below false q k = let z = below k in (List·Memᴰ·tail (z .0), z .1)
+keep-in f (e ∷ es) x m = by-test (f e)
+    (λ q. ⊎-elim (λ p. (List·Memᴰ·head p, ap f p ∙ q)) (λ k. let z = keep-in f es x k in (List·Memᴰ·tail (z .0), z .1)) (List·Memᴰ·cases-cons (rw q at m)))
+    (λ q. let z = keep-in f es x (rw q at m) in (List·Memᴰ·tail (z .0), z .1))
 
 pub in-keep : (f : Edge → Bool) {es : List Edge} {x : Edge} → List·Memᴰ x es → f x ≡ true → List·Memᴰ x (keep f es)
 unfolding keep keepIf
 in-keep f (List·Memᴰ·head {x = e} {xs = es} p) q = rw (sym (ap f p) ∙ q) (List·Memᴰ·head p)
-in-keep f {x = x} (List·Memᴰ·tail {x = e} {xs = es} m) q = pick (f e) (in-keep f m q)
-  where
-    pick : (b : Bool) → List·Memᴰ x (keep f es) → List·Memᴰ x (keepIf b e (keep f es))
-    pick true k = List·Memᴰ·tail k
-    pick false k = k
+in-keep f {x = x} (List·Memᴰ·tail {x = e} {xs = es} m) q = by-test (f e) (λ p. rw p (List·Memᴰ·tail (in-keep f m q))) (λ p. rw p (in-keep f m q))
 
 pub leaving-in : (i : ℕ) (es : List Edge) (x : Edge) → List·Memᴰ x (leaving i es) → List·Memᴰ x es × (x .tail ≡ i)
 leaving-in i es x m = let z = keep-in (λ e. eqb (e .tail) i) es x m in (z .0, eqb-true _ _ (z .1))
@@ -40,20 +35,12 @@ in-leaving i m p = in-keep (λ e. eqb (e .tail) i) m (eq-eqb _ _ p)
 pub exists-true : (f : Edge → Bool) (es : List Edge) → exists f es ≡ true → (e : Edge) × List·Memᴰ e es × (f e ≡ true)
 unfolding exists
 exists-true f [] h = absurd (false≢true h)
-exists-true f (o ∷ es) h = pick (λ k. exists-true f es k) (f o) refl h
-  where
-    pick : (exists f es ≡ true → (e : Edge) × List·Memᴰ e es × (f e ≡ true)) → (b : Bool) → f o ≡ b → (b || exists f es) ≡ true → (e : Edge) × List·Memᴰ e (o ∷ es) × (f e ≡ true)
-    pick below true q k = (o, List·Memᴰ·head refl, q)
-    pick below false q k = let (e, m, z) = below k in (e, List·Memᴰ·tail m, z)
+exists-true f (o ∷ es) h = by-test (f o) (λ q. (o, List·Memᴰ·head refl, q)) (λ q. let (e, m, z) = exists-true f es (rw q at h) in (e, List·Memᴰ·tail m, z))
 
 pub true-exists : (f : Edge → Bool) {es : List Edge} {e : Edge} → List·Memᴰ e es → f e ≡ true → exists f es ≡ true
 unfolding exists
 true-exists f (List·Memᴰ·head p) q = rw (sym (ap f p) ∙ q)
-true-exists f (List·Memᴰ·tail {x = o} {xs = es} m) q = pick (f o) (true-exists f m q)
-  where
-    pick : (b : Bool) → exists f es ≡ true → (b || exists f es) ≡ true
-    pick true k = refl
-    pick false k = k
+true-exists f (List·Memᴰ·tail {x = o} {xs = es} m) q = or-right (f o) (true-exists f m q)
 
 -- ---- membership by the three words
 
@@ -81,28 +68,16 @@ mem-reverse (List·Memᴰ·tail m) = List·Memᴰ·tail (mem-reverse m)
 
 pub reverse-mem : (es : List Edge) (e : Edge) → List·Memᴰ e (map reverse es) → List·Memᴰ (reverse e) es
 reverse-mem [] e m = absurd (List·Memᴰ·not-nil m)
-reverse-mem (o ∷ es) e m = pick (λ k. reverse-mem es e k) (List·Memᴰ·cases-cons m)
-  where
-    pick : (List·Memᴰ e (map reverse es) → List·Memᴰ (reverse e) es) → (e ≡ reverse o) ⊎ List·Memᴰ e (map reverse es) → List·Memᴰ (reverse e) (o ∷ es)
-    pick below (inl p) = List·Memᴰ·head (ap reverse p)
-    pick below (inr k) = List·Memᴰ·tail (below k)
+reverse-mem (o ∷ es) e m = ⊎-elim (λ p. List·Memᴰ·head (ap reverse p)) (λ k. List·Memᴰ·tail (reverse-mem es e k)) (List·Memᴰ·cases-cons m)
 
 -- ---- keep, of lists put together and of reversed lists
 
 pub keep-append : (f : Edge → Bool) (xs ys : List Edge) → keep f (xs ++ ys) ≡ keep f xs ++ keep f ys
 unfolding keep keepIf
 keep-append f [] ys = refl
-keep-append f (x ∷ xs) ys = pick (f x) (keep-append f xs ys)
-  where
-    pick : (b : Bool) → keep f (xs ++ ys) ≡ keep f xs ++ keep f ys → keepIf b x (keep f (xs ++ ys)) ≡ keepIf b x (keep f xs) ++ keep f ys
-    pick true h = ap (λ (l : List Edge). x ∷ l) h
-    pick false h = h
+keep-append f (x ∷ xs) ys = by-test (f x) (λ q. rw q (ap (λ (l : List Edge). x ∷ l) (keep-append f xs ys))) (λ q. rw q (keep-append f xs ys))
 
 pub keep-reverse : (f : Edge → Bool) (es : List Edge) → keep f (map reverse es) ≡ map reverse (keep (λ e. f (reverse e)) es)
 unfolding keep keepIf
 keep-reverse f [] = refl
-keep-reverse f (e ∷ es) = pick (f (reverse e)) (keep-reverse f es)
-  where
-    pick : (b : Bool) → keep f (map reverse es) ≡ map reverse (keep (λ x. f (reverse x)) es) → keepIf b (reverse e) (keep f (map reverse es)) ≡ map reverse (keepIf b e (keep (λ x. f (reverse x)) es))
-    pick true h = ap (λ (l : List Edge). reverse e ∷ l) h
-    pick false h = h
+keep-reverse f (e ∷ es) = by-test (f (reverse e)) (λ q. rw q (ap (λ (l : List Edge). reverse e ∷ l) (keep-reverse f es))) (λ q. rw q (keep-reverse f es))

@@ -11,7 +11,8 @@ use Rattle.property.specs.Property.{M, Property, sssp, bfs, sswp, ssnp, ssr}
 use Rattle.graph.specs.Refusal.{Verdict, accept, refuse, _▷_, refuseIf, accepted, refused, replied, choose, outcome, over}
 use Rattle.graph.specs.Edge.{Edge, edge, reverse, keepIf, keep, exists, among, present, leaving, zip, edges, range}
 use Rattle.graph.specs.Route.{Route, here, step}
-use Rattle.graph.specs.Table.{Columns, follow, rules, size, shortTable, table, insert, delete}
+use Rattle.graph.specs.Table.{Columns, rules, size, shortTable, table, insert, delete}
+use Rattle.graph.specs.Sorted as order
 
 -- ---- the table's rules: number 4 and its place, for 4 vertices
 
@@ -54,7 +55,7 @@ judgedTables =
     ∷ []
 
 rules-judge : map (λ c. rules 4 (c .0)) judgedTables ≡ map (λ c. c .1) judgedTables
-unfolding rules follow _▷_ refuseIf
+unfolding order.rules order.follow _▷_ refuseIf
 rules-judge = refl
 
 -- ---- numbers 1, 2 and 4 of lent lists
@@ -79,7 +80,7 @@ columns = record { tails = 0 ∷ 0 ∷ 0 ∷ 7 ∷ []; heads = 1 ∷ 2 ∷ 2 ∷
 
 -- records from the count on are never judged; a count over 2,048 has place 0 though record 0 is good
 counts : map (table 4 columns) (0 ∷ 1 ∷ 2 ∷ 3 ∷ 4 ∷ 2049 ∷ []) ≡ accept ∷ accept ∷ accept ∷ refuse 4 2 ∷ refuse 4 2 ∷ refuse 4 0 ∷ []
-unfolding rules follow _▷_ refuseIf edges zip
+unfolding order.rules order.follow _▷_ refuseIf edges zip
 counts = refl
 
 -- 2,049 records in table order: tails 0 to 128, each to the heads from 129 on
@@ -92,7 +93,7 @@ crowd = record {
 
 -- "at most 2,048": record 2,048 is good and record 2,049 is not, though it keeps the rules; its place is 0, not an index
 crowded : map (table 256 crowd) (2048 ∷ 2049 ∷ []) ≡ accept ∷ refuse 4 0 ∷ []
-unfolding rules follow _▷_ refuseIf edges zip range
+unfolding order.rules order.follow _▷_ refuseIf edges zip range
 crowded = refl
 
 -- "a count of records": the edges are those below it, in the lists' order
@@ -121,7 +122,7 @@ insertions =
     ∷ []
 
 insertions-said : map (λ c. insert (c .0) (c .1)) insertions ≡ map (λ c. c .2) insertions
-unfolding insert
+unfolding order.insert
 insertions-said = refl
 
 -- "a take strikes the one it names": an edge, and what is left of the two
@@ -135,7 +136,7 @@ deletions =
     ∷ []
 
 deletions-said : map (λ c. delete (c .0) pair) deletions ≡ map (λ c. c .1) deletions
-unfolding delete
+unfolding order.delete
 deletions-said = refl
 
 -- ---- tests and views of edges

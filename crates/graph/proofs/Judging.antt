@@ -14,6 +14,7 @@ use Rattle.graph.specs.Limits.{maxVertices, maxEdges}
 use Rattle.graph.specs.Refusal.{Verdict, accept, _▷_, refuseIf}
 use Rattle.graph.specs.Edge.{edges}
 use Rattle.graph.specs.Table.{Columns, edgesOf, isEdge, follow, rules, size, shortTable, table}
+use Rattle.graph.specs.Sorted as order
 use Rattle.graph.specs.Code.{told, Room, columns, edgeAt, keeps}
 use Rattle.graph.proofs.Tests.{neither}
 use Rattle.graph.proofs.Verdicts.{then-accept, if-accept}
@@ -21,28 +22,28 @@ use Rattle.graph.proofs.Records.{edges-more, edges-none}
 
 module _ (ts hs ws : List ℕ) (m : ℕ) (r : Room m ts hs ws) (n : ℕ) where
   pub rules-none : m ≡ 0 → told Fine ≡ rules n (edges ts hs ws m)
-  unfolding told rules
+  unfolding told order.rules
   rules-none e = rw (edges-none ts hs ws m r 0 (omega arith))
 
   pub rules-broken : 0 < m → isEdge n (edgeAt ts hs ws 0) ≡ false → told (Refused 4 0) ≡ rules n (edges ts hs ws m)
-  unfolding told rules refuseIf _▷_
+  unfolding told order.rules refuseIf _▷_
   rules-broken l e = rw (edges-more ts hs ws m r 0 l, e)
 
   pub rules-first : 0 < m → isEdge n (edgeAt ts hs ws 0) ≡ true → follow n 1 (edgeAt ts hs ws (1 - 1)) (drop 1 (edges ts hs ws m)) ≡ rules n (edges ts hs ws m)
-  unfolding rules refuseIf _▷_
+  unfolding order.rules refuseIf _▷_
   rules-first l e = rw (edges-more ts hs ws m r 0 l, e)
 
   module _ (k : ℕ) {v : Verdict} (h : follow n k (edgeAt ts hs ws (k - 1)) (drop k (edges ts hs ws m)) ≡ v) where
     pub follow-more : k < m → keeps n ts hs ws k ≡ true → follow n (k + 1) (edgeAt ts hs ws (k + 1 - 1)) (drop (k + 1) (edges ts hs ws m)) ≡ v
-    unfolding follow refuseIf _▷_
+    unfolding order.follow refuseIf _▷_
     follow-more l e = let x : k + 1 - 1 ≡ k = omega arith in rw (x, add-one) (rw (edges-more ts hs ws m r k l, e, add-one) at h)
 
     pub follow-broken : k < m → keeps n ts hs ws k ≡ false → told (Refused 4 k) ≡ v
-    unfolding told follow refuseIf _▷_
+    unfolding told order.follow refuseIf _▷_
     follow-broken l e = rw (edges-more ts hs ws m r k l, e) at h
 
     pub follow-none : m ≤ k → told Fine ≡ v
-    unfolding told follow
+    unfolding told order.follow
     follow-none l = rw (edges-none ts hs ws m r k l) at h
 
 -- a count in range, judged by its records

@@ -2,6 +2,9 @@ pub mod Tests
 pub mod Lists
 pub mod Edges
 pub mod Verdicts
+pub mod Sorted
+pub mod Seek
+pub mod Gather
 pub mod Order
 pub mod Examples
 pub mod Flags

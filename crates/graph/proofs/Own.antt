@@ -18,12 +18,13 @@ use borrow.Author.Tests.{ltb-true, ltb-false, eqb-true, eqb-false, le-ltb, ne-eq
 use Rattle.graph.specs.Limits.{maxVertices, maxEdges}
 use Rattle.graph.specs.Refusal.{accept}
 use Rattle.graph.specs.Edge.{Edge, edge, reverse, keepIf, keep, leaving, edges}
-use Rattle.graph.specs.Table.{rules}
+use Rattle.graph.specs.Table.{isEdge, rules}
 use Rattle.graph.specs.Code.{Room, edgeAt, below, equal, Keyed, Firsts, into, reversedFrom, reversed}
 use Rattle.graph.specs.Own.{part, own, Own, Fit}
 use Rattle.graph.proofs.Lists.{getD-mem}
 use Rattle.graph.proofs.Edges.{leaving-in, keep-in, keep-reverse, reverse-mem}
-use Rattle.graph.proofs.Order.{Sound, rules-accept, follows-sound, sound-before, precedes-tail, Within, within}
+use Rattle.graph.proofs.Sorted.{sorted-before}
+use Rattle.graph.proofs.Order.{table-ordered, Sound, rules-accept, precedes-tail, Within, within}
 use Rattle.graph.proofs.Records.{tailsOf, headsOf, edges-length, edges-at, edges-mem, edges-more, edges-tails, edges-heads}
 use Rattle.graph.proofs.Counts.{below-zero, below-suc, below-le}
 use Rattle.graph.proofs.Places.{into-length}
@@ -52,10 +53,10 @@ none-leaving u (e ∷ es) h =
 leaving-part : (n u : ℕ) (es : List Edge) → Sound n es → take (equal u (tailsOf es)) (drop (below u (tailsOf es)) es) ≡ leaving u es
 unfolding below equal keep keepIf
 leaving-part n u [] s = refl
-leaving-part n u (e ∷ es) s = pick (ltb (e .tail) u) (eqb (e .tail) u) refl refl (leaving-part n u es (follows-sound n e es (s .1)))
+leaving-part n u (e ∷ es) s = pick (ltb (e .tail) u) (eqb (e .tail) u) refl refl (leaving-part n u es (s .2))
   where
     first : (k : ℕ) → k < length es → e .tail ≤ getD es k (edge 0 0 0) .tail
-    first k l = precedes-tail e (getD es k (edge 0 0 0)) (sound-before n (e ∷ es) s 0 (suc k) (omega arith) (omega arith))
+    first k l = precedes-tail e (getD es k (edge 0 0 0)) (sorted-before table-ordered (isEdge n) (edge 0 0 0) (e ∷ es) s 0 (suc k) (omega arith) (omega arith))
 
     pick : (b d : Bool) → ltb (e .tail) u ≡ b → eqb (e .tail) u ≡ d → take (equal u (tailsOf es)) (drop (below u (tailsOf es)) es) ≡ leaving u es
         → take (cond d (suc (equal u (tailsOf es))) (equal u (tailsOf es))) (drop (cond b (suc (below u (tailsOf es))) (below u (tailsOf es))) (e ∷ es)) ≡ keepIf d e (leaving u es)

@@ -4,12 +4,12 @@
 --   edge t h w       == the edge from t to h of weight w
 --   reverse e        == e the other way round; backward rows go by reversed edges
 --   same e f         == the same three words
---   samePair e f     == the same tail and head
+--   alike e f        == both can't stand in one table: the same tail and head
 --   precedes e f     == table order: "by tail, then head"
 --   keep f es        == the edges of es that pass the test f, in order
---   exists f es      == some edge of es passes the test f
+--   exists f xs      == some element of xs passes the test f
 --   among es e       == e is in es, by its three words
---   present es e     == the pair of e is in es
+--   present es e     == an edge alike e is in es
 --   leaving i es     == the edges of tail i, in table order
 --   edges ts hs ws m == the "records" below the count m of three lists of words
 --   range i k        == the k numbers from i on
@@ -32,8 +32,8 @@ edge t h w = record { tail = t; head = h; weight = w }
 abbrev pub reverse : Edge → Edge
 reverse e = edge (e .head) (e .tail) (e .weight)
 
-abbrev pub samePair : Edge → Edge → Bool
-samePair e f = eqb (e .tail) (f .tail) && eqb (e .head) (f .head)
+abbrev pub alike : Edge → Edge → Bool
+alike e f = eqb (e .tail) (f .tail) && eqb (e .head) (f .head)
 
 abbrev pub same : Edge → Edge → Bool
 same e f = eqb (e .tail) (f .tail) && (eqb (e .head) (f .head) && eqb (e .weight) (f .weight))
@@ -49,15 +49,15 @@ unfoldable pub keep : (Edge → Bool) → List Edge → List Edge
 keep f [] = []
 keep f (e ∷ es) = keepIf (f e) e (keep f es)
 
-unfoldable pub exists : (Edge → Bool) → List Edge → Bool
+unfoldable pub exists : {A : Type 0} → (A → Bool) → List A → Bool
 exists f [] = false
-exists f (e ∷ es) = f e || exists f es
+exists f (x ∷ xs) = f x || exists f xs
 
 abbrev pub among : List Edge → Edge → Bool
 among es e = exists (same e) es
 
 abbrev pub present : List Edge → Edge → Bool
-present es e = exists (samePair e) es
+present es e = exists (alike e) es
 
 abbrev pub leaving : ℕ → List Edge → List Edge
 leaving i es = keep (λ e. eqb (e .tail) i) es

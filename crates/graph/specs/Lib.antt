@@ -2,6 +2,7 @@ pub mod Limits
 pub mod Refusal
 pub mod Edge
 pub mod Within
+pub mod Sorted
 pub mod Table
 pub mod Route
 pub mod Code

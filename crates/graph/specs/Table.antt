@@ -5,6 +5,7 @@
 --   edgesOf cs m      == the edges of a table: the records below the count m
 --   isWeight w        == w is 1 to 65,535
 --   isEdge n e        == tail and head are different vertices below n, and the weight is one
+--   tableOrder        == the order of a table's edges
 --   follow n i p es   == the records es, the first of them at index i, keep the rules after the record p
 --   rules n es        == number 4, at the first index whose record breaks the table's rules: each record is an edge, and comes
 --                        after the one before it in table order ("ascend", "no pair stands twice")
@@ -12,15 +13,17 @@
 --   shortTable cs     == number 2: a list of the table has fewer than 2,048 words, whatever the count
 --   table n cs m      == number 4: a count over 2,048, at 0; or the first record that breaks the rules
 --   insert e es       == es with e put in, in table order
---   delete e es       == es with the edge of e's pair struck
-use mathlib.Core.Bool.{Bool, not, _&&_, _||_, cond}
-use mathlib.Core.List.{List, [], _∷_}
-use Prim.Native.Nat.{ℕ, suc}
+--   delete e es       == es with the edge alike e struck
+use mathlib.Core.Bool.{Bool, not, _&&_, _||_}
+use mathlib.Core.List.{List}
+use Prim.Native.Nat.{ℕ}
 use lib.ListN.{length}
 use lib.Dec.{eqb, ltb, leb}
 use Rattle.graph.specs.Limits.{maxVertices, maxEdges, maxWeight}
-use Rattle.graph.specs.Refusal.{Verdict, accept, _▷_, refuseIf}
-use Rattle.graph.specs.Edge.{Edge, samePair, precedes, edges}
+use Rattle.graph.specs.Refusal.{Verdict, _▷_, refuseIf}
+use Rattle.graph.specs.Edge.{Edge, alike, precedes, edges}
+use Rattle.graph.specs.Sorted.{Order}
+use Rattle.graph.specs.Sorted as order
 
 pub record Columns : Type 0 where
   pub tails : List ℕ
@@ -38,13 +41,14 @@ isWeight w = ltb 0 w && leb w maxWeight
 abbrev pub isEdge : ℕ → Edge → Bool
 isEdge n e = ltb (e .tail) n && (ltb (e .head) n && (not (eqb (e .tail) (e .head)) && isWeight (e .weight)))
 
-unfoldable pub follow : ℕ → ℕ → Edge → List Edge → Verdict
-follow n i p [] = accept
-follow n i p (e ∷ es) = refuseIf (not (precedes p e && isEdge n e)) 4 i ▷ follow n (suc i) e es
+abbrev pub tableOrder : Order Edge
+tableOrder = record { before = precedes; same = alike }
 
-unfoldable pub rules : ℕ → List Edge → Verdict
-rules n [] = accept
-rules n (e ∷ es) = refuseIf (not (isEdge n e)) 4 0 ▷ follow n 1 e es
+abbrev pub follow : ℕ → ℕ → Edge → List Edge → Verdict
+follow n i p es = order.follow tableOrder (isEdge n) i p es
+
+abbrev pub rules : ℕ → List Edge → Verdict
+rules n es = order.rules tableOrder (isEdge n) es
 
 -- ---- refusals 1, 2 and 4
 
@@ -59,10 +63,8 @@ table n cs m = refuseIf (ltb maxEdges m) 4 0 ▷ rules n (edgesOf cs m)
 
 -- ---- one edge more, one edge less
 
-unfoldable pub insert : Edge → List Edge → List Edge
-insert e [] = e ∷ []
-insert e (x ∷ es) = cond (precedes e x) (e ∷ x ∷ es) (x ∷ insert e es)
+abbrev pub insert : Edge → List Edge → List Edge
+insert e es = order.insert tableOrder e es
 
-unfoldable pub delete : Edge → List Edge → List Edge
-delete e [] = []
-delete e (x ∷ es) = cond (samePair e x) es (x ∷ delete e es)
+abbrev pub delete : Edge → List Edge → List Edge
+delete e es = order.delete tableOrder e es

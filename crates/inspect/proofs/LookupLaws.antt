@@ -13,6 +13,7 @@ use borrow.Author.Tests.{eq-eqb, ne-eqb, ltb-true, ltb-false, leb-true, not-fals
 use Rattle.property.specs.Property.{isProperty}
 use Rattle.graph.specs.declared.Judged.{Judged}
 use Rattle.graph.specs.declared.Judged.the-variants.{Fine, Refused}
+use Rattle.graph.specs.Edge.{exists}
 use Rattle.graph.specs.Limits.{maxVertices, maxLandmarks}
 use Rattle.graph.specs.Refusal.{Verdict, refuseIf, verdictOf, replied, choose}
 use Rattle.graph.specs.Table.{size}
@@ -47,7 +48,7 @@ module _ (v : ℕ) (vs : List ℕ) (i : ℕ) {x : ℕ} (h : i + indexOf v (drop 
   index-none l = sym (add-zero i) ∙ (rw (drop-of-length-le vs {i = i} l) at h)
 
 pub index-below : (v : ℕ) (vs : List ℕ) → isIn v vs ≡ true → indexOf v vs < length vs
-unfolding isIn indexOf
+unfolding exists indexOf
 index-below v [] h = absurd (false≢true h)
 index-below v (x ∷ vs) h = pick (eqb v x) (λ k. index-below v vs k) h
   where

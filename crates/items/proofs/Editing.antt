@@ -13,14 +13,14 @@ use borrow.Author.Tests.{lt-ltb, le-ltb, eq-eqb, ne-eqb, eqb-true, not-false}
 use Rattle.graph.specs.declared.Found.the-variants.{At, Absent}
 use Rattle.graph.specs.Limits.{maxEdges}
 use Rattle.graph.specs.Refusal.{Verdict, accept, refuse, _▷_, refuseIf}
-use Rattle.graph.specs.Edge.{Edge, edge, present, edges}
+use Rattle.graph.specs.Edge.{Edge, edge, edges}
 use Rattle.graph.specs.Table.{isWeight}
 use Rattle.graph.specs.Code.{Room, find}
 use Rattle.graph.proofs.Tests.{or-right}
 use Rattle.graph.proofs.Verdicts.{then-accept, if-accept}
 use Rattle.graph.proofs.Order.{rules-accept, accept-rules}
 use Rattle.graph.proofs.Records.{room-less, edges-length}
-use Rattle.graph.proofs.Lookup.{found-present, absent-present, find-pair}
+use Rattle.graph.proofs.Lookup.{found-present, absent-present}
 use Rattle.items.specs.declared.Edited.{Edited}
 use Rattle.items.specs.declared.Edited.the-variants.{Count, Refused}
 use Rattle.network.specs.Change.{Change, edit, edits, item, items, words, against}
@@ -104,33 +104,27 @@ words-delete n i k t h w z e =
 
 -- ---- a change against the edges
 
-there : (es : List Edge) (t h w j : ℕ) → find (edge t h 0) es ≡ At j → present es (edge t h w) ≡ true
-there es t h w j e = found-present (edge t h w) es j (find-pair t h w 0 es ∙ e)
-
-pub pair-absent : (es : List Edge) (t h w : ℕ) → find (edge t h 0) es ≡ Absent → present es (edge t h w) ≡ false
-pair-absent es t h w e = absent-present (edge t h w) es (find-pair t h w 0 es ∙ e)
-
 module _ (es : List Edge) (t h w i : ℕ) where
   pub insert-present : (j : ℕ) → find (edge t h 0) es ≡ At j → refuse 10 i ≡ against i es (change 1 t h w)
   unfolding against refuseIf _▷_
-  insert-present j e = rw (there es t h w j e)
+  insert-present j e = rw (found-present t h w es j e)
 
   pub insert-full : find (edge t h 0) es ≡ Absent → maxEdges ≤ length es → refuse 12 i ≡ against i es (change 1 t h w)
   unfolding against refuseIf _▷_
-  insert-full e l = rw (pair-absent es t h w e, le-ltb (length es) maxEdges l)
+  insert-full e l = rw (absent-present t h w es e, le-ltb (length es) maxEdges l)
 
   pub insert-fine : find (edge t h 0) es ≡ Absent → length es < maxEdges → accept ≡ against i es (change 1 t h w)
   unfolding against refuseIf _▷_
-  insert-fine e l = rw (pair-absent es t h w e, lt-ltb (length es) maxEdges l)
+  insert-fine e l = rw (absent-present t h w es e, lt-ltb (length es) maxEdges l)
 
 module _ (es : List Edge) (t h i : ℕ) where
   pub delete-absent : find (edge t h 0) es ≡ Absent → refuse 11 i ≡ against i es (change 2 t h 0)
   unfolding against refuseIf _▷_
-  delete-absent e = rw (pair-absent es t h 0 e)
+  delete-absent e = rw (absent-present t h 0 es e)
 
   pub delete-fine : (j : ℕ) → find (edge t h 0) es ≡ At j → accept ≡ against i es (change 2 t h 0)
   unfolding against refuseIf _▷_
-  delete-fine j e = rw (there es t h 0 j e)
+  delete-fine j e = rw (found-present t h 0 es j e)
 
 -- ---- a change as a whole
 

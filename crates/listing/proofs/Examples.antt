@@ -12,13 +12,13 @@ use Rattle.property.specs.Property.{property}
 use Rattle.frontier.specs.Waiting.{anyOf}
 use Rattle.graph.specs.Refusal.{_▷_, refuseIf, replied, choose}
 use Rattle.graph.specs.Edge.{keepIf, keep, exists, zip, edges, range}
-use Rattle.graph.specs.Table.{follow, rules, insert}
+use Rattle.graph.specs.Sorted as order
 use Rattle.run.specs.Run.{storeIf, relax, clear, handle, visitIf, visit, takeEntryIf, takeEntry, pass, round, settle}
 use Rattle.run.specs.Start.{opened, bound, asked}
-use Rattle.network.specs.Network.{isIn, areLandmarks, flat, unsettled}
+use Rattle.network.specs.Network.{areLandmarks, flat, unsettled}
 use Rattle.network.specs.Open.{openCall}
 use Rattle.network.specs.Query.{scheduled, queryCall, queryFaults}
-use Rattle.network.specs.Choice.{place, ranked}
+use Rattle.network.specs.Choice.{ranked}
 use Rattle.dimacs.specs.Decimal.{digitsBy, digits, isDigit, scan, number}
 use Rattle.dimacs.specs.Lines.{before, split, fieldsOf}
 use Rattle.dimacs.specs.Read.{after, fields, commentOf, spokenBy, lineIn, heard, step, ended, reading, read}
@@ -70,5 +70,5 @@ runs =
     ∷ []
 
 runs-said : map (λ c. printed (c .0) (c .1)) runs ≡ map (λ c. bytes (c .2)) runs
-unfolding bytes printed output refusedLine listed sourceLines linesOf lineOf spaced fieldsOf digits digitsBy judged vertexCount edgesRead sourcesRead readNetwork src.readSources read reading step heard ended lineIn commentOf spokenBy split before itemIn orElse src.itemIn after fields number scan isDigit problemFrom arcFrom arcOf src.headerFrom src.sourceFrom act opens takes complete src.act src.complete bind openCall queryCall queryFaults replied choose _▷_ refuseIf isIn areLandmarks scheduled place ranked edges zip rules follow exists insert unsettled flat anyOf range property opened bound asked takeEntry takeEntryIf pass settle round visit visitIf handle clear relax storeIf keep keepIf
+unfolding bytes printed output refusedLine listed sourceLines linesOf lineOf spaced fieldsOf digits digitsBy judged vertexCount edgesRead sourcesRead readNetwork src.readSources read reading step heard ended lineIn commentOf spokenBy split before itemIn orElse src.itemIn after fields number scan isDigit problemFrom arcFrom arcOf src.headerFrom src.sourceFrom act opens takes complete src.act src.complete bind openCall queryCall queryFaults replied choose _▷_ refuseIf areLandmarks scheduled ranked edges zip order.rules order.follow exists order.insert unsettled flat anyOf range property opened bound asked takeEntry takeEntryIf pass settle round visit visitIf handle clear relax storeIf keep keepIf
 runs-said = refl

@@ -1,113 +1,80 @@
 -- The vertices of a landmark choice are landmarks: number 3 never comes for them. Assumes nothing.
 use mathlib.Core.Path.{_≡_, refl, sym, ap, _∙_}
-use mathlib.Core.Bool.{Bool, true, false, not, _||_, cond}
+use mathlib.Core.Bool.{true, false, not, _||_}
 use mathlib.Core.List.{List, [], _∷_}
 use Prim.Native.Nat.{ℕ, zero, suc, _+_, _<_, _≤_}
 use native.Mathlib.Omega.{arith}
 use lib.ListN.{length, take, length-take}
 use lib.Dec.{ltb, eqb}
 use borrow.Author.Tests.{eqb-false, not-true, lt-ltb, le-ltb, ne-eqb}
+use Rattle.property.proofs.Tests.{by-test}
 use Rattle.graph.specs.Limits.{maxLandmarks}
 use Rattle.graph.specs.Refusal.{accept}
-use Rattle.graph.specs.Edge.{Edge, range}
+use Rattle.graph.specs.Edge.{Edge, exists, range}
+use Rattle.graph.specs.Sorted.{insert}
 use Rattle.graph.proofs.Tests.{both, and-true, neither, or-false}
 use Rattle.graph.proofs.Lists.{length-range}
+use Rattle.graph.proofs.Sorted.{length-insert, exists-insert}
 use Rattle.graph.proofs.Verdicts.{accept-if}
 use Rattle.network.specs.Network.{isIn, areLandmarks, landmarks}
-use Rattle.network.specs.Choice.{ahead, place, ranked, choice}
+use Rattle.network.specs.Choice.{ahead, ranking, place, ranked, choice}
 
 -- ---- what makes a list of landmarks longer by one
 
-record Leads (n l : ℕ) (ls : List ℕ) : Type 0 where
+record Longer (n l : ℕ) (ls : List ℕ) : Type 0 where
   below : ltb l n ≡ true
   other : isIn l ls ≡ false
   rest : areLandmarks n ls ≡ true
 
-leads : (n l : ℕ) (ls : List ℕ) → areLandmarks n (l ∷ ls) ≡ true → Leads n l ls
+longer : (n l : ℕ) (ls : List ℕ) → areLandmarks n (l ∷ ls) ≡ true → Longer n l ls
 unfolding areLandmarks
-leads n l ls h =
+longer n l ls h =
     let a = both (ltb l n) _ h in
     let b = both (not (isIn l ls)) (areLandmarks n ls) (a .1) in
     record { below = a .0; other = not-true _ (b .0); rest = b .1 }
 
-led : {n l : ℕ} {ls : List ℕ} → Leads n l ls → areLandmarks n (l ∷ ls) ≡ true
+of-longer : {n l : ℕ} {ls : List ℕ} → Longer n l ls → areLandmarks n (l ∷ ls) ≡ true
 unfolding areLandmarks
-led h = and-true (h .below) (and-true (ap not (h .other)) (h .rest))
+of-longer h = and-true (h .below) (and-true (ap not (h .other)) (h .rest))
 
 -- ---- ranked vertices are the same ones
 
-or-swap : (a b c : Bool) → (a || (b || c)) ≡ (b || (a || c))
-or-swap true true c = refl
-or-swap true false c = refl
-or-swap false true c = refl
-or-swap false false c = refl
-
-place-in : (es : List Edge) (a v : ℕ) (us : List ℕ) → isIn a (place es v us) ≡ (eqb a v || isIn a us)
-unfolding place isIn
-place-in es a v [] = refl
-place-in es a v (u ∷ us) = pick (ahead es v u) (place-in es a v us)
-  where
-    pick : (b : Bool) → isIn a (place es v us) ≡ (eqb a v || isIn a us) → isIn a (cond b (v ∷ u ∷ us) (u ∷ place es v us)) ≡ (eqb a v || (eqb a u || isIn a us))
-    pick true h = refl
-    pick false h = ap (λ b. eqb a u || b) h ∙ or-swap (eqb a u) (eqb a v) (isIn a us)
-
 ranked-in : (es : List Edge) (a : ℕ) (vs : List ℕ) → isIn a (ranked es vs) ≡ isIn a vs
-unfolding ranked isIn
+unfolding ranked exists
 ranked-in es a [] = refl
-ranked-in es a (v ∷ vs) = place-in es a v (ranked es vs) ∙ ap (λ b. eqb a v || b) (ranked-in es a vs)
-
-place-length : (es : List Edge) (v : ℕ) (us : List ℕ) → length (place es v us) ≡ suc (length us)
-unfolding place
-place-length es v [] = refl
-place-length es v (u ∷ us) = pick (ahead es v u) (place-length es v us)
-  where
-    pick : (b : Bool) → length (place es v us) ≡ suc (length us) → length (cond b (v ∷ u ∷ us) (u ∷ place es v us)) ≡ suc (suc (length us))
-    pick true h = refl
-    pick false h = ap suc h
+ranked-in es a (v ∷ vs) = exists-insert (ranking es) (eqb a) v (ranked es vs) ∙ ap (λ b. eqb a v || b) (ranked-in es a vs)
 
 ranked-length : (es : List Edge) (vs : List ℕ) → length (ranked es vs) ≡ length vs
 unfolding ranked
 ranked-length es [] = refl
-ranked-length es (v ∷ vs) = place-length es v (ranked es vs) ∙ ap suc (ranked-length es vs)
+ranked-length es (v ∷ vs) = length-insert (ranking es) v (ranked es vs) ∙ ap suc (ranked-length es vs)
 
 -- ---- so they are landmarks where those are
 
 place-landmarks : (n : ℕ) (es : List Edge) (v : ℕ) (us : List ℕ) → areLandmarks n (v ∷ us) ≡ true → areLandmarks n (place es v us) ≡ true
-unfolding place isIn
+unfolding insert exists
 place-landmarks n es v [] h = h
-place-landmarks n es v (u ∷ us) h = pick (ahead es v u) (place-landmarks n es v us)
-  where
-    z : Leads n v (u ∷ us)
-    z = leads n v (u ∷ us) h
-
-    y : Leads n u us
-    y = leads n u us (z .rest)
-
-    x : (eqb v u ≡ false) × (isIn v us ≡ false)
-    x = neither (eqb v u) (isIn v us) (z .other)
-
-    apart : eqb u v ≡ false
-    apart = ne-eqb u v (λ e. eqb-false v u (x .0) (sym e))
-
-    pick : (b : Bool) → (areLandmarks n (v ∷ us) ≡ true → areLandmarks n (place es v us) ≡ true) → areLandmarks n (cond b (v ∷ u ∷ us) (u ∷ place es v us)) ≡ true
-    pick true f = h
-    pick false f = led (record {
+place-landmarks n es v (u ∷ us) h =
+    let z = longer n v (u ∷ us) h in
+    let y = longer n u us (z .rest) in
+    let x = neither (eqb v u) (isIn v us) (z .other) in
+    by-test (ahead es v u) (λ q. rw q h) (λ q. rw q (of-longer (record {
       below = y .below;
-      other = place-in es u v us ∙ or-false apart (y .other);
-      rest = f (led (record { below = z .below; other = x .1; rest = y .rest }));
-    })
+      other = exists-insert (ranking es) (eqb u) v us ∙ or-false (ne-eqb u v (λ e. eqb-false v u (x .0) (sym e))) (y .other);
+      rest = place-landmarks n es v us (of-longer (record { below = z .below; other = x .1; rest = y .rest }));
+    })))
 
 ranked-landmarks : (n : ℕ) (es : List Edge) (vs : List ℕ) → areLandmarks n vs ≡ true → areLandmarks n (ranked es vs) ≡ true
 unfolding ranked
 ranked-landmarks n es [] h = h
 ranked-landmarks n es (v ∷ vs) h =
-    let z = leads n v vs h in
-    place-landmarks n es v (ranked es vs) (led (record { below = z .below; other = ranked-in es v vs ∙ z .other; rest = ranked-landmarks n es vs (z .rest) }))
+    let z = longer n v vs h in
+    place-landmarks n es v (ranked es vs) (of-longer (record { below = z .below; other = ranked-in es v vs ∙ z .other; rest = ranked-landmarks n es vs (z .rest) }))
 
 -- ---- numbers in a row are different, and so are the first of different ones
 
 range-other : (a i k : ℕ) → a < i → isIn a (range i k) ≡ false
-unfolding isIn range
+unfolding exists range
 range-other a i zero h = refl
 range-other a i (suc k) h = or-false (ne-eqb a i (λ e. omega arith)) (range-other a (suc i) k (omega arith))
 
@@ -115,10 +82,10 @@ range-landmarks : (n i k : ℕ) → i + k ≤ n → areLandmarks n (range i k) �
 unfolding areLandmarks range
 range-landmarks n i zero h = refl
 range-landmarks n i (suc k) h =
-    led (record { below = lt-ltb i n (omega arith); other = range-other i (suc i) k (omega arith); rest = range-landmarks n (suc i) k (omega arith) })
+    of-longer (record { below = lt-ltb i n (omega arith); other = range-other i (suc i) k (omega arith); rest = range-landmarks n (suc i) k (omega arith) })
 
 take-other : (a k : ℕ) (us : List ℕ) → isIn a us ≡ false → isIn a (take k us) ≡ false
-unfolding isIn
+unfolding exists
 take-other a zero us h = refl
 take-other a (suc k) [] h = refl
 take-other a (suc k) (u ∷ us) h = let z = neither (eqb a u) (isIn a us) h in or-false (z .0) (take-other a k us (z .1))
@@ -128,8 +95,8 @@ unfolding areLandmarks
 take-landmarks n zero us h = refl
 take-landmarks n (suc k) [] h = refl
 take-landmarks n (suc k) (u ∷ us) h =
-    let z = leads n u us h in
-    led (record { below = z .below; other = take-other u k us (z .other); rest = take-landmarks n k us (z .rest) })
+    let z = longer n u us h in
+    of-longer (record { below = z .below; other = take-other u k us (z .other); rest = take-landmarks n k us (z .rest) })
 
 choice-length : (n : ℕ) (es : List Edge) (k : ℕ) → 0 < n → 0 < k → (0 < length (choice n es k)) × (length (choice n es k) ≤ k)
 choice-length n es k a b =

@@ -11,12 +11,13 @@ use borrow.Author.Tests.{ltb-true, le-ltb, not-false}
 use Rattle.graph.specs.Limits.{maxEdges}
 use Rattle.graph.specs.Refusal.{accept, refuseIf, over}
 use Rattle.graph.specs.Edge.{Edge, present}
-use Rattle.graph.specs.Table.{Columns, edgesOf, isWeight, shortTable, table, insert, delete}
+use Rattle.graph.specs.Table.{Columns, edgesOf, isWeight, isEdge, tableOrder, shortTable, table, insert, delete}
 use Rattle.graph.proofs.Tests.{both, and-true}
 use Rattle.graph.proofs.Records.{room-less, edges-length, edges-back}
 use Rattle.graph.proofs.Judging.{lengths-accept, table-accept}
 use Rattle.graph.proofs.Verdicts.{then-accept, accept-then, if-accept, accept-if}
-use Rattle.graph.proofs.Order.{Sound, rules-accept, accept-rules, insert-sound, delete-sound, length-insert, length-delete}
+use Rattle.graph.proofs.Sorted.{length-insert, length-delete, insert-sorted, delete-sorted}
+use Rattle.graph.proofs.Order.{table-ordered, Sound, rules-accept, accept-rules}
 use Rattle.network.specs.Change.{Change, named, inserts, edit, edits, words, against, item, items}
 use Rattle.network.specs.Batch.{column, rewritten}
 
@@ -47,9 +48,9 @@ item-good n i es c h s l =
         × (length (cond k (insert (named c) es) (delete (named c) es)) ≤ maxEdges)
     pick true v w x y z =
         let q : length es < maxEdges = ltb-true _ _ (not-false _ z) in
-        let r = length-insert (named c) es in
-        (insert-sound n (named c) es s (and-true (v .0) (and-true (v .1) (and-true (ap not w) x))) y, omega arith)
-    pick false v w x y z = let r = length-delete (named c) es in (delete-sound n (named c) es s, omega arith)
+        let r = length-insert tableOrder (named c) es in
+        (insert-sorted table-ordered (isEdge n) (named c) es s (and-true (v .0) (and-true (v .1) (and-true (ap not w) x))) y, omega arith)
+    pick false v w x y z = let r = length-delete tableOrder (named c) es in (delete-sorted table-ordered (isEdge n) (named c) es s, omega arith)
 
 -- item after item
 pub items-good : (n i : ℕ) (es : List Edge) (cs : List Change) → items n i es cs ≡ accept → Sound n es → length es ≤ maxEdges

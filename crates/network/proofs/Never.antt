@@ -14,6 +14,7 @@ use Rattle.frontier.specs.Waiting.{anyOf}
 use Rattle.graph.specs.Refusal.{Verdict, accept, refuse, _▷_, refuseIf, Reply, verdictOf}
 use Rattle.graph.specs.Edge.{Edge, reverse}
 use Rattle.graph.specs.Table.{follow, rules}
+use Rattle.graph.specs.Sorted as order
 use Rattle.graph.proofs.Tests.{or-false}
 use Rattle.graph.proofs.Verdicts.{accept-then, accept-if, then-same, then-last, verdict-replied}
 use Rattle.graph.proofs.Order.{within}
@@ -93,12 +94,12 @@ only-then accepts k = k
 only-then (refuses h) k = refuses h
 
 only-follow : {Q : ℕ → Bool} → Q 4 ≡ true → (n i : ℕ) (p : Edge) (es : List Edge) → Only Q (follow n i p es)
-unfolding follow
+unfolding order.follow
 only-follow h n i p [] = accepts
 only-follow h n i p (e ∷ es) = only-then (only-if _ 4 i h) (only-follow h n (suc i) e es)
 
 only-rules : {Q : ℕ → Bool} → Q 4 ≡ true → (n : ℕ) (es : List Edge) → Only Q (rules n es)
-unfolding rules
+unfolding order.rules
 only-rules h n [] = accepts
 only-rules h n (e ∷ es) = only-then (only-if _ 4 0 h) (only-follow h n 1 e es)
 

@@ -27,7 +27,7 @@ use Rattle.property.specs.Property.{Property, property, properties}
 use Rattle.frontier.specs.Waiting.{anyOf}
 use Rattle.graph.specs.Limits.{maxLandmarks}
 use Rattle.graph.specs.Refusal.{Verdict, _▷_, refuseIf}
-use Rattle.graph.specs.Edge.{Edge, range}
+use Rattle.graph.specs.Edge.{Edge, range, exists}
 use Rattle.graph.specs.Table.{Columns, edgesOf, size, shortTable, table}
 use Rattle.run.specs.Run.{State}
 
@@ -56,9 +56,8 @@ rowCount ls = length ls * properties
 abbrev pub shortRows : ℕ → List ℕ → Rows → Verdict
 shortRows n ls xs = refuseIf (ltb (length (xs .forward)) (rowCount ls * n) || ltb (length (xs .backward)) (rowCount ls * n)) 2 0
 
-unfoldable pub isIn : ℕ → List ℕ → Bool
-isIn a [] = false
-isIn a (l ∷ ls) = eqb a l || isIn a ls
+abbrev pub isIn : ℕ → List ℕ → Bool
+isIn a ls = exists (eqb a) ls
 
 unfoldable pub areLandmarks : ℕ → List ℕ → Bool
 areLandmarks n [] = true

@@ -2,7 +2,7 @@
 --
 --   tests               == what `ltb`, `leb` and `eqb` say where they are true and where they are false, and back
 --   is-true, is-false   == a test that can't come out one way comes out the other
---   true-or-false       == the two ways that a test can come out, to go by
+--   by-test             == by the two ways that a test can come out
 use mathlib.Core.Path.{_≡_, refl}
 use mathlib.Core.Bool.{Bool, true, false}
 use native.Mathlib.Omega.{arith}
@@ -10,6 +10,14 @@ use borrow.Author.Tests.{ltb-true, ltb-false, lt-ltb, le-ltb, leb-true, leb-fals
 
 pub ruleset tests = (ltb-true, ltb-false, lt-ltb, le-ltb, leb-true, leb-false, le-leb, lt-leb, eqb-true, eqb-false, eq-eqb, ne-eqb, arith)
 
+pub is-true : (t : Bool) → (t ≡ false → ⊥) → t ≡ true
+is-true true h = refl
+is-true false h = absurd (h refl)
+
 pub is-false : (t : Bool) → (t ≡ true → ⊥) → t ≡ false
 is-false true h = absurd (h refl)
 is-false false h = refl
+
+pub by-test : {C : Type 0} (t : Bool) → (t ≡ true → C) → (t ≡ false → C) → C
+by-test true f g = f refl
+by-test false f g = g refl

@@ -6,22 +6,18 @@
 --   Weighty w es   == weights are 1 to w
 use mathlib.Core.Path.{_≡_, sym, _∙_, subst}
 use mathlib.Core.Logic.{_⊎_, inl, inr, ⊎-elim}
-use mathlib.Core.Bool.{true, false, not, true≢false}
+use mathlib.Core.Bool.{true, false, true≢false}
 use mathlib.Core.List.{List, List·Memᴰ}
 use Prim.Native.Nat.{ℕ, zero, suc, _*_, _≤_, _<_}
 use native.Mathlib.Omega.{arith}
-use lib.Dec.{ltb, leb, eqb}
-use borrow.Author.Tests.{ltb-true, leb-true}
 use Rattle.property.specs.Property.{M, plus, Property, sssp, bfs, sswp, ssnp, ssr, property}
 use Rattle.property.specs.Laws.{Laws}
 use Rattle.property.proofs.Instances.{bfs-laws, property-laws}
 use Rattle.property.proofs.Tests.{tests}
 use Rattle.graph.specs.Limits.{maxVertices, maxWeight}
 use Rattle.graph.specs.Edge.{Edge}
-use Rattle.graph.specs.Table.{isWeight}
 use Rattle.graph.specs.Route.{Route, here, step, Best}
 use Rattle.graph.specs.Routed.{Routed}
-use Rattle.graph.proofs.Tests.{both}
 use Rattle.graph.proofs.Order.{Sound, Within, within, sound-fit, rules-accept}
 use Rattle.run.specs.Run.{word}
 use Rattle.theory.specs.Routed.{BestRouted}
@@ -68,12 +64,7 @@ Weighty w es = (e : Edge) → List·Memᴰ e es → (0 < e .weight) × (e .weigh
 
 -- the rules of a table keep weights within the limits
 pub sound-weighty : (n : ℕ) (es : List Edge) → Sound n es → Weighty maxWeight es
-sound-weighty n es h e m =
-    let a = both (ltb (e .tail) n) _ (sound-fit n es h e m) in
-    let b = both (ltb (e .head) n) _ (a .1) in
-    let c = both (not (eqb (e .tail) (e .head))) (isWeight (e .weight)) (b .1) in
-    let d = both (ltb 0 (e .weight)) (leb (e .weight) maxWeight) (c .1) in
-    (ltb-true _ _ (d .0), leb-true _ _ (d .1))
+sound-weighty n es h e m = let f = sound-fit n es h e m in (f .some-weight, f .weight-most)
 
 module _ {P : Property} (L : Laws P) {m w : ℕ} (lasting : Lasting P m w) (es : List Edge) (n : ℕ) (inside : Within n es) (weights : Weighty w es)
     (few : n ≤ m) (fits : m ≤ M) (s : ℕ) (h : s < n) where

@@ -11,20 +11,21 @@ use Rattle.property.specs.Property.{M, property}
 use Rattle.frontier.specs.Waiting.{anyOf, countOf}
 use Rattle.graph.specs.Refusal.{Verdict, accept, refuse, _▷_, refuseIf, Reply, accepted, refused, replied, verdictOf, Outcome, choose}
 use Rattle.graph.specs.Edge.{Edge, edge, keepIf, keep, exists, zip, edges, range}
-use Rattle.graph.specs.Table.{Columns, follow, rules, insert, delete}
+use Rattle.graph.specs.Table.{Columns}
+use Rattle.graph.specs.Sorted as order
 use Rattle.run.specs.Run.{Tally, storeIf, relax, clear, handle, visitIf, visit, takeEntryIf, pass, round, settle}
 use Rattle.run.specs.Run as run
 use Rattle.run.specs.Start.{bound, asked}
 use Rattle.run.specs.Start as start
 use Rattle.affected.specs.Affected.{mark, sweep, sweeps, affected}
 use Rattle.affected.specs.Prepared.{cleared, reopened, prepared}
-use Rattle.network.specs.Network.{Rows, Memory, Network, edgesIn, isIn, areLandmarks, flat, unsettled, storesOf}
+use Rattle.network.specs.Network.{Rows, Memory, Network, edgesIn, areLandmarks, flat, unsettled, storesOf}
 use Rattle.network.specs.Open.{openCall}
 use Rattle.network.specs.Query.{Words, scheduled, queryCall, queryFaults}
 use Rattle.network.specs.Change.{Change, edit, item, items, words, against}
 use Rattle.network.specs.Batch.{Report, affectedOver, batchCall, batchFaults}
 use Rattle.network.specs.Settled.{Check, settled, found, inRecords, inRows, settledCall}
-use Rattle.network.specs.Choice.{place, ranked, choiceCall}
+use Rattle.network.specs.Choice.{ranked, choiceCall}
 use Rattle.network.specs.Lookup.{indexOf, lookupRow}
 use Rattle.network.specs.Caller.{holding, openedNetwork, reported, lived}
 use Rattle.network.specs.Current.{turnedBack, after, current}
@@ -64,19 +65,19 @@ backwardOf2 = (8 ∷ 4 ∷ 0 ∷ 2 ∷ []) ++ (2 ∷ 1 ∷ 0 ∷ 1 ∷ []) ++ (4
 
 -- an opening writes the row lists alone: "words past those stay", and so does the table with all that lies past its count
 opening : openCall 4 (0 ∷ []) (dusty (replicate 20 5) (replicate 20 6)) ≡ record { reply = accepted tt; memory = (dusty forwardOf0 backwardOf0) .memory }
-unfolding openCall replied choose _▷_ refuseIf isIn areLandmarks edges zip rules follow unsettled flat anyOf range property start.opened settle round visit visitIf handle clear relax storeIf keep keepIf
+unfolding openCall replied choose _▷_ refuseIf exists areLandmarks edges zip order.rules order.follow unsettled flat anyOf range property start.opened settle round visit visitIf handle clear relax storeIf keep keepIf
 opening = refl
 
 -- "rows go by post in list order, then property": landmark 2 comes first where it is listed first
 opening-two : (openCall 4 (2 ∷ 0 ∷ []) (dusty (replicate 40 5) (replicate 40 6))) .memory .rows
     ≡ record { forward = forwardOf2 ++ forwardOf0 ++ (99 ∷ 99 ∷ []); backward = backwardOf2 ++ backwardOf0 ++ (99 ∷ 99 ∷ []) }
-unfolding openCall choose _▷_ refuseIf isIn areLandmarks edges zip rules follow unsettled flat anyOf range property start.opened settle round visit visitIf handle clear relax storeIf keep keepIf
+unfolding openCall choose _▷_ refuseIf exists areLandmarks edges zip order.rules order.follow unsettled flat anyOf range property start.opened settle round visit visitIf handle clear relax storeIf keep keepIf
 opening-two = refl
 
 -- a refused opening leaves every list: here a landmark is named twice
 opening-refused : openCall 4 (0 ∷ 0 ∷ []) (dusty (replicate 40 5) (replicate 40 6))
     ≡ record { reply = refused 3 0; memory = (dusty (replicate 40 5) (replicate 40 6)) .memory }
-unfolding openCall replied choose _▷_ refuseIf isIn areLandmarks
+unfolding openCall replied choose _▷_ refuseIf exists areLandmarks
 opening-refused = refl
 
 -- after the take of 0→1: each forward row loses the words of 1 and 2 and finds them by way of 3. Headroom is 2, and not the 4 that the
@@ -132,7 +133,7 @@ batches =
     ∷ []
 
 batches-said : map (λ c. c .0) batches ≡ map (λ c. c .1) batches
-unfolding batchCall batchFaults replied choose _▷_ refuseIf isIn areLandmarks edges zip rules follow item words against items edit insert delete exists unsettled flat storesOf affectedOver anyOf countOf range property settle round visit visitIf handle clear relax storeIf keep keepIf mark sweep sweeps affected cleared reopened prepared
+unfolding batchCall batchFaults replied choose _▷_ refuseIf areLandmarks edges zip order.rules order.follow item words against items edit order.insert order.delete exists unsettled flat storesOf affectedOver anyOf countOf range property settle round visit visitIf handle clear relax storeIf keep keepIf mark sweep sweeps affected cleared reopened prepared
 batches-said = refl
 
 -- ---- affected vertices and stores of a batch
@@ -166,7 +167,7 @@ reports =
     ∷ []
 
 reports-said : map (λ c. c .0) reports ≡ map (λ c. c .1) reports
-unfolding openCall start.opened batchCall batchFaults replied choose _▷_ refuseIf isIn areLandmarks edges zip rules follow item words against items edit insert delete exists unsettled flat storesOf affectedOver anyOf countOf range property settle round visit visitIf handle clear relax storeIf keep keepIf mark sweep sweeps affected cleared reopened prepared
+unfolding openCall start.opened batchCall batchFaults replied choose _▷_ refuseIf areLandmarks edges zip order.rules order.follow item words against items edit order.insert order.delete exists unsettled flat storesOf affectedOver anyOf countOf range property settle round visit visitIf handle clear relax storeIf keep keepIf mark sweep sweeps affected cleared reopened prepared
 reports-said = refl
 
 -- ---- queries
@@ -230,7 +231,7 @@ queries =
     ∷ []
 
 queries-said : map (λ c. c .0) queries ≡ map (λ c. c .1) queries
-unfolding queryCall queryFaults replied choose _▷_ refuseIf isIn areLandmarks scheduled edges zip rules follow anyOf range property bound asked run.takeEntry takeEntryIf pass settle round visit visitIf handle clear relax storeIf keep keepIf
+unfolding queryCall queryFaults replied choose _▷_ refuseIf exists areLandmarks scheduled edges zip order.rules order.follow anyOf range property bound asked run.takeEntry takeEntryIf pass settle round visit visitIf handle clear relax storeIf keep keepIf
 queries-said = refl
 
 -- ---- the settled check
@@ -265,7 +266,7 @@ checkings =
     ∷ []
 
 checkings-said : map (λ c. c .0) checkings ≡ map (λ c. c .1) checkings
-unfolding settledCall replied _▷_ refuseIf isIn areLandmarks edges zip rules follow inRows inRecords range property
+unfolding settledCall replied _▷_ refuseIf exists areLandmarks edges zip order.rules order.follow inRows inRecords range property
 checkings-said = refl
 
 -- ---- post choice
@@ -302,7 +303,7 @@ choices =
     ∷ []
 
 choices-said : map (λ c. c .0) choices ≡ map (λ c. c .1) choices
-unfolding choiceCall replied _▷_ refuseIf edges zip rules follow place ranked keep keepIf range
+unfolding choiceCall replied _▷_ refuseIf edges zip order.rules order.follow order.insert ranked keep keepIf range
 choices-said = refl
 
 -- ---- row look-up
@@ -337,7 +338,7 @@ lookups =
     ∷ []
 
 lookups-said : map (λ c. c .0) lookups ≡ map (λ c. c .1) lookups
-unfolding lookupRow choose _▷_ refuseIf isIn areLandmarks indexOf
+unfolding lookupRow choose _▷_ refuseIf exists areLandmarks indexOf
 lookups-said = refl
 
 -- ---- the network as it is now
@@ -357,7 +358,7 @@ graphNow = edge 0 1 3 ∷ edge 0 3 9 ∷ edge 1 0 2 ∷ edge 1 2 4 ∷ edge 2 1 
 
 -- "Accepted: item by item .. the list stays in table order. Refused: it stays"
 current-now : current 4 graphA history ≡ graphNow
-unfolding after turnedBack choose item words against items edit insert delete exists _▷_ refuseIf
+unfolding after turnedBack choose item words against items edit order.insert order.delete exists _▷_ refuseIf
 current-now = refl
 
 -- "The table's records below the present count are this list, and the count is its length": a refused batch hands on words and count.
@@ -366,7 +367,7 @@ abbrev held : Network → List Edge × ℕ × List ℕ × List ℕ
 held w = (edgesIn w, w .count, list.take 4 (w .memory .rows .forward), list.take 4 (w .memory .rows .backward))
 
 lived-now : held (lived 4 (0 ∷ []) (withLandmark 0) history) ≡ (graphNow, 6, 0 ∷ 3 ∷ 7 ∷ 9 ∷ [], 0 ∷ 2 ∷ 6 ∷ 8 ∷ [])
-unfolding openCall start.opened batchCall batchFaults reported replied choose _▷_ refuseIf isIn areLandmarks edges zip rules follow item words against items edit insert delete exists unsettled flat anyOf range property settle round visit visitIf handle clear relax storeIf keep keepIf mark sweep sweeps affected cleared reopened prepared
+unfolding openCall start.opened batchCall batchFaults reported replied choose _▷_ refuseIf areLandmarks edges zip order.rules order.follow item words against items edit order.insert order.delete exists unsettled flat anyOf range property settle round visit visitIf handle clear relax storeIf keep keepIf mark sweep sweeps affected cleared reopened prepared
 lived-now = refl
 
 -- "whether "Turned back" accepts the batch": reckoned from the edges alone it is what the call says, number and place
@@ -380,9 +381,9 @@ judgedBatches =
     ∷ []
 
 turnedBack-said : map (λ c. turnedBack 4 graphA (c .0)) judgedBatches ≡ map (λ c. c .1) judgedBatches
-unfolding turnedBack item words against items edit insert delete exists _▷_ refuseIf
+unfolding turnedBack item words against items edit order.insert order.delete exists _▷_ refuseIf
 turnedBack-said = refl
 
 batchCall-said : map (λ c. changes 4 (0 ∷ []) (withLandmark 0) (c .0)) judgedBatches ≡ map (λ c. c .1) judgedBatches
-unfolding openCall start.opened batchCall batchFaults verdictOf replied choose _▷_ refuseIf isIn areLandmarks edges zip rules follow item words against items edit insert delete exists unsettled flat anyOf range property settle round visit visitIf handle clear relax storeIf keep keepIf mark sweep sweeps affected cleared reopened prepared
+unfolding openCall start.opened batchCall batchFaults verdictOf replied choose _▷_ refuseIf areLandmarks edges zip order.rules order.follow item words against items edit order.insert order.delete exists unsettled flat anyOf range property settle round visit visitIf handle clear relax storeIf keep keepIf mark sweep sweeps affected cleared reopened prepared
 batchCall-said = refl

@@ -11,14 +11,14 @@ use Rattle.property.specs.Property.{property}
 use Rattle.frontier.specs.Waiting.{anyOf}
 use Rattle.graph.specs.Refusal.{Verdict, accept, refuse, _▷_, refuseIf, replied, verdictOf}
 use Rattle.graph.specs.Edge.{Edge, edge, keep, exists, zip, edges, range}
-use Rattle.graph.specs.Table.{follow, rules, insert, delete}
+use Rattle.graph.specs.Sorted as order
 use Rattle.run.specs.Run.{clear, handle, visitIf, visit, takeEntryIf, pass, round, settle}
 use Rattle.run.specs.Run as run
 use Rattle.run.specs.Start.{bound, asked}
 use Rattle.run.specs.Start as start
 use Rattle.affected.specs.Affected.{sweep, sweeps, affected}
 use Rattle.affected.specs.Prepared.{cleared, reopened, prepared}
-use Rattle.network.specs.Network.{Network, isIn, areLandmarks, unsettled}
+use Rattle.network.specs.Network.{Network, areLandmarks, unsettled}
 use Rattle.network.specs.Open.{openCall}
 use Rattle.network.specs.Query.{scheduled, queryCall, queryFaults}
 use Rattle.network.specs.Change.{Change, edit, item, items, words, against}
@@ -155,7 +155,7 @@ refusals =
     ∷ []
 
 refusals-said : map (λ c. c .0) refusals ≡ map (λ c. c .1) refusals
-unfolding openCall queryCall queryFaults batchCall batchFaults settledCall choiceCall lookupNumber replied verdictOf _▷_ refuseIf isIn areLandmarks scheduled item words against items edges zip rules follow unsettled anyOf range property start.opened bound asked run.takeEntry takeEntryIf pass settle round visit visitIf handle clear keep sweep sweeps affected cleared reopened prepared exists
+unfolding openCall queryCall queryFaults batchCall batchFaults settledCall choiceCall lookupNumber replied verdictOf _▷_ refuseIf areLandmarks scheduled item words against items edges zip order.rules order.follow unsettled anyOf range property start.opened bound asked run.takeEntry takeEntryIf pass settle round visit visitIf handle clear keep sweep sweeps affected cleared reopened prepared exists
 refusals-said = refl
 
 -- "a lent list .. is too short": each of the five lists counts in each call that takes a network
@@ -231,5 +231,5 @@ itemsJudged =
     ∷ []
 
 itemsJudged-said : map (λ c. c .0) itemsJudged ≡ map (λ c. c .1) itemsJudged
-unfolding item words against items edit insert delete exists _▷_ refuseIf range
+unfolding item words against items edit order.insert order.delete exists _▷_ refuseIf range
 itemsJudged-said = refl

@@ -8,7 +8,7 @@ use Rattle.graph.specs.Limits.{maxEdges}
 use Rattle.graph.specs.Edge.{edge, edges}
 use Rattle.graph.specs.Code.{Room, find}
 use Rattle.graph.proofs.Records.{room-less, edges-length}
-use Rattle.graph.proofs.Lookup.{find-below, delete-found}
+use Rattle.graph.proofs.Seek.{find-below, delete-found}
 use Rattle.network.specs.Change.{edit}
 use Rattle.items.specs.Code.{change, verdict}
 use Rattle.items.proofs.Editing.{leaves-refused, leaves-count, delete-absent, delete-fine, item-tabled}
@@ -26,7 +26,7 @@ below : (i : tie.After-i) → i .i .given .0 .0 < start i .args .count
 below i =
     let t = start i .pre .0 in
     let q = edges-length _ _ _ _ (room-less (t .few) (t .room)) in
-    let l = find-below _ _ _ (found i) in
+    let l = find-below _ _ _ _ (found i) in
     omega arith
 
 find-requires : tie.Need-find-requires
@@ -78,7 +78,7 @@ returns-2 c =
     let i = d .before .before .before .before .before in
     let s = start i in
     let a = delete-fine _ (s .args .t) (s .args .h) (s .args .place) _ (found i) in
-    let e = d .delete-at .ensures ∙ delete-found _ _ _ (found i) in
+    let e = d .delete-at .ensures ∙ delete-found _ _ _ _ (found i) in
     let t : s .args .count ≤ maxEdges = s .pre .0 .few in
     let r : Room maxEdges (d .delete-at .last .1 .0) (d .delete-at .last .1 .1 .0) (d .delete-at .last .1 .1 .1 .0) = record { tails = omega arith; heads = omega arith; weights = omega arith } in
     (a, leaves-count _ _ _ _ _ _ (item-tabled _ (s .args .place) _ _ _ _ (change 2 (s .args .t) (s .args .h) 0) (s .pre .0) (sym (s .pre .1)) a _ _ _ _ (omega arith) r e) e)

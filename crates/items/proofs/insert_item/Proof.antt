@@ -10,7 +10,8 @@ use Rattle.graph.specs.Code.{Room, find}
 use Rattle.graph.proofs.Records.{room-less, edges-length}
 use Rattle.network.specs.Change.{edit}
 use Rattle.items.specs.Code.{change, verdict}
-use Rattle.items.proofs.Editing.{leaves-refused, leaves-count, insert-present, insert-full, insert-fine, pair-absent, item-tabled}
+use Rattle.graph.proofs.Lookup.{absent-present}
+use Rattle.items.proofs.Editing.{leaves-refused, leaves-count, insert-present, insert-full, insert-fine, item-tabled}
 use Rattle.items.proofs.insert_item.Statement.{statement}
 use Rattle.items.proofs.insert_item.Tie as tie
 
@@ -65,7 +66,7 @@ insert-requires : tie.Need-insert-requires
 insert-requires c κs =
     let e = c .before .before .before in
     let t = start (e .before) .pre .0 in
-    (room-less (omega arith) (t .room), (t .rules, pair-absent _ _ _ (start (e .before) .args .w) (absent (e .before))))
+    (room-less (omega arith) (t .room), (t .rules, absent-present _ _ (start (e .before) .args .w) _ (absent (e .before))))
 
 add-t25 : tie.Need-add-t25
 add-t25 c = search needs
