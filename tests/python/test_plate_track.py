@@ -287,7 +287,7 @@ class Loading(unittest.TestCase):
             other = Path(folder) / "other.so"
             for version, said in (
                 (VERSION + 1, f"has version {VERSION + 1}, and this package is for {VERSION}"),
-                (VERSION, f"no shared object of version {VERSION}: {other}: undefined symbol: plate_track_open"),
+                (VERSION, f"no shared object of version {VERSION}: {other}: undefined symbol: {calls.open.symbol}"),
             ):
                 source = f"unsigned plate_track_version(void) {{ return {version}; }}"
                 subprocess.run(["gcc", "-shared", "-x", "c", "-o", other, "-"], input=source, text=True, check=True)
