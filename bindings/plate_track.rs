@@ -1,7 +1,8 @@
 //! The calls of plate_track for Rust: safe functions over slices. include/plate_track.h says what each call does; here the borrow checker sees
 //! to what a C caller owes, that a list which a call may write overlaps no other.
 //!
-//! Take it as a module (`#[path = ".."] mod plate_track;`) or as a crate, and hand `-L native=` the folder of libplate_track.a to rustc.
+//! Take it as a module (`#[path = ".."] mod plate_track;`) or as a crate, in edition 2021 or 2024 (rustc 1.82 or later), and hand `-L native=` the
+//! folder of libplate_track.a to rustc.
 //!
 //! Parameters and their order are those of the header, a list one slice. `reply` has at least REPLY_WORDS words: accepted, its first words are
 //! the ones that QUERY_TAKEN and on name. `count` is the present count: one that is too small is not found out.
@@ -142,7 +143,7 @@ fn at_mut<T>(list: &mut [T]) -> *mut T {
 
 // Sound: below, each pointer goes with the length of its own slice, and lists that are written come from `&mut` slices.
 #[link(name = "plate_track", kind = "static")]
-extern "C" {
+unsafe extern "C" {
     fn plate_track_version() -> u32;
     fn plate_track_open(
         n: u32, landmarks: *const u32, landmarks_len: usize, tails: *const u32, tails_len: usize, heads: *const u32, heads_len: usize,

@@ -1,4 +1,14 @@
-/* Deck A of document 01: read from text, opened, asked, changed, asked again, written as text. Build and run it by examples/run. */
+/* Deck A of document 01: read from text, opened, asked, changed, asked again, written as text. Build and run it by examples/run, which holds what it
+ * prints to examples/deck.out. That follows from document 01 by hand, where it does not stand there:
+ *
+ * From 0, the landmark, the start words are the forward row, best values: 0 is handled in one round, and nothing is bettered.
+ * Delete 0->1: in each of the five forward rows 0->1 is tight, and so is 1->2, so 1 and 2 are affected: 10. No backward row has a route but 0's own.
+ * Waiting are 1, 2 and 3, the tails of edges into 1 and 2. Round 1: 1 and 2 have no route, 3 betters 2. Round 2: 2 betters 1. Round 3: 1 does not
+ * better 2. Two stores in each of the five rows: 10.
+ * Insert 0->1 4: 0 waits and betters 1 but for reach; 1 then betters 2, but for handovers (2 as before) and reach: time 2, handovers 1, headroom 2,
+ * worst 2, reach 0 stores: 7.
+ * Reach from 3: no way to the landmark, so the start words have no route but at 3. Round 1: 3 betters 2. Round 2: 2 betters 1. Round 3: 1 betters
+ * nothing. Three rounds, two stores. */
 #include "plate_track_deck.h"
 
 #include <inttypes.h>

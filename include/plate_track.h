@@ -28,9 +28,9 @@
  *   5 reach                      1               0             value                   greater
  * A sum above 4294967294 is 4294967295: it never wraps.
  *
- * REPLIES. A function returns 0 where the call is accepted, and else the number of its refusal (below). `reply` is a list of at least
- * 8 words; with fewer, every function returns PLATE_TRACK_SHORT and looks at nothing else. Accepted, reply[0] and on hold the words that are named at
- * the function, and the rest stay. Refused, reply[0] is the place (an index, a line, or 0), the rest stay, and NO other lent memory
+ * REPLIES. A call, which is every function here with a reply list, returns 0 where it is accepted, and else the number of its refusal (below).
+ * `reply` is a list of at least 8 words; with fewer, every call returns PLATE_TRACK_SHORT and looks at nothing else. Accepted, reply[0] and on
+ * hold the words that are named at the function, and the rest stay. Refused, reply[0] is the place (an index, a line, or 0), the rest stay, and NO other lent memory
  * has changed. The lowest number that applies is given, but for two: plate_track_write judges the length of its buffer last; and in a
  * batch, after 1 to 4, the first change with any of 6 to 12 decides, by its lowest number, against the table as earlier changes left it, and
  * its index is the place.
@@ -67,8 +67,12 @@ extern "C" {
 /* The greatest word, M of document 01. */
 #define PLATE_TRACK_GREATEST UINT32_C(4294967295)
 
-/* The least length of each row list. */
+/* The least length of each row list, a size_t; in C++ without a cast, of which some compilers' options warn. */
+#ifdef __cplusplus
+#define PLATE_TRACK_ROW_WORDS(landmarks, n) (sizeof(char) * (landmarks) * PLATE_TRACK_PROPERTIES * (n))
+#else
 #define PLATE_TRACK_ROW_WORDS(landmarks, n) ((size_t)(landmarks) * PLATE_TRACK_PROPERTIES * (size_t)(n))
+#endif
 
 enum {
     PLATE_TRACK_MOST_VERTICES = 256,

@@ -3,10 +3,11 @@
  *
  * A deck takes about 64 KiB: keep it in static memory or allocate it. Its fields may be read at any time and are written by these functions
  * alone. Begin with plate_track_deck_read or plate_track_deck_clear, then plate_track_deck_open; until it is opened there are no landmarks, and
- * what asks for them is refused with PLATE_TRACK_LANDMARKS.
+ * what needs them (batch, query, row, settled) is refused: with PLATE_TRACK_LANDMARKS, where no lower number applies.
  *
- * Each function returns the number of the call's refusal, 0 where accepted. `reply` is 8 words of the caller's, written as by the call of the
- * same name; a refused call changes nothing in the deck. Functions of a const deck can run on several threads at once, each with its own reply. */
+ * Each function but plate_track_deck_clear returns the number of the call's refusal, 0 where accepted. `reply` is 8 words of the caller's,
+ * written as by the call of the same name; a refused call changes nothing in the deck. Functions of a const deck can run on several threads at
+ * once, each with memory of its own for whatever it writes: reply, starts, settled, landmarks, row, text, sources. */
 #ifndef PLATE_TRACK_DECK_H
 #define PLATE_TRACK_DECK_H
 
@@ -30,7 +31,15 @@ typedef struct plate_track_deck {
 #define PLATE_TRACK_DECK_ROWS(d) \
     (d)->forward, sizeof (d)->forward / sizeof *(d)->forward, (d)->backward, sizeof (d)->backward / sizeof *(d)->backward
 
-/* A deck of n vertices without an edge and without landmarks. A bad n is refused by whatever is called next. */
+/* A word of a reply as a word of a list; no name for users either. */
+#ifdef __cplusplus
+#define PLATE_TRACK_DECK_WORD(w) static_cast<uint32_t>(w)
+#else
+#define PLATE_TRACK_DECK_WORD(w) ((uint32_t)(w))
+#endif
+
+/* A deck of n vertices without an edge and without landmarks. A bad n is refused, with PLATE_TRACK_SIZE, by every function below but
+ * plate_track_deck_read, which gives the deck another n. */
 static inline void plate_track_deck_clear(plate_track_deck *d, uint32_t n)
 {
     d->n = n;
@@ -43,8 +52,8 @@ static inline uint32_t plate_track_deck_read(plate_track_deck *d, const uint8_t 
 {
     uint32_t number = plate_track_read(text, text_len, PLATE_TRACK_DECK_TABLE(d), reply, PLATE_TRACK_REPLY_WORDS);
     if (number == PLATE_TRACK_ACCEPTED) {
-        d->n = (uint32_t)reply[PLATE_TRACK_READ_VERTICES];
-        d->count = (uint32_t)reply[PLATE_TRACK_READ_COUNT];
+        d->n = PLATE_TRACK_DECK_WORD(reply[PLATE_TRACK_READ_VERTICES]);
+        d->count = PLATE_TRACK_DECK_WORD(reply[PLATE_TRACK_READ_COUNT]);
         d->landmarks_len = 0;
     }
     return number;
@@ -56,8 +65,8 @@ static inline uint32_t plate_track_deck_choose(
 {
     uint32_t number = plate_track_choose(d->n, PLATE_TRACK_DECK_TABLE(d), d->count, k, reply, PLATE_TRACK_REPLY_WORDS);
     if (number == PLATE_TRACK_ACCEPTED)
-        for (size_t i = 0; i < (size_t)reply[PLATE_TRACK_CHOOSE_COUNT]; i++)
-            landmarks[i] = (uint32_t)reply[PLATE_TRACK_CHOOSE_FIRST + i];
+        for (uint64_t i = 0; i < reply[PLATE_TRACK_CHOOSE_COUNT]; i++)
+            landmarks[i] = PLATE_TRACK_DECK_WORD(reply[PLATE_TRACK_CHOOSE_FIRST + i]);
     return number;
 }
 
@@ -81,7 +90,7 @@ static inline uint32_t plate_track_deck_batch(plate_track_deck *d, const plate_t
         d->n, d->landmarks, d->landmarks_len, PLATE_TRACK_DECK_TABLE(d), d->count, PLATE_TRACK_DECK_ROWS(d), changes, changes_len, reply,
         PLATE_TRACK_REPLY_WORDS);
     if (number == PLATE_TRACK_ACCEPTED)
-        d->count = (uint32_t)reply[PLATE_TRACK_BATCH_COUNT];
+        d->count = PLATE_TRACK_DECK_WORD(reply[PLATE_TRACK_BATCH_COUNT]);
     return number;
 }
 
@@ -128,5 +137,6 @@ static inline uint32_t plate_track_deck_read_sources(
 
 #undef PLATE_TRACK_DECK_TABLE
 #undef PLATE_TRACK_DECK_ROWS
+#undef PLATE_TRACK_DECK_WORD
 
 #endif

@@ -1,10 +1,13 @@
 """A network with all its memory and its present count."""
 
 from array import array
+from itertools import islice
 from typing import NamedTuple
 
 from . import calls
-from .constants import BACKWARD, FORWARD, LONGEST_TEXT, MOST_EDGES, MOST_LANDMARKS, MOST_SOURCES, MOST_VERTICES, row_words
+from .constants import (
+    BACKWARD, FORWARD, LONGEST_SCHEDULE, LONGEST_TEXT, MOST_CHANGES, MOST_EDGES, MOST_LANDMARKS, MOST_SOURCES, MOST_VERTICES, row_words
+)  # fmt: skip
 from .native import number_of
 
 
@@ -13,12 +16,11 @@ def words(count):
     return array("I", bytes(4 * count))
 
 
-def as_words(values):
-    """Values as a list of words: as they are where they have a buffer; else copied, each held to 32 bits."""
-    try:
-        return memoryview(values)
-    except TypeError:
-        return array("I", values)
+def copied(name, values, most):
+    """Values as a list of words, each held to 32 bits. One more than there may be is refused as any greater number is: what follows is left out."""
+    if isinstance(values, (bytes, bytearray, str)):
+        raise TypeError(f"{name}: whole numbers are needed, and this is {type(values).__name__}")
+    return array("I", list(islice(values, most + 1)))
 
 
 class Answer(NamedTuple):
@@ -78,17 +80,21 @@ class Deck:
 
     def open(self, landmarks):
         """Opens the deck with these landmarks; again with others at any time."""
-        landmarks = array("I", landmarks)
+        landmarks = copied("landmarks", landmarks, MOST_LANDMARKS)
         room = row_words(len(landmarks), min(self.n, MOST_VERTICES))
         forward, backward = words(room), words(room)
         calls.open(self.n, landmarks, *self._table(), self.count, forward, backward)
         self.landmarks, self.forward, self.backward = landmarks, forward, backward
 
     def query(self, property, source, schedule=()):
-        """A property from a source to every vertex: an Answer."""
+        """A property from a source to every vertex: an Answer. The schedule may be a buffer of words."""
+        try:
+            schedule = memoryview(schedule)
+        except TypeError:
+            schedule = copied("schedule", schedule, LONGEST_SCHEDULE)
         room = min(self.n, MOST_VERTICES)
         starts, settled = words(room), words(room)
-        tally = calls.query(*self._network(), property, source, as_words(schedule), starts, settled)
+        tally = calls.query(*self._network(), property, source, schedule, starts, settled)
         return Answer(settled, starts, tally)
 
     def batch(self, changes):
@@ -96,13 +102,15 @@ class Deck:
         try:
             changes = memoryview(changes)
         except TypeError:
-            changes = array("I", [word for kind, tail, head, weight in changes for word in (kind, tail, head, weight)])
+            changes = [word for kind, tail, head, weight in islice(changes, MOST_CHANGES + 1) for word in (kind, tail, head, weight)]
+            changes = copied("changes", changes, len(changes))
         report = calls.batch(*self._network(), changes)
         self.count = report.count
         return report
 
     def row(self, side, landmark, property):
-        """The n words of a landmark's row, as a part of the deck's own list that can't be written."""
+        """The n words of a landmark's row, as a part of the deck's own list that can't be written: a batch shows in it. Another `open` makes other
+        lists, and the row is then as it was before."""
         start = calls.row(self.n, self.landmarks, self.forward, self.backward, side, landmark, property)
         rows = {FORWARD: self.forward, BACKWARD: self.backward}[side]
         return memoryview(rows).toreadonly()[start : start + self.n]

@@ -13,7 +13,8 @@ from typing import NamedTuple
 from .constants import REPLY_WORDS, VERSION, WORDS
 
 NAME = f"libplate_track.so.{VERSION}"
-_library = None
+_types = {}  # of the parameters of each call, by its symbol
+_outside = {}  # the calls of the shared object, once it is loaded
 
 
 class Refused(Exception):
@@ -31,17 +32,23 @@ class Refused(Exception):
 def load(path=None):
     """Loads the shared object: at `path`, else where the environment's PLATE_TRACK_LIBRARY says, else beside this package, else where the
     system's loader finds it. The first call does this by itself."""
-    global _library
+    global _outside
     beside = Path(__file__).with_name(NAME)
     path = path or os.environ.get("PLATE_TRACK_LIBRARY") or (beside if beside.exists() else NAME)
     try:
         found = ctypes.CDLL(os.fspath(path))
         version = found.plate_track_version()
+        if version != VERSION:
+            raise ImportError(f"plate_track: {path} has version {version}, and this package is for {VERSION}")
+        outside = {symbol: getattr(found, symbol) for symbol in _types}
     except (OSError, AttributeError) as error:
-        raise ImportError(f"plate_track: no shared object of version {VERSION}: {error}") from error
-    if version != VERSION:
-        raise ImportError(f"plate_track: {path} has version {version}, and this package is for {VERSION}")
-    _library = found
+        raise ImportError(
+            f"plate_track: no shared object of version {VERSION}: {error}. tools/shared of the repository makes it, and the environment's "
+            "PLATE_TRACK_LIBRARY may say where it is"
+        ) from error
+    for symbol, function in outside.items():
+        function.argtypes, function.restype = _types[symbol], c_uint32
+    _outside = outside  # whole, for other threads
 
 
 class Number(NamedTuple):
@@ -76,7 +83,7 @@ class _Buffer(ctypes.Structure):
 
     _fields_ = [
         ("buf", c_void_p), ("obj", c_void_p), ("len", c_ssize_t), ("itemsize", c_ssize_t), ("readonly", c_int), ("ndim", c_int),
-        ("format", c_char_p), ("shape", c_void_p), ("strides", c_void_p), ("suboffsets", c_void_p), ("internal", c_void_p),
+        ("format", c_char_p), ("shape", ctypes.POINTER(c_ssize_t)), ("strides", c_void_p), ("suboffsets", c_void_p), ("internal", c_void_p),
     ]  # fmt: skip
 
 
@@ -101,6 +108,8 @@ def _lent(name, kind, thing):
             raise TypeError(f"{name}: unsigned elements of {8 * kind.width} bits are needed, and these are {form!r} of {8 * view.itemsize}")
         if view.len % (kind.width * kind.group):
             raise ValueError(f"{name}: {view.len // kind.width} words are no whole number of elements of {kind.group}")
+        if kind.group > 1 and view.ndim > 1 and view.shape[view.ndim - 1] != kind.group:
+            raise ValueError(f"{name}: rows of {kind.group} words are needed, and these have {view.shape[view.ndim - 1]}")
         at = view.buf if view.len else 0  # an empty list is lent by null
         if at % kind.width:
             raise ValueError(f"{name}: not aligned")
@@ -134,10 +143,11 @@ def call(function):
     kinds = [(p.name, p.annotation) for p in signature.parameters.values()]
     types = [t for _, k in kinds for t in ((c_uint32,) if isinstance(k, Number) else (c_void_p, c_size_t))]
     symbol = "plate_track_" + function.__name__
+    _types[symbol] = [*types, ctypes.POINTER(c_uint64), c_size_t]
 
     @functools.wraps(function)
     def calling(*arguments, **named):
-        if _library is None:
+        if not _outside:
             load()
         values = signature.bind(*arguments, **named).arguments.values()
         reply, flat, lists = (c_uint64 * REPLY_WORDS)(), [], []
@@ -150,9 +160,7 @@ def call(function):
                     flat += [at, size // (kind.width * kind.group)]
                     lists.append((name, kind, at, size))
             _apart(lists)
-            outside = getattr(_library, symbol)
-            outside.argtypes, outside.restype = [*types, ctypes.POINTER(c_uint64), c_size_t], c_uint32
-            number = outside(*flat, reply, REPLY_WORDS)
+            number = _outside[symbol](*flat, reply, REPLY_WORDS)
         if number:
             raise Refused(number, reply[0])
         return signature.return_annotation(reply)

@@ -121,6 +121,36 @@ static void refused(void)
     check(read_text(&d, deck_a) == 0 && refuses(plate_track_deck_settled(&d, reply), PLATE_TRACK_LANDMARKS, 0), "a deck read anew is not open");
 }
 
+/* What a deck that is not open says, also where it was open before it was cleared, and one of a bad n: the lowest number that applies; text gives
+ * it another n. */
+static void unopened(void)
+{
+    static plate_track_deck d;
+    const plate_track_change take = {PLATE_TRACK_DELETE, 0, 1, 0};
+    const char sources_text[] = "p aux sp ss 0\n";
+    const uint32_t sizes[] = {0, 4, 257, 4};
+    uint32_t landmarks[PLATE_TRACK_MOST_LANDMARKS], sources[PLATE_TRACK_MOST_SOURCES];
+    uint8_t text[100];
+    const uint32_t *row = NULL;
+    for (int i = 0; i < 4; i++) {
+        const uint32_t n = sizes[i], number = n == 4 ? PLATE_TRACK_LANDMARKS : PLATE_TRACK_SIZE, fine = n == 4 ? PLATE_TRACK_ACCEPTED : PLATE_TRACK_SIZE;
+        plate_track_deck_clear(&d, n);
+        check(refuses(plate_track_deck_batch(&d, &take, 1, reply), number, 0), "not open: batch");
+        check(refuses(ask(&d, PLATE_TRACK_TIME, 0), number, 0), "not open: query");
+        check(refuses(plate_track_deck_row(&d, PLATE_TRACK_FORWARD, 0, PLATE_TRACK_TIME, &row, reply), number, 0), "not open: row");
+        check(refuses(plate_track_deck_settled(&d, reply), number, 0), "not open: settled");
+        check(plate_track_deck_choose(&d, 1, landmarks, reply) == fine, "not open: choose");
+        check(plate_track_deck_write(&d, text, sizeof text, reply) == fine, "not open: write");
+        check(plate_track_deck_read_sources(
+            &d, (const uint8_t *)sources_text, strlen(sources_text), sources, PLATE_TRACK_MOST_SOURCES, reply) == fine, "not open: read_sources");
+        check(plate_track_deck_open(&d, zero, 1, reply) == fine, "not open: open");
+    }
+    plate_track_deck_clear(&d, 4);
+    check(refuses(plate_track_deck_query(&d, 1, 0, NULL, 0, starts, 3, settled, 4, reply), PLATE_TRACK_SHORT, 0), "not open, and starts too short");
+    plate_track_deck_clear(&d, 0);
+    check(read_text(&d, deck_a) == 0 && d.n == 4, "text gives a cleared deck another n");
+}
+
 /* An empty list is lent by null and by a pointer to something, alike. */
 static void empty(const uint32_t *none, const plate_track_change *nothing, const uint8_t *silence)
 {
@@ -220,6 +250,7 @@ int main(void)
     stale_count();
     accepted();
     refused();
+    unopened();
     empty(NULL, NULL, NULL);
     empty(none, &nothing, silence);
     too_short(NULL, NULL, NULL);

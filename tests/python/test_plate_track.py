@@ -2,19 +2,21 @@
 installing, and graphs of NetworkX against its own algorithms. tests/python/run runs it."""
 
 import ctypes
+import itertools
 import os
 import random
 import shutil
 import subprocess
 import sys
 import tempfile
+import threading
 import unittest
 from array import array
 from importlib.util import find_spec
 from pathlib import Path
 
 import plate_track
-from plate_track import DELETE, GREATEST as M, HANDOVERS, HEADROOM, INSERT, REACH, TIME, WORST, Deck, Refused, calls, native
+from plate_track import DELETE, GREATEST as M, HANDOVERS, HEADROOM, INSERT, REACH, TIME, VERSION, WORST, Deck, Refused, calls, native
 
 try:
     import networkx
@@ -39,6 +41,11 @@ def deck_a(landmark=0):
 
 def values(deck, prop, source, schedule=()):
     return list(deck.query(prop, source, schedule).settled)
+
+
+def state(deck):
+    """All that a refused call must leave as it is."""
+    return [bytes(x) for x in (deck.landmarks, *deck._table(), deck.forward, deck.backward)], deck.n, deck.count
 
 
 class DeckA(unittest.TestCase):
@@ -76,6 +83,16 @@ class DeckA(unittest.TestCase):
         deck.forward[13] = 4
         self.assertIsNone(deck.settled())
 
+    def test_a_row_after_another_opening(self):
+        deck = deck_a()
+        row = deck.row(plate_track.FORWARD, 0, TIME)
+        deck.batch([(DELETE, 0, 1, 0)])
+        self.assertEqual(list(row), [0, 15, 11, 9])
+        deck.open([3])
+        deck.batch([(INSERT, 0, 1, 4)])
+        self.assertEqual(list(row), [0, 15, 11, 9])
+        self.assertEqual(list(deck.row(plate_track.FORWARD, 3, TIME)), [M, 6, 2, 0])
+
     def test_text_choice_and_sources(self):
         deck = Deck.read(TEXT)
         self.assertEqual((deck.n, deck.edges(), deck.write()), (4, EDGES, TEXT))
@@ -95,7 +112,7 @@ class Refusals(unittest.TestCase):
 
     def test_number_word_and_place(self):
         deck = deck_a()
-        before = [bytes(x) for x in (*deck._table(), deck.forward, deck.backward)], deck.count
+        before = state(deck)
         self.refuses(14, "text", 2, Deck.read, b"p sp 4 1\na 1 5 3\n")
         self.refuses(14, "text", 1, Deck.read, b"")
         self.refuses(11, "absent", 1, deck.batch, [(DELETE, 0, 1, 0)] * 2)
@@ -105,9 +122,17 @@ class Refusals(unittest.TestCase):
         self.refuses(5, "property", 0, deck.query, 6, 0)
         self.refuses(5, "property", 0, deck.row, 2, 0, TIME)
         self.refuses(3, "landmarks (posts)", 0, deck.open, [0, 1, 2, 3, 0])
+        self.refuses(3, "landmarks (posts)", 0, deck.open, [1, 1])
+        self.refuses(3, "landmarks (posts)", 0, deck.open, [4])
+        self.refuses(3, "landmarks (posts)", 0, deck.open, [])
+        self.refuses(3, "landmarks (posts)", 0, deck.open, range(10**9))
+        self.refuses(1, "size", 0, deck.query, TIME, 0, itertools.repeat(0))
+        self.refuses(1, "size", 0, deck.batch, itertools.repeat((DELETE, 0, 1, 0)))
         self.refuses(3, "landmarks (posts)", 0, deck.choose, 5)
         self.refuses(14, "text", 1, deck.read_sources, b"")
-        self.assertEqual(([bytes(x) for x in (*deck._table(), deck.forward, deck.backward)], deck.count), before)
+        self.assertEqual(state(deck), before)
+        self.assertEqual(values(deck, TIME, 0), [0, 4, 8, 9])
+        self.assertEqual(deck.batch([(DELETE, 0, 1, 0)])[:2], (4, 10))
         self.refuses(3, "landmarks (posts)", 0, Deck.read(TEXT).query, TIME, 0)
         self.refuses(1, "size", 0, Deck(257).open, [0])
         self.refuses(4, "table", 1, Deck(3, [(0, 1, 1), (0, 1, 2)]).open, [0])
@@ -132,6 +157,12 @@ class Refusals(unittest.TestCase):
         self.assertRaises(OverflowError, deck.batch, [(2**32 + 2, 0, 1, 0)])
         self.assertRaises(TypeError, deck.query, TIME, 1.0)
         self.assertRaises(TypeError, deck.query, "1", 0)
+        for text in (b"\0\0\0\0", bytearray(4), "0", b""):
+            self.assertRaises(TypeError, deck.open, text)
+        self.assertRaises(TypeError, deck.query, TIME, 0, b"\0\0\0\0")
+        self.assertRaises(TypeError, deck.query, TIME, 0, "0")
+        self.assertRaises(TypeError, deck.open, [0.0])
+        self.assertRaises(TypeError, deck.open, 0)
         self.assertEqual(deck.edges(), EDGES)
 
 
@@ -160,8 +191,13 @@ class Lending(unittest.TestCase):
                 self.assertEqual(list(settled), [0, 4, 8, 9, 7])
                 self.assertEqual(calls.batch(*network, of([DELETE, 0, 1, 0])), (4, 10, 10))
                 self.assertEqual(list(network[2])[:5], [0, 1, 2, 3, 0])
-        numbers = self.lists(kinds["array"])
-        self.assertEqual(calls.batch(*numbers, memoryview(array("I", [DELETE, 0, 1, 0])).cast("B").cast("I", (1, 4))).count, 4)
+
+    def test_the_shape_of_changes(self):
+        network = self.lists(lambda ws: array("I", ws))
+        two = memoryview(array("I", [DELETE, 0, 1, 0, DELETE, 0, 3, 0])).cast("B")
+        for shape in ((4, 2), (8, 1), (1, 8), (2, 2, 2)):
+            self.assertRaises(ValueError, calls.batch, *network, two.cast("I", shape))
+        self.assertEqual(calls.batch(*network, two.cast("I", (2, 4))).count, 3)
 
     def test_the_memory_itself_is_lent(self):
         below = bytearray(array("I", [7] * 4).tobytes())
@@ -201,6 +237,29 @@ class Lending(unittest.TestCase):
         self.assertEqual(out.pop(), 9)
 
 
+class Threads(unittest.TestCase):
+    def test_one_deck_from_the_first_call_on(self):
+        """Several threads ask one deck at once, none of which has loaded the shared object."""
+        wanted = {TIME: [0, 4, 8, 9], HANDOVERS: [0, 1, 2, 1], HEADROOM: [M, 4, 4, 9], WORST: [0, 4, 4, 9], REACH: [1, 1, 1, 1]}
+        deck, wrong, begin = deck_a(), [], threading.Barrier(4)
+
+        def ask():
+            try:
+                begin.wait()
+                for _ in range(200):
+                    wrong.extend(prop for prop, right in wanted.items() if values(deck, prop, 0) != right)
+            except Exception as error:
+                wrong.append(error)
+
+        native._outside = {}
+        threads = [threading.Thread(target=ask) for _ in range(4)]
+        for thread in threads:
+            thread.start()
+        for thread in threads:
+            thread.join()
+        self.assertEqual(wrong, [])
+
+
 class Loading(unittest.TestCase):
     def python(self, code, folder, **environment):
         keep = {k: v for k, v in os.environ.items() if k not in ("PLATE_TRACK_LIBRARY", "PYTHONPATH", "LD_LIBRARY_PATH")}
@@ -214,30 +273,39 @@ class Loading(unittest.TestCase):
         with tempfile.TemporaryDirectory() as folder:
             shutil.copytree(ROOT / "python/plate_track", Path(folder) / "plate_track", ignore=shutil.ignore_patterns("__pycache__"))
             lost = self.python(self.ASK, folder)
-            self.assertIn("ImportError: plate_track: no shared object of version 1", lost.stderr)
+            self.assertIn(f"ImportError: plate_track: no shared object of version {VERSION}", lost.stderr)
+            self.assertIn("tools/shared", lost.stderr)
+            self.assertIn("PLATE_TRACK_LIBRARY", lost.stderr)
             self.assertEqual(self.python(self.ASK, folder, PLATE_TRACK_LIBRARY=str(LIBRARY)).stdout, "0 5\n")
             self.assertEqual(self.python(f"import plate_track as p; p.load({str(LIBRARY)!r});" + self.ASK, folder).stdout, "0 5\n")
             self.assertEqual(self.python(self.ASK, folder, LD_LIBRARY_PATH=str(LIBRARY.parent)).stdout, "0 5\n")
             shutil.copy(LIBRARY, Path(folder) / "plate_track")
             self.assertEqual(self.python(self.ASK, folder).stdout, "0 5\n")
 
-    def test_another_version_is_refused(self):
+    def test_another_version_or_no_such_call_is_refused(self):
         with tempfile.TemporaryDirectory() as folder:
             other = Path(folder) / "other.so"
-            source = "unsigned plate_track_version(void) { return 2; }"
-            subprocess.run(["gcc", "-shared", "-x", "c", "-o", other, "-"], input=source, text=True, check=True)
-            said = self.python(self.ASK, ROOT / "python", PLATE_TRACK_LIBRARY=str(other)).stderr
-            self.assertIn("has version 2, and this package is for 1", said)
+            for version, said in (
+                (VERSION + 1, f"has version {VERSION + 1}, and this package is for {VERSION}"),
+                (VERSION, f"no shared object of version {VERSION}: {other}: undefined symbol: {calls.open.symbol}"),
+            ):
+                source = f"unsigned plate_track_version(void) {{ return {version}; }}"
+                subprocess.run(["gcc", "-shared", "-x", "c", "-o", other, "-"], input=source, text=True, check=True)
+                self.assertIn(said, self.python(self.ASK, ROOT / "python", PLATE_TRACK_LIBRARY=str(other)).stderr)
 
     @unittest.skipUnless(find_spec("setuptools"), "setuptools is not here")
     def test_pyproject_builds_package_and_shared_object(self):
-        with tempfile.TemporaryDirectory() as folder:
-            source, built = Path(folder) / "source", Path(folder) / "built"
-            shutil.copytree(ROOT / "python", source, ignore=shutil.ignore_patterns("__pycache__"))
-            shutil.copy(LIBRARY, source / "plate_track")
-            words = [sys.executable, "-W", "ignore", "-c", "import setuptools; setuptools.setup()", "-q", "build", "--build-lib", built]
-            subprocess.run(words, cwd=source, check=True, capture_output=True)
-            self.assertEqual(self.python(self.ASK, built).stdout, "0 5\n")
+        """For this machine alone where a shared object goes with the package, and for any where none does."""
+        for with_object in (True, False):
+            with tempfile.TemporaryDirectory() as folder:
+                shutil.copytree(ROOT / "python", folder, ignore=shutil.ignore_patterns("__pycache__"), dirs_exist_ok=True)
+                if with_object:
+                    shutil.copy(LIBRARY, Path(folder) / "plate_track")
+                words = [sys.executable, "-W", "ignore", "setup.py", "-q", "build"]
+                subprocess.run(words, cwd=folder, check=True, capture_output=True)
+                (built,) = (Path(folder) / "build").glob("lib*")
+                self.assertEqual("x86_64" in built.name, with_object)
+                self.assertEqual(self.python(self.ASK, built).stdout, "0 5\n" if with_object else "")
 
 
 @unittest.skipUnless(networkx, "networkx is not here")
