@@ -102,7 +102,7 @@ follows-fit : (n : ℕ) (p : Edge) (es : List Edge) → Follows n p es → (e : 
 follows-fit n p [] h e m = absurd (List·Memᴰ·not-nil m)
 follows-fit n p (x ∷ es) h e m = ⊎-elim (λ q. rw q (h .1)) (λ k. follows-fit n x es (h .2) e k) (List·Memᴰ·cases-cons m)
 
-sound-fit : (n : ℕ) (es : List Edge) → Sound n es → (e : Edge) → List·Memᴰ e es → isEdge n e ≡ true
+pub sound-fit : (n : ℕ) (es : List Edge) → Sound n es → (e : Edge) → List·Memᴰ e es → isEdge n e ≡ true
 sound-fit n [] h e m = absurd (List·Memᴰ·not-nil m)
 sound-fit n (x ∷ es) h e m = ⊎-elim (λ q. rw q (h .0)) (λ k. follows-fit n x es (h .1) e k) (List·Memᴰ·cases-cons m)
 
@@ -113,13 +113,15 @@ module _ (n : ℕ) (e : Edge) (h : isEdge n e ≡ true) where
   head-fits : e .head < n
   head-fits = ltb-true _ _ ((both (ltb (e .head) n) _ ((both (ltb (e .tail) n) _ h) .1)) .0)
 
-  weight-fits : e .weight ≤ M
-  weight-fits =
+  pub weight-range : (0 < e .weight) × (e .weight ≤ maxWeight)
+  weight-range =
       let a = both (ltb (e .head) n) _ ((both (ltb (e .tail) n) _ h) .1) in
       let b = both (not (eqb (e .tail) (e .head))) (isWeight (e .weight)) (a .1) in
       let c = both (ltb 0 (e .weight)) (leb (e .weight) maxWeight) (b .1) in
-      let l : e .weight ≤ maxWeight = leb-true _ _ (c .1) in
-      omega arith
+      (ltb-true _ _ (c .0), leb-true _ _ (c .1))
+
+  weight-fits : e .weight ≤ M
+  weight-fits = let l = weight-range .1 in omega arith
 
 -- what theorems about runs need of the rules
 pub record Within (n : ℕ) (es : List Edge) : Type 0 where

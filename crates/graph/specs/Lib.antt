@@ -5,3 +5,6 @@ pub mod Table
 pub mod Route
 pub mod Code
 pub mod Own
+pub mod Arc
+pub mod Index
+pub mod Parted

@@ -1,6 +1,9 @@
 // The edge table: its rules, look-up, one edge more or less, the first edge of each tail, and the reversed table.
+pub mod arc;
 pub mod edit;
+pub mod ends;
 pub mod index;
+pub mod pack;
 pub mod rules;
 pub mod words;
 

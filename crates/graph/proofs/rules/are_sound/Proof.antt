@@ -27,13 +27,13 @@ loop-holds c = let s = c .before .before .before .before .before .before .before
 loop-again : tie.Need-loop-again Inv-loop μ-loop
 loop-again c =
     let l = c .before .before .before .before .before .before .before in
-    let s = l .before .before .before .before .before .before .before .before in
-    (
-    (λ e.
-        let z = both (l .loop .all) _ e in
-        follow-more _ _ _ _ (s .pre .1) (s .args .n) (l .loop .k) (l .loop .inv .0 (z .0)) (omega arith) (sym (c .is-next .ensures) ∙ z .1)),
-    omega arith,
-    omega arith)
+    let s = l .before .before .before .before .before .before .before .before in (
+      (λ e.
+          let z = both (l .loop .all) _ e in
+          follow-more _ _ _ _ (s .pre .1) (s .args .n) (l .loop .k) (l .loop .inv .0 (z .0)) (omega arith) (sym (c .is-next .ensures) ∙ z .1)),
+      omega arith,
+      omega arith,
+    )
 
 returns : tie.Need-returns Inv-loop μ-loop
 returns c =
