@@ -3,18 +3,17 @@ use super::print;
 use frontier::Next;
 use frontier::Words;
 use graph::Judged;
-use graph::index;
+use graph::pack;
 use run::Tally;
 ghost use mathlib.Core.Path.{_≡_};
 ghost use mathlib.Core.List.{List};
 ghost use Prim.Native.Nat.{_<_};
 ghost use lib.ListN.{length};
 ghost use Rattle.graph.specs.Edge.{Edge, leaving};
-ghost use Rattle.graph.specs.Own.{Fit, Own};
+ghost use Rattle.graph.specs.Index.{Fit, Own};
 ghost use Rattle.run.specs.Code.{Sized};
 ghost use Rattle.network.specs.Network.{rowCount};
-ghost use Rattle.calls.specs.Code.{Openable};
-ghost use Rattle.open.specs.Code.{Runnable};
+ghost use Rattle.calls.specs.Code.{Placed, Openable};
 
 // What a run did: rounds, vertices handled, edges looked at for them, stores. No count here comes near the end of its type.
 pub struct Work {
@@ -48,25 +47,22 @@ fn both(a: Work, b: Work) -> Work {
 fn count_handle(
     p: u32,
     n: usize,
-    count: usize,
     v: usize,
-    firsts: &[u32],
-    heads: &[u32],
-    weights: &[u32],
+    index: &[u32],
     words: &mut [u32],
     waiting: &mut Words,
 ) -> Work
-    requires { ⌜ (v < n) × Fit n count (now firsts) (now heads) (now weights) × Sized n (now words) (now waiting) ⌝ }
+    requires { ⌜ (v < n) × Fit n (now index) × Sized n (now words) (now waiting) ⌝ }
     ensures { λ _. ⌜ Sized n (now (words .exit)) (now (waiting .exit)) ⌝ }
-    ensures { λ r. ⌜ (r .handles ≡ 1) × ((es : List Edge) → Own n (now (firsts .entry)) (now (heads .entry)) (now (weights .entry)) es → r .looks ≡ length (leaving v es)) ⌝ }
+    ensures { λ r. ⌜ (r .handles ≡ 1) × ((es : List Edge) → Own n (now (index .entry)) es → r .looks ≡ length (leaving v es)) ⌝ }
 {
     let none = Tally {
         taken: 0,
         rounds: 0,
         stores: 0,
     };
-    let t = run::handle(p, n, count, v, firsts, heads, weights, words, waiting, none);
-    let looks = firsts[v + 1] - firsts[v];
+    let t = run::handle(p, n, v, index, words, waiting, none);
+    let looks = index[v + 1] - index[v];
     Work {
         rounds: 0,
         handles: 1,
@@ -76,17 +72,8 @@ fn count_handle(
 }
 
 // One round, as `run::round` goes.
-fn count_round(
-    p: u32,
-    n: usize,
-    count: usize,
-    firsts: &[u32],
-    heads: &[u32],
-    weights: &[u32],
-    words: &mut [u32],
-    waiting: &mut Words,
-) -> Work
-    requires { ⌜ Fit n count (now firsts) (now heads) (now weights) × Sized n (now words) (now waiting) ⌝ }
+fn count_round(p: u32, n: usize, index: &[u32], words: &mut [u32], waiting: &mut Words) -> Work
+    requires { ⌜ Fit n (now index) × Sized n (now words) (now waiting) ⌝ }
     ensures { λ _. ⌜ Sized n (now (words .exit)) (now (waiting .exit)) ⌝ }
 {
     let mut work = Work {
@@ -101,7 +88,7 @@ fn count_round(
         let Next::At(v) = next else {
             return work;
         };
-        let more = count_handle(p, n, count, v, firsts, heads, weights, words, waiting);
+        let more = count_handle(p, n, v, index, words, waiting);
         work = both(work, more);
         i = v + 1;
     }
@@ -112,15 +99,12 @@ fn count_round(
 fn count_run(
     p: u32,
     n: usize,
-    count: usize,
     s: usize,
-    firsts: &[u32],
-    heads: &[u32],
-    weights: &[u32],
+    index: &[u32],
     words: &mut [u32],
     waiting: &mut Words,
 ) -> Work
-    requires { ⌜ (s < n) × Fit n count (now firsts) (now heads) (now weights) × (length (now words) ≡ n) ⌝ }
+    requires { ⌜ (s < n) × Fit n (now index) × (length (now words) ≡ n) ⌝ }
 {
     run::open_row(p, n, s, words, waiting);
     let mut work = no_work();
@@ -129,7 +113,7 @@ fn count_run(
         if !frontier::any(waiting) {
             return work;
         }
-        let more = count_round(p, n, count, firsts, heads, weights, words, waiting);
+        let more = count_round(p, n, index, words, waiting);
         work = both(work, more);
         k += 1;
     }
@@ -140,15 +124,12 @@ fn count_run(
 fn settle_row(
     p: u32,
     n: usize,
-    count: usize,
     s: usize,
-    firsts: &[u32],
-    heads: &[u32],
-    weights: &[u32],
+    index: &[u32],
     words: &mut [u32],
     waiting: &mut Words,
 ) -> Tally
-    requires { ⌜ (s < n) × Fit n count (now firsts) (now heads) (now weights) × (length (now words) ≡ n) ⌝ }
+    requires { ⌜ (s < n) × Fit n (now index) × (length (now words) ≡ n) ⌝ }
 {
     run::open_row(p, n, s, words, waiting);
     let none = Tally {
@@ -156,7 +137,7 @@ fn settle_row(
         rounds: 0,
         stores: 0,
     };
-    run::settle(p, n, count, firsts, heads, weights, words, waiting, none)
+    run::settle(p, n, index, words, waiting, none)
 }
 
 // Whether `words` stand in `rows` from index `from` on.
@@ -202,18 +183,15 @@ fn hold_row(
     p: u32,
     s: usize,
     n: usize,
-    count: usize,
-    firsts: &[u32],
-    heads: &[u32],
-    weights: &[u32],
+    index: &[u32],
     rows: &[u32],
     words: &mut [u32],
 ) -> Work
-    requires { ⌜ (s < n) × Fit n count (now firsts) (now heads) (now weights) × (length (now words) ≡ n) × (r < 20) ⌝ }
+    requires { ⌜ (s < n) × Fit n (now index) × (length (now words) ≡ n) × (r < 20) ⌝ }
 {
     let mut waiting = frontier::empty();
-    let tally = settle_row(p, n, count, s, firsts, heads, weights, words, &mut waiting);
-    let work = count_run(p, n, count, s, firsts, heads, weights, words, &mut waiting);
+    let tally = settle_row(p, n, s, index, words, &mut waiting);
+    let work = count_run(p, n, s, index, words, &mut waiting);
     let same = stand_at(words, rows, r * n)
         & (work.rounds == tally.rounds)
         & (work.stores == tally.stores);
@@ -222,55 +200,26 @@ fn hold_row(
 }
 
 // Row `r` of a side.
-fn count_row(
-    r: usize,
-    n: usize,
-    count: usize,
-    landmarks: &[u32],
-    firsts: &[u32],
-    heads: &[u32],
-    weights: &[u32],
-    rows: &[u32],
-) -> Work
-    requires { ⌜ Runnable n count (now landmarks) (now firsts) (now heads) (now weights) ⌝ }
+fn count_row(r: usize, n: usize, landmarks: &[u32], index: &[u32], rows: &[u32]) -> Work
+    requires { ⌜ Fit n (now index) × Placed n (now landmarks) ⌝ }
     requires { ⌜ r < rowCount (now landmarks) ⌝ }
 {
     let p = (r % 5) as u32 + 1;
     let i = r / 5;
     let s = landmarks[i] as usize;
     let mut words = [0u32; graph::VERTEX_WORDS];
-    hold_row(
-        r,
-        p,
-        s,
-        n,
-        count,
-        firsts,
-        heads,
-        weights,
-        rows,
-        &mut words[..n],
-    )
+    hold_row(r, p, s, n, index, rows, &mut words[..n])
 }
 
 // Every row of a side, and what they took together.
-fn count_rows(
-    backward: bool,
-    n: usize,
-    count: usize,
-    landmarks: &[u32],
-    firsts: &[u32],
-    heads: &[u32],
-    weights: &[u32],
-    rows: &[u32],
-) -> Work
-    requires { ⌜ Runnable n count (now landmarks) (now firsts) (now heads) (now weights) ⌝ }
+fn count_rows(backward: bool, n: usize, landmarks: &[u32], index: &[u32], rows: &[u32]) -> Work
+    requires { ⌜ Fit n (now index) × Placed n (now landmarks) ⌝ }
 {
     let mut work = no_work();
     let mut r = 0;
     while r < landmarks.len() * 5 {
         print::side(backward);
-        let more = count_row(r, n, count, landmarks, firsts, heads, weights, rows);
+        let more = count_row(r, n, landmarks, index, rows);
         work = both(work, more);
         r += 1;
     }
@@ -289,12 +238,13 @@ fn count_forward(
 ) -> Work
     requires { ⌜ Openable n count (now landmarks) (now tails) (now heads) (now weights) ⌝ }
 {
-    let mut firsts = [0u32; graph::INDEX_WORDS];
-    index::index(n, count, tails, &mut firsts);
-    count_rows(false, n, count, landmarks, &firsts, heads, weights, rows)
+    let mut free = [0u32; graph::PLACE_WORDS];
+    let mut index = [0u32; graph::INDEX_WORDS];
+    pack::index(n, count, tails, heads, weights, &mut free, &mut index);
+    count_rows(false, n, landmarks, &index, rows)
 }
 
-// The backward rows, by the reversed table and its index.
+// The backward rows, by the index of the reversed table.
 fn count_backward(
     n: usize,
     count: usize,
@@ -306,24 +256,10 @@ fn count_backward(
 ) -> Work
     requires { ⌜ Openable n count (now landmarks) (now tails) (now heads) (now weights) ⌝ }
 {
-    let mut free = [0u32; graph::INDEX_WORDS];
-    let mut firsts = [0u32; graph::INDEX_WORDS];
-    let mut rtails = [0u32; graph::MAX_EDGES];
-    let mut rheads = [0u32; graph::MAX_EDGES];
-    let mut rweights = [0u32; graph::MAX_EDGES];
-    index::reverse_table(
-        n,
-        count,
-        tails,
-        heads,
-        weights,
-        &mut free,
-        &mut firsts,
-        &mut rtails,
-        &mut rheads,
-        &mut rweights,
-    );
-    count_rows(true, n, count, landmarks, &firsts, &rheads, &rweights, rows)
+    let mut free = [0u32; graph::PLACE_WORDS];
+    let mut index = [0u32; graph::INDEX_WORDS];
+    pack::index_reversed(n, count, tails, heads, weights, &mut free, &mut index);
+    count_rows(true, n, landmarks, &index, rows)
 }
 
 // Both sides of a network, if numbers 1 to 4 let it pass.

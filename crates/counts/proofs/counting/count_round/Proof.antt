@@ -11,13 +11,13 @@ use Rattle.counts.proofs.counting.count_round.Statement.{statement}
 use Rattle.counts.proofs.counting.count_round.Tie as tie
 
 abbrev Inv-loop : tie.InvT-loop
-Inv-loop p n count firsts heads weights words₀ waiting₀ work₀ i₀ words waiting work i = (i ≤ n) × Sized n words waiting
+Inv-loop p n index words₀ waiting₀ work₀ i₀ words waiting work i = (i ≤ n) × Sized n words waiting
 
 abbrev μ-loop : tie.MeasureT-loop
-μ-loop p n count firsts heads weights words₀ waiting₀ work₀ i₀ words waiting work i = n - i
+μ-loop p n index words₀ waiting₀ work₀ i₀ words waiting work i = n - i
 
 abbrev begin : tie.After-next Inv-loop μ-loop → tie.Start Inv-loop μ-loop
-begin k = k .before .before .before .before .before .before .before .before .before .before
+begin k = k .before .before .before .before .before .before .before .before
 
 -- what was found
 found : (k : tie.After-next Inv-loop μ-loop)

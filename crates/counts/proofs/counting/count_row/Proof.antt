@@ -22,22 +22,22 @@ shared-slice-read-s c = search needs
 
 cast-s : tie.Need-cast-s
 cast-s c =
-    let s = c .before .before .before .before .before .before in
-    omega (arith, c .shared-slice-known6 .given (s .args .r / 5))
+    let s = c .before .before .before .before in
+    omega (arith, c .shared-slice-known4 .given (s .args .r / 5))
 
 array-borrow-prefix-words : tie.Need-array-borrow-prefix-words
 array-borrow-prefix-words c = search needs
 
 slice-aggregate-hold-row : tie.Need-slice-aggregate-hold-row
 slice-aggregate-hold-row c =
-    let s = c .before .before .before .before .before .before .before in
-    sym (length-take-le (s .args .n) (replicate 256 0) (s .pre .0 .index .few))
+    let s = c .before .before .before .before .before in
+    sym (length-take-le (s .args .n) (replicate 256 0) (s .pre .0 .0 .few))
 
 hold-row-requires : tie.Need-hold-row-requires
 hold-row-requires c κs =
-    let s = c .before .before .before .before .before .before .before in
-    let few = s .pre .0 .landmarks .few in
-    (s .pre .0 .landmarks .vertices (s .args .r / 5) (omega arith), s .pre .0 .index, length-take-le {A = ℕ} (s .args .n) (replicate 256 0) (s .pre .0 .index .few), omega arith)
+    let s = c .before .before .before .before .before in
+    let few = s .pre .0 .1 .few in
+    (s .pre .0 .1 .vertices (s .args .r / 5) (omega arith), s .pre .0 .0, length-take-le {A = ℕ} (s .args .n) (replicate 256 0) (s .pre .0 .0 .few), omega arith)
 
 returns : tie.Need-returns
 returns c = search needs

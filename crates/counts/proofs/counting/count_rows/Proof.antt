@@ -6,10 +6,10 @@ use Rattle.counts.proofs.counting.count_rows.Statement.{statement}
 use Rattle.counts.proofs.counting.count_rows.Tie as tie
 
 abbrev Inv-loop : tie.InvT-loop
-Inv-loop backward n count landmarks firsts heads weights rows work₀ r₀ work r = r ≤ rowCount landmarks
+Inv-loop backward n landmarks index rows work₀ r₀ work r = r ≤ rowCount landmarks
 
 abbrev μ-loop : tie.MeasureT-loop
-μ-loop backward n count landmarks firsts heads weights rows work₀ r₀ work r = rowCount landmarks - r
+μ-loop backward n landmarks index rows work₀ r₀ work r = rowCount landmarks - r
 
 no-work-requires : tie.Need-no-work-requires Inv-loop μ-loop
 no-work-requires c κs = search needs

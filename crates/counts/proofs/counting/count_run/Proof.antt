@@ -6,10 +6,10 @@ use Rattle.counts.proofs.counting.count_run.Statement.{statement}
 use Rattle.counts.proofs.counting.count_run.Tie as tie
 
 abbrev Inv-loop : tie.InvT-loop
-Inv-loop p n count s firsts heads weights words₀ waiting₀ work₀ k₀ words waiting work k = (k ≤ n) × Sized n words waiting
+Inv-loop p n s index words₀ waiting₀ work₀ k₀ words waiting work k = (k ≤ n) × Sized n words waiting
 
 abbrev μ-loop : tie.MeasureT-loop
-μ-loop p n count s firsts heads weights words₀ waiting₀ work₀ k₀ words waiting work k = n - k
+μ-loop p n s index words₀ waiting₀ work₀ k₀ words waiting work k = n - k
 
 open-row-requires : tie.Need-open-row-requires Inv-loop μ-loop
 open-row-requires c κs = search needs

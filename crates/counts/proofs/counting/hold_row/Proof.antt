@@ -17,7 +17,7 @@ count-run-requires c κs = search needs
 
 mul-stand-at : tie.Need-mul-stand-at
 mul-stand-at c =
-    let s = c .before .before .before .before .before .before .before .before .before .before .before .before .before .before .before .before .before in
+    let s = c .before .before .before .before .before .before .before .before .before .before .before .before .before .before .before in
     let e : s .args .r * s .args .n ≤ 5120 = mul-le-mul {n₁ = s .args .r} {m₁ = s .args .n} {n₂ = 20} {m₂ = 256} (omega arith) (s .pre .1 .few) in
     omega (arith, e)
 
