@@ -1,18 +1,17 @@
-// A batch with the new table at hand, in lists 2: all rows are run in scratch lists, and where every row settles all that is lent is
-// written. Nothing lent is written before nothing can refuse any more.
+// A batch with the new table at hand, in lists 2. Nothing lent is written before nothing can refuse any more.
+use graph::pack;
 use graph::words;
 ghost use mathlib.Core.Path.{_≡_};
 ghost use mathlib.Core.List.{_++_};
-ghost use Prim.Native.Nat.{_-_, _*_, _≤_};
+ghost use Prim.Native.Nat.{_-_, _≤_};
 ghost use lib.ListN.{length, take, replicate};
 ghost use Rattle.graph.specs.Limits.{maxEdges};
 ghost use Rattle.graph.specs.Refusal.{over};
 ghost use Rattle.graph.specs.Edge.{edges};
 ghost use Rattle.graph.specs.Code.{Room, columns};
-ghost use Rattle.network.specs.Network.{rowCount};
 ghost use Rattle.network.specs.Batch.{rewritten};
 ghost use Rattle.calls.specs.Code.{network, Tabled};
-ghost use Rattle.sides.specs.Code.{Fair, Scratch};
+ghost use Rattle.sides.specs.Code.{Fair};
 ghost use Rattle.apply.specs.Code.{applyCall, batchOutcome};
 
 // The new count, and affected vertices and stores over all rows.
@@ -56,63 +55,8 @@ fn write_table(
     write_words(count2, weights2, weights1);
 }
 
-// A batch with the new table at hand, in scratch lists: number 13, or all that is lent is written.
-fn apply_in(
-    n: u32,
-    landmarks: &[u32],
-    tails: &mut [u32],
-    heads: &mut [u32],
-    weights: &mut [u32],
-    count: usize,
-    forward: &mut [u32],
-    backward: &mut [u32],
-    tails2: &[u32],
-    heads2: &[u32],
-    weights2: &[u32],
-    count2: usize,
-    removed: &mut [u32],
-    added: &mut [u32],
-    ahead: &mut [u32],
-    back: &mut [u32],
-) -> Applied
-    requires { ⌜ Fair n (now landmarks) (network (now tails) (now heads) (now weights) (now forward) (now backward) count) ⌝ }
-    requires { ⌜ Tabled n count2 (now tails2) (now heads2) (now weights2) ⌝ }
-    requires { ⌜ Scratch (rowCount (now landmarks) * n) (now removed) (now added) (now ahead) (now back) ⌝ }
-    ensures { λ r. ⌜ batchOutcome r (now (tails .exit)) (now (heads .exit)) (now (weights .exit)) (now (forward .exit)) (now (backward .exit)) ≡ applyCall n (now (landmarks .entry)) (network (now (tails .entry)) (now (heads .entry)) (now (weights .entry)) (now (forward .entry)) (now (backward .entry)) count) (edges (now (tails2 .entry)) (now (heads2 .entry)) (now (weights2 .entry)) count2) ⌝ }
-{
-    let rows = sides::batch_runs(
-        n,
-        landmarks,
-        tails,
-        heads,
-        weights,
-        count,
-        forward,
-        backward,
-        tails2,
-        heads2,
-        weights2,
-        count2,
-        removed,
-        added,
-        ahead,
-        back,
-    );
-    if rows.unsettled {
-        return Applied::Refused(13, 0);
-    }
-    write_table(count2, tails2, heads2, weights2, tails, heads, weights);
-    let k = ahead.len();
-    words::copy(k, ahead, forward, 0);
-    words::copy(k, back, backward, 0);
-    Applied::Done(Report {
-        count: count2 as u32,
-        affected: rows.affected,
-        stores: rows.stores,
-    })
-}
-
-// A batch with the new table at hand.
+// A batch with the new table at hand: its changes are listed and both tables indexed, then all rows are run; number 13, or all that is lent is
+// written.
 pub fn apply(
     n: u32,
     landmarks: &[u32],
@@ -131,27 +75,51 @@ pub fn apply(
     requires { ⌜ Tabled n count2 (now tails2) (now heads2) (now weights2) ⌝ }
     ensures { λ r. ⌜ batchOutcome r (now (tails .exit)) (now (heads .exit)) (now (weights .exit)) (now (forward .exit)) (now (backward .exit)) ≡ applyCall n (now (landmarks .entry)) (network (now (tails .entry)) (now (heads .entry)) (now (weights .entry)) (now (forward .entry)) (now (backward .entry)) count) (edges (now (tails2 .entry)) (now (heads2 .entry)) (now (weights2 .entry)) count2) ⌝ }
 {
-    let k = landmarks.len() * property::PROPERTIES * (n as usize);
-    let mut removed = [0u32; graph::MAX_EDGES];
-    let mut added = [0u32; graph::MAX_EDGES];
-    let mut ahead = [0u32; graph::ROW_WORDS];
-    let mut back = [0u32; graph::ROW_WORDS];
-    apply_in(
-        n,
-        landmarks,
+    let size = n as usize;
+    let k = landmarks.len() * property::PROPERTIES * size;
+    let mut net = [0u32; compare::NET_WORDS];
+    let changed = compare::differences(
+        count,
         tails,
         heads,
         weights,
-        count,
-        forward,
-        backward,
+        count2,
         tails2,
         heads2,
         weights2,
-        count2,
-        &mut removed,
-        &mut added,
+        &mut net,
+    );
+    let mut free = [0u32; graph::PLACE_WORDS];
+    let mut old = [0u32; graph::INDEX_WORDS];
+    let mut rold = [0u32; graph::INDEX_WORDS];
+    let mut new = [0u32; graph::INDEX_WORDS];
+    let mut rnew = [0u32; graph::INDEX_WORDS];
+    pack::index(size, count, tails, heads, weights, &mut free, &mut old);
+    pack::index_reversed(size, count, tails, heads, weights, &mut free, &mut rold);
+    pack::index(size, count2, tails2, heads2, weights2, &mut free, &mut new);
+    pack::index_reversed(size, count2, tails2, heads2, weights2, &mut free, &mut rnew);
+    let mut ahead = [0u32; graph::ROW_WORDS];
+    let mut back = [0u32; graph::ROW_WORDS];
+    let rows = sides::batch_sides(
+        size,
+        landmarks,
+        &mut net[..changed],
+        &old,
+        &rold,
+        &new,
+        &rnew,
+        forward,
+        backward,
         &mut ahead[..k],
         &mut back[..k],
-    )
+    );
+    if rows.unsettled {
+        return Applied::Refused(13, 0);
+    }
+    write_table(count2, tails2, heads2, weights2, tails, heads, weights);
+    Applied::Done(Report {
+        count: count2 as u32,
+        affected: rows.affected,
+        stores: rows.stores,
+    })
 }

@@ -1,30 +1,56 @@
 -- What the functions that compare two tables are told and answer. Assumes nothing.
 --
---   Missing m ts hs ws fs gs g   == the first g words of gs are the indices of those of m edges that are absent from fs: removed, or, of the
---                                   new edges beside the old, added
---   Ends n m ts hs               == the tails and heads of m edges are vertices below n
---   Passed ts hs ws m t h j      == the first j edges, of m, precede the pair of t and h
+--   before xs k, after xs k == change k of a list: its pair, with the weight before the batch and with that after it, 0 where there is none
+--   pairs xs                == how many changes a list has: two words for each
+--   Inside n xs             == the tails and heads of a list of changes are vertices below n
+--   Lists es fs g f         == the edges f i, of i below g, list those of es that are absent from fs: each that has a weight is such an edge, and
+--                              each such edge is there
+--   Net es fs xs            == a list of changes has what a batch changed: the edges of es that it removed, and those of fs that it added
+--   Passed ts hs ws m t h j == the first j edges, of m, precede the pair of t and h
+--   Tables n m ts hs ws ..  == two tables that keep the rules of n vertices
 use mathlib.Core.Path.{_≡_}
 use mathlib.Core.Bool.{true}
-use mathlib.Core.List.{List}
-use Prim.Native.Nat.{ℕ, _≤_, _<_}
+use mathlib.Core.List.{List, List·Memᴰ}
+use Prim.Native.Nat.{ℕ, _+_, _*_, _/_, _≤_, _<_}
 use lib.ListN.{length, getD}
-use Rattle.graph.specs.Limits.{maxVertices}
-use Rattle.graph.specs.Edge.{Edge, edge, precedes}
-use Rattle.graph.specs.Code.{edgeAt}
+use Rattle.graph.specs.Limits.{maxVertices, maxEdges}
+use Rattle.graph.specs.Refusal.{accept}
+use Rattle.graph.specs.Arc.{arcHead, arcWeight}
+use Rattle.graph.specs.Edge.{Edge, edge, edges, precedes}
+use Rattle.graph.specs.Table.{rules}
+use Rattle.graph.specs.Code.{Room, edgeAt}
 use Rattle.affected.specs.Affected.{removed}
 
-pub record Missing (m : ℕ) (ts hs ws : List ℕ) (fs : List Edge) (gs : List ℕ) (g : ℕ) : Type 0 where
-  pub listed : g ≤ length gs
-  pub below : (i : ℕ) → i < g → getD gs i 0 < m
-  pub lacks : (i : ℕ) → i < g → removed fs (edgeAt ts hs ws (getD gs i 0)) ≡ true
-  pub all : (k : ℕ) → k < m → removed fs (edgeAt ts hs ws k) ≡ true → (i : ℕ) × (i < g) × (getD gs i 0 ≡ k)
+-- ---- a list of changes
+
+abbrev pub before : List ℕ → ℕ → Edge
+before xs k = edge (arcHead (getD xs (2 * k) 0)) (arcHead (getD xs (2 * k + 1) 0)) (arcWeight (getD xs (2 * k) 0))
+
+abbrev pub after : List ℕ → ℕ → Edge
+after xs k = edge (arcHead (getD xs (2 * k) 0)) (arcHead (getD xs (2 * k + 1) 0)) (arcWeight (getD xs (2 * k + 1) 0))
+
+abbrev pub pairs : List ℕ → ℕ
+pairs xs = length xs / 2
+
+abbrev pub Inside : ℕ → List ℕ → Type 0
+Inside n xs = (k : ℕ) → k < length xs → arcHead (getD xs k 0) < n
+
+pub record Lists (es fs : List Edge) (g : ℕ) (f : ℕ → Edge) : Type 0 where
+  pub among : (k : ℕ) → k < g → 0 < f k .weight → List·Memᴰ (f k) es
+  pub lacks : (k : ℕ) → k < g → 0 < f k .weight → removed fs (f k) ≡ true
+  pub all : (e : Edge) → List·Memᴰ e es → removed fs e ≡ true → (k : ℕ) × (k < g) × (f k ≡ e) × (0 < f k .weight)
+
+pub record Net (es fs : List Edge) (xs : List ℕ) : Type 0 where
+  pub removed : Lists es fs (pairs xs) (before xs)
+  pub added : Lists fs es (pairs xs) (after xs)
+
+-- ---- two tables
 
 pub record Passed (ts hs ws : List ℕ) (m t h j : ℕ) : Type 0 where
   pub within : j ≤ m
   pub before : (k : ℕ) → k < j → precedes (edgeAt ts hs ws k) (edge t h 0) ≡ true
 
-pub record Ends (n m : ℕ) (ts hs : List ℕ) : Type 0 where
+pub record Tables (n m : ℕ) (ts hs ws : List ℕ) (m′ : ℕ) (ts′ hs′ ws′ : List ℕ) : Type 0 where
   pub few : n ≤ maxVertices
-  pub from : (k : ℕ) → k < m → getD ts k 0 < n
-  pub into : (k : ℕ) → k < m → getD hs k 0 < n
+  pub old : (m ≤ maxEdges) × Room m ts hs ws × (rules n (edges ts hs ws m) ≡ accept)
+  pub new : (m′ ≤ maxEdges) × Room m′ ts′ hs′ ws′ × (rules n (edges ts′ hs′ ws′ m′) ≡ accept)

@@ -1,87 +1,83 @@
-// Two tables compared: the edges that are removed and those that are added, net: one that a batch takes and adds again is neither. One
-// walk along both tables finds each of the two lists.
+// Two tables compared: what a batch changed, net, as one list of two words for each pair of vertices whose edge differs: an edge that a
+// batch takes and adds again is none. One walk along both tables finds it.
+use graph::arc;
 use graph::rules;
 ghost use mathlib.Core.Path.{_≡_};
-ghost use mathlib.Core.Bool.{true, false, cond};
-ghost use Prim.Native.Nat.{_+_, _<_, _≤_};
-ghost use lib.ListN.{length, getD, set};
+ghost use mathlib.Core.Bool.{true, false, not, _&&_, cond};
+ghost use mathlib.Core.List.{List, map};
+ghost use Prim.Native.Nat.{ℕ, _+_, _*_, _<_, _≤_};
+ghost use lib.ListN.{length, getD, set, take};
+ghost use lib.Dec.{eqb, ltb};
 ghost use Rattle.graph.specs.Limits.{maxEdges};
-ghost use Rattle.graph.specs.Refusal.{accept};
-ghost use Rattle.graph.specs.Edge.{edge, edges, among, precedes};
-ghost use Rattle.graph.specs.Table.{rules};
-ghost use Rattle.graph.specs.Code.{Room, edgeAt};
-ghost use Rattle.compare.specs.Code.{Missing, Passed};
+ghost use Rattle.graph.specs.Arc.{arcHeads, arcWeights, arc};
+ghost use Rattle.graph.specs.Edge.{Edge, edge, reverse, edges, precedes};
+ghost use Rattle.compare.specs.Code.{Tables, Inside, Net};
 
-// How many edges of a table precede a pair, where the first `from` do: those that follow are gone over until one does not.
-fn skip(
-    t: u32,
-    h: u32,
-    from: usize,
-    tails: &[u32],
-    heads: &[u32],
-    weights: &[u32],
-    count: usize,
-) -> usize
-    requires { ⌜ Room count (now tails) (now heads) (now weights) × Passed (now tails) (now heads) (now weights) count t h from ⌝ }
-    ensures { λ r. ⌜ Passed (now (tails .entry)) (now (heads .entry)) (now (weights .entry)) count t h r ⌝ }
-    ensures { λ r. ⌜ (r < count → precedes (edgeAt (now (tails .entry)) (now (heads .entry)) (now (weights .entry)) r) (edge t h 0) ≡ false) ⌝ }
-{
-    let mut j = from;
-    while j < count {
-        if !rules::in_order(tails[j], heads[j], weights[j], t, h, 0) {
-            return j;
-        }
-        j += 1;
-    }
-    j
-}
+// Words of a list of changes: two for each edge of both tables, at most.
+pub const NET_WORDS: usize = 4 * graph::MAX_EDGES;
 
-// Whether an edge stands in a table, by its three words, where `j` edges precede its pair.
-fn stands(
-    n: u32,
-    t: u32,
-    h: u32,
-    w: u32,
+// Whether edge `i` of a table comes no later than edge `j` of another one, by the tails and heads of both: a walk along both goes past it.
+fn is_due(
+    i: usize,
+    count1: usize,
+    tails1: &[u32],
+    heads1: &[u32],
     j: usize,
-    tails: &[u32],
-    heads: &[u32],
-    weights: &[u32],
-    count: usize,
+    count2: usize,
+    tails2: &[u32],
+    heads2: &[u32],
 ) -> bool
-    requires { ⌜ Room count (now tails) (now heads) (now weights) ⌝ }
-    requires { ⌜ rules n (edges (now tails) (now heads) (now weights) count) ≡ accept ⌝ }
-    requires { ⌜ Passed (now tails) (now heads) (now weights) count t h j × (j < count → precedes (edgeAt (now tails) (now heads) (now weights) j) (edge t h 0) ≡ false) ⌝ }
-    ensures { λ r. ⌜ r ≡ among (edges (now (tails .entry)) (now (heads .entry)) (now (weights .entry)) count) (edge t h w) ⌝ }
-    ensures { λ r. ⌜ (r ≡ true → (j < count) × (getD (now (tails .entry)) j 0 ≡ t) × (getD (now (heads .entry)) j 0 ≡ h)) ⌝ }
+    requires { ⌜ (count1 ≤ length (now tails1)) × (count1 ≤ length (now heads1)) × (count2 ≤ length (now tails2)) × (count2 ≤ length (now heads2)) ⌝ }
+    ensures { λ r. ⌜ r ≡ (ltb i count1 && not (ltb j count2 && precedes (edge (getD (now (tails2 .entry)) j 0) (getD (now (heads2 .entry)) j 0) 0) (edge (getD (now (tails1 .entry)) i 0) (getD (now (heads1 .entry)) i 0) 0))) ⌝ }
 {
-    if j < count && tails[j] == t && heads[j] == h {
-        return w == weights[j];
+    if i >= count1 {
+        return false;
     }
-    false
+    if j >= count2 {
+        return true;
+    }
+    !rules::in_order(tails2[j], heads2[j], 0, tails1[i], heads1[i], 0)
 }
 
-// From where the search for the next edge goes on: past the one that was found.
-fn past(there: bool, j: usize) -> usize
-    requires { ⌜ j ≤ maxEdges ⌝ }
-    ensures { λ r. ⌜ r ≡ cond there (j + 1) j ⌝ }
+// The word at `i` of one list, or that at `j` of another.
+fn either(first: bool, list1: &[u32], i: usize, list2: &[u32], j: usize) -> u32
+    requires { ⌜ (first ≡ true → i < length (now list1)) × (first ≡ false → j < length (now list2)) ⌝ }
+    ensures { λ r. ⌜ r ≡ cond first (getD (now (list1 .entry)) i 0) (getD (now (list2 .entry)) j 0) ⌝ }
 {
-    if there { j + 1 } else { j }
+    if first { list1[i] } else { list2[j] }
 }
 
-// Index `k` is stored after the `size` that are listed, and counts where its edge is missing; where it is there the next store goes over
-// it. Answers how many are listed.
-fn note(there: bool, k: usize, list: &mut [u32], size: usize) -> usize
-    requires { ⌜ (size < length (now list)) × (k < maxEdges) ⌝ }
-    ensures { λ r. ⌜ (now (list .exit) ≡ set (now (list .entry)) size k) × (r ≡ cond there size (size + 1)) ⌝ }
+// The weight of edge `i` where the walk goes past it, and 0 where it does not.
+fn weight_if(due: bool, weights: &[u32], i: usize) -> u32
+    requires { ⌜ (due ≡ true → i < length (now weights)) ⌝ }
+    ensures { λ r. ⌜ r ≡ cond due (getD (now (weights .entry)) i 0) 0 ⌝ }
 {
-    list[size] = k as u32;
-    if there { size } else { size + 1 }
+    if due { weights[i] } else { 0 }
 }
 
-// The indices of the edges of a table, that of lists 1, which are missing from the table of lists 2: both keep the rules, so that one
-// walk along both finds them. Answers how many they are.
-pub fn find_missing(
-    n: u32,
+// One more where the walk goes past an edge.
+fn past(due: bool, i: usize) -> usize
+    requires { ⌜ i ≤ maxEdges ⌝ }
+    ensures { λ r. ⌜ r ≡ cond due (i + 1) i ⌝ }
+{
+    if due { i + 1 } else { i }
+}
+
+// A pair with its weight before and after is stored after the `size` that are listed, and counts where the weights differ; where they do
+// not the next store goes over it. Answers how many are listed.
+fn note(t: u32, h: u32, old: u32, new: u32, list: &mut [u32], size: usize) -> usize
+    requires { ⌜ (t < arcHeads) × (h < arcHeads) × (old < arcWeights) × (new < arcWeights) × (2 * size + 1 < length (now list)) × (size ≤ 2 * maxEdges) ⌝ }
+    ensures { λ r. ⌜ (now (list .exit) ≡ set (set (now (list .entry)) (2 * size) (arc t old)) (2 * size + 1) (arc h new)) × (r ≡ cond (eqb old new) size (size + 1)) ⌝ }
+{
+    let at = 2 * size;
+    list[at] = arc::arc(t, old);
+    list[at + 1] = arc::arc(h, new);
+    if old == new { size } else { size + 1 }
+}
+
+// What a batch changed, from the table before it, that of lists 1, and the one after it, that of lists 2. Answers how many words of `list`
+// it takes.
+pub fn differences(
     count1: usize,
     tails1: &[u32],
     heads1: &[u32],
@@ -92,23 +88,39 @@ pub fn find_missing(
     weights2: &[u32],
     list: &mut [u32],
 ) -> usize
-    requires { ⌜ Room count1 (now tails1) (now heads1) (now weights1) × (count1 ≤ length (now list)) × (count1 ≤ maxEdges) ⌝ }
-    requires { ⌜ rules n (edges (now tails1) (now heads1) (now weights1) count1) ≡ accept ⌝ }
-    requires { ⌜ Room count2 (now tails2) (now heads2) (now weights2) × (count2 ≤ maxEdges) ⌝ }
-    requires { ⌜ rules n (edges (now tails2) (now heads2) (now weights2) count2) ≡ accept ⌝ }
-    ensures { λ r. ⌜ Missing count1 (now (tails1 .entry)) (now (heads1 .entry)) (now (weights1 .entry)) (edges (now (tails2 .entry)) (now (heads2 .entry)) (now (weights2 .entry)) count2) (now (list .exit)) r ⌝ }
+    requires { ⌜ ((n : ℕ) × Tables n count1 (now tails1) (now heads1) (now weights1) count2 (now tails2) (now heads2) (now weights2)) × (2 * (count1 + count2) ≤ length (now list)) ⌝ }
+    ensures { λ r. ⌜ (r ≤ length (now (list .exit))) × ((n : ℕ) → Tables n count1 (now (tails1 .entry)) (now (heads1 .entry)) (now (weights1 .entry)) count2 (now (tails2 .entry)) (now (heads2 .entry)) (now (weights2 .entry)) → Inside n (take r (now (list .exit)))) ⌝ }
+    ensures { λ r. ⌜ Net (edges (now (tails1 .entry)) (now (heads1 .entry)) (now (weights1 .entry)) count1) (edges (now (tails2 .entry)) (now (heads2 .entry)) (now (weights2 .entry)) count2) (take r (now (list .exit))) ⌝ }
 {
     let mut size = 0;
-    let mut from = 0;
+    let mut i = 0;
+    let mut j = 0;
+    while i < count1 || j < count2 {
+        let gone = is_due(i, count1, tails1, heads1, j, count2, tails2, heads2);
+        let come = is_due(j, count2, tails2, heads2, i, count1, tails1, heads1);
+        let t = either(gone, tails1, i, tails2, j);
+        let h = either(gone, heads1, i, heads2, j);
+        let old = weight_if(gone, weights1, i);
+        let new = weight_if(come, weights2, j);
+        size = note(t, h, old, new, list, size);
+        i = past(gone, i);
+        j = past(come, j);
+    }
+    2 * size
+}
+
+// The list for the reversed edges: tails and heads change over.
+pub fn turn(list: &mut [u32])
+    ensures { λ _. ⌜ ((n : ℕ) → Inside n (now (list .entry)) → Inside n (now (list .exit))) × ((es fs : List Edge) → Net es fs (now (list .entry)) → Net (map reverse es) (map reverse fs) (now (list .exit))) ⌝ }
+{
+    let size = list.len() / 2;
     let mut k = 0;
-    while k < count1 {
-        let t = tails1[k];
-        let h = heads1[k];
-        let j = skip(t, h, from, tails2, heads2, weights2, count2);
-        let there = stands(n, t, h, weights1[k], j, tails2, heads2, weights2, count2);
-        size = note(there, k, list, size);
-        from = past(there, j);
+    while k < size {
+        let at = 2 * k;
+        let a = list[at];
+        let b = list[at + 1];
+        list[at] = arc::arc(arc::head(b), arc::weight(a));
+        list[at + 1] = arc::arc(arc::head(a), arc::weight(b));
         k += 1;
     }
-    size
 }

@@ -46,6 +46,10 @@ module _ (ts hs ws : List ℕ) (m : ℕ) (r : Room m ts hs ws) (n : ℕ) where
     unfolding told order.follow
     follow-none l = rw (edges-none ts hs ws m r k l) at h
 
+    pub follow-end : m ≤ k → accept ≡ v
+    unfolding order.follow
+    follow-end l = rw (edges-none ts hs ws m r k l) at h
+
 -- a count in range, judged by its records
 pub table-judged : (n m : ℕ) (ts hs ws : List ℕ) {v : Verdict} → m ≤ maxEdges → v ≡ rules n (edges ts hs ws m) → v ≡ table n (columns ts hs ws) m
 unfolding refuseIf _▷_

@@ -16,3 +16,5 @@ pub mod Lookup
 pub mod Counts
 pub mod Places
 pub mod Own
+pub mod Arcs
+pub mod Parted

@@ -11,20 +11,22 @@ use mathlib.Core.List.{List, [], _∷_, map, List·Memᴰ, List·Memᴰ·not-nil
 use Prim.Native.Nat.{ℕ, zero, suc, _+_, _-_, _<_, _≤_}
 use native.Mathlib.Numerals.{add-one}
 use native.Mathlib.Omega.{arith}
+use native.Mathlib.Decide.{decLt}
 use lib.ListN.{length, getD, take, drop, length-drop}
 use lib.Dec.{eqb, ltb}
 use lib.Seq.{length-take-le, getD-take, getD-drop, drop-drop, drop-append-seam, take-append-seam}
 use borrow.Author.Tests.{ltb-true, ltb-false, eqb-true, eqb-false, le-ltb, ne-eqb}
-use Rattle.graph.specs.Limits.{maxVertices, maxEdges}
+use Rattle.graph.specs.Limits.{maxVertices, maxEdges, maxWeight}
 use Rattle.graph.specs.Refusal.{accept}
 use Rattle.graph.specs.Edge.{Edge, edge, reverse, keepIf, keep, leaving, edges}
 use Rattle.graph.specs.Table.{isEdge, rules}
 use Rattle.graph.specs.Code.{Room, edgeAt, below, equal, Keyed, Firsts, into, reversedFrom, reversed}
 use Rattle.graph.specs.Own.{part, own, Own, Fit}
+use Rattle.graph.specs.Parted.{Ascending}
 use Rattle.graph.proofs.Lists.{getD-mem}
 use Rattle.graph.proofs.Edges.{leaving-in, keep-in, keep-reverse, reverse-mem}
 use Rattle.graph.proofs.Sorted.{sorted-before}
-use Rattle.graph.proofs.Order.{table-ordered, Sound, rules-accept, precedes-tail, Within, within}
+use Rattle.graph.proofs.Order.{table-ordered, Sound, rules-accept, sound-fit, precedes-tail, Within, within}
 use Rattle.graph.proofs.Records.{tailsOf, headsOf, edges-length, edges-at, edges-mem, edges-more, edges-tails, edges-heads}
 use Rattle.graph.proofs.Counts.{below-zero, below-suc, below-le}
 use Rattle.graph.proofs.Places.{into-length}
@@ -148,6 +150,9 @@ module _ (n : ℕ) (ks fs : List ℕ) (f : Firsts n ks fs) (u : ℕ) (l : u < n)
   firsts-end : getD fs (u + 1) 0 ≤ length ks
   firsts-end = let a = f (u + 1) (omega arith) in let b = below-le (u + 1) ks in omega arith
 
+pub firsts-within : (n m : ℕ) (ks fs : List ℕ) → m ≤ length ks → Firsts n (take m ks) fs → (u : ℕ) → u ≤ n → getD fs u 0 ≤ m
+firsts-within n m ks fs l f u h = let a = f u h in let b = below-le u (take m ks) in let t = length-take-le m ks l in omega arith
+
 -- ---- the table and its index
 
 module _ (n m : ℕ) (ts hs ws : List ℕ) (r : Room m ts hs ws) (a : rules n (edges ts hs ws m) ≡ accept) where
@@ -159,6 +164,19 @@ module _ (n m : ℕ) (ts hs ws : List ℕ) (r : Room m ts hs ws) (a : rules n (e
 
   pub heads-below : (k : ℕ) → k < m → getD hs k 0 < n
   heads-below k l = inner .heads (edgeAt ts hs ws k) (edges-mem ts hs ws m r k l)
+
+  pub weights-range : (k : ℕ) → k < m → (0 < getD ws k 0) × (getD ws k 0 ≤ maxWeight)
+  weights-range k l = let f = sound-fit n (edges ts hs ws m) (rules-accept n (edges ts hs ws m) a) (edgeAt ts hs ws k) (edges-mem ts hs ws m r k l) in (f .some-weight, f .weight-most)
+
+  pub tails-ascend : Ascending m ts
+  tails-ascend i j l b = pick (decLt i j)
+    where
+      pick : Dec (i < j) → getD ts i 0 ≤ getD ts j 0
+      pick (yes c) =
+          let z = edges-length ts hs ws m r in
+          let p = sorted-before table-ordered (isEdge n) (edge 0 0 0) (edges ts hs ws m) (rules-accept n (edges ts hs ws m) a) i j c (omega arith) in
+          precedes-tail (edgeAt ts hs ws i) (edgeAt ts hs ws j) (rw (edges-at ts hs ws m r i (omega arith), edges-at ts hs ws m r j b) at p)
+      pick (no c) = let e : i ≡ j = omega arith in rw e (omega arith)
 
   pub own-table : (fs : List ℕ) → Firsts n (take m ts) fs → (u : ℕ) → u < n → own fs hs ws u ≡ leaving u (edges ts hs ws m)
   own-table fs f u l =

@@ -8,3 +8,6 @@ pub mod Route
 pub mod Code
 pub mod Own
 pub mod Routed
+pub mod Arc
+pub mod Index
+pub mod Parted

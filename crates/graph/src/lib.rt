@@ -1,6 +1,9 @@
 // The edge table: its rules, look-up, one edge more or less, the first edge of each tail, and the reversed table.
+pub mod arc;
 pub mod edit;
+pub mod ends;
 pub mod index;
+pub mod pack;
 pub mod rules;
 pub mod words;
 
@@ -20,10 +23,13 @@ pub const MAX_BATCH: usize = 1024;
 
 pub const MAX_SCHEDULE: usize = 4096;
 
-// Words of scratch lists: a word for each vertex, and one more for an index; a row for each landmark and property.
+// Words of scratch lists: a word for each vertex, and one more for the places of an index; an index, with a word for each edge; a row for
+// each landmark and property.
 pub const VERTEX_WORDS: usize = MAX_VERTICES as usize;
 
-pub const INDEX_WORDS: usize = VERTEX_WORDS + 1;
+pub const PLACE_WORDS: usize = VERTEX_WORDS + 1;
+
+pub const INDEX_WORDS: usize = PLACE_WORDS + MAX_EDGES;
 
 pub const ROW_WORDS: usize = MAX_LANDMARKS * property::PROPERTIES * VERTEX_WORDS;
 

@@ -1,24 +1,14 @@
--- What the functions of an opening ask and answer. Assumes nothing.
+-- What the functions of an opening answer. Assumes nothing.
 --
---   Runnable n m ls fs hs ws     == the rows of a side may be run: the index of m edges fits n vertices, and the landmarks are placed
 --   opening r                    == the program's reply as document 01's
 --   openOutcome r ts hs ws f b   == the program's reply r and the lent lists at exit, as an outcome
 use mathlib.Core.List.{List}
 use Prim.Native.Nat.{ℕ}
 use Rattle.graph.specs.Refusal.{Reply, accepted, refused, Outcome}
-use Rattle.graph.specs.Own.{Fit}
 use Rattle.open.specs.declared.Opened.{Opened}
 use Rattle.open.specs.declared.Opened.the-variants.{Accepted, Refused}
 use Rattle.network.specs.Network.{Memory}
-use Rattle.calls.specs.Code.{Placed, lists}
-
--- ---- what they ask
-
-pub record Runnable (n m : ℕ) (ls fs hs ws : List ℕ) : Type 0 where
-  pub index : Fit n m fs hs ws
-  pub landmarks : Placed n ls
-
--- ---- what they answer
+use Rattle.calls.specs.Code.{lists}
 
 unfoldable pub opening : Opened → Reply (Unit {0})
 opening Accepted = accepted tt

@@ -1,19 +1,19 @@
 // Opening a network: every row is run from where only its landmark has a route. The row lists are written where nothing waits.
 use frontier::Words;
 use graph::Judged;
-use graph::index;
+use graph::pack;
 use graph::words;
 ghost use mathlib.Core.Path.{_≡_};
 ghost use mathlib.Core.List.{List, map};
 ghost use Prim.Native.Nat.{_*_, _<_};
 ghost use lib.ListN.{length};
 ghost use Rattle.graph.specs.Edge.{Edge, reverse, edges};
-ghost use Rattle.graph.specs.Own.{Own};
+ghost use Rattle.graph.specs.Index.{Fit, Own};
 ghost use Rattle.graph.specs.Refusal.{accept};
 ghost use Rattle.network.specs.Network.{rowCount, faults};
 ghost use Rattle.network.specs.Open.{openRow, openRows, openCall};
-ghost use Rattle.calls.specs.Code.{network, Openable, IsRow, AreRows};
-ghost use Rattle.open.specs.Code.{Runnable, openOutcome};
+ghost use Rattle.calls.specs.Code.{network, Placed, Openable, IsRow, AreRows};
+ghost use Rattle.open.specs.Code.{openOutcome};
 
 // The reply to an opening: only that it was accepted.
 pub enum Opened {
@@ -25,39 +25,28 @@ pub enum Opened {
 fn open_row(
     r: usize,
     n: usize,
-    count: usize,
     landmarks: &[u32],
-    firsts: &[u32],
-    heads: &[u32],
-    weights: &[u32],
+    index: &[u32],
     waiting: &mut Words,
     part: &mut [u32],
 ) -> bool
-    requires { ⌜ Runnable n count (now landmarks) (now firsts) (now heads) (now weights) ⌝ }
+    requires { ⌜ Fit n (now index) × Placed n (now landmarks) ⌝ }
     requires { ⌜ (r < rowCount (now landmarks)) × (length (now part) ≡ n) ⌝ }
-    ensures { λ b. ⌜ ((es : List Edge) → Own n (now (firsts .entry)) (now (heads .entry)) (now (weights .entry)) es → IsRow (openRow n (now (landmarks .entry)) es r) (now (part .exit)) b) ⌝ }
+    ensures { λ b. ⌜ ((es : List Edge) → Own n (now (index .entry)) es → IsRow (openRow n (now (landmarks .entry)) es r) (now (part .exit)) b) ⌝ }
 {
     let p = calls::row_property(r);
     let i = calls::row_landmark(r);
     let s = landmarks[i] as usize;
     run::open_row(p, n, s, part, waiting);
-    run::run_unscheduled(p, n, count, firsts, heads, weights, part, waiting);
+    run::run_unscheduled(p, n, index, part, waiting);
     frontier::any(waiting)
 }
 
 // Every row of a side, one after the other in `out`. Whether some vertex still waits in some row.
-fn open_rows(
-    n: usize,
-    count: usize,
-    landmarks: &[u32],
-    firsts: &[u32],
-    heads: &[u32],
-    weights: &[u32],
-    out: &mut [u32],
-) -> bool
-    requires { ⌜ Runnable n count (now landmarks) (now firsts) (now heads) (now weights) ⌝ }
+fn open_rows(n: usize, landmarks: &[u32], index: &[u32], out: &mut [u32]) -> bool
+    requires { ⌜ Fit n (now index) × Placed n (now landmarks) ⌝ }
     requires { ⌜ length (now out) ≡ rowCount (now landmarks) * n ⌝ }
-    ensures { λ b. ⌜ ((es : List Edge) → Own n (now (firsts .entry)) (now (heads .entry)) (now (weights .entry)) es → AreRows (openRows n (now (landmarks .entry)) es) (now (out .exit)) b) ⌝ }
+    ensures { λ b. ⌜ ((es : List Edge) → Own n (now (index .entry)) es → AreRows (openRows n (now (landmarks .entry)) es) (now (out .exit)) b) ⌝ }
 {
     let rows = landmarks.len() * property::PROPERTIES;
     let mut waiting = frontier::empty();
@@ -66,18 +55,7 @@ fn open_rows(
     while r < rows {
         let start = r * n;
         let end = start + n;
-        waits = waits
-            | open_row(
-                r,
-                n,
-                count,
-                landmarks,
-                firsts,
-                heads,
-                weights,
-                &mut waiting,
-                &mut out[start..end],
-            );
+        waits = waits | open_row(r, n, landmarks, index, &mut waiting, &mut out[start..end]);
         r += 1;
     }
     waits
@@ -97,12 +75,13 @@ fn open_forward(
     requires { ⌜ length (now out) ≡ rowCount (now landmarks) * n ⌝ }
     ensures { λ b. ⌜ AreRows (openRows n (now (landmarks .entry)) (edges (now (tails .entry)) (now (heads .entry)) (now (weights .entry)) count)) (now (out .exit)) b ⌝ }
 {
-    let mut firsts = [0u32; graph::INDEX_WORDS];
-    index::index(n, count, tails, &mut firsts);
-    open_rows(n, count, landmarks, &firsts, heads, weights, out)
+    let mut free = [0u32; graph::PLACE_WORDS];
+    let mut index = [0u32; graph::INDEX_WORDS];
+    pack::index(n, count, tails, heads, weights, &mut free, &mut index);
+    open_rows(n, landmarks, &index, out)
 }
 
-// The backward rows, by the reversed table and its index. Whether some vertex still waits.
+// The backward rows, by the index of the reversed table. Whether some vertex still waits.
 fn open_backward(
     n: usize,
     count: usize,
@@ -116,24 +95,10 @@ fn open_backward(
     requires { ⌜ length (now out) ≡ rowCount (now landmarks) * n ⌝ }
     ensures { λ b. ⌜ AreRows (openRows n (now (landmarks .entry)) (map reverse (edges (now (tails .entry)) (now (heads .entry)) (now (weights .entry)) count))) (now (out .exit)) b ⌝ }
 {
-    let mut free = [0u32; graph::INDEX_WORDS];
-    let mut firsts = [0u32; graph::INDEX_WORDS];
-    let mut rtails = [0u32; graph::MAX_EDGES];
-    let mut rheads = [0u32; graph::MAX_EDGES];
-    let mut rweights = [0u32; graph::MAX_EDGES];
-    index::reverse_table(
-        n,
-        count,
-        tails,
-        heads,
-        weights,
-        &mut free,
-        &mut firsts,
-        &mut rtails,
-        &mut rheads,
-        &mut rweights,
-    );
-    open_rows(n, count, landmarks, &firsts, &rheads, &rweights, out)
+    let mut free = [0u32; graph::PLACE_WORDS];
+    let mut index = [0u32; graph::INDEX_WORDS];
+    pack::index_reversed(n, count, tails, heads, weights, &mut free, &mut index);
+    open_rows(n, landmarks, &index, out)
 }
 
 // An opening that numbers 1 to 4 let pass, in scratch lists: they are copied to the row lists where nothing waits.

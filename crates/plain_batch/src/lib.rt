@@ -6,8 +6,7 @@ use graph::words;
 use items::Edited;
 ghost use mathlib.Core.Path.{_≡_};
 ghost use lib.ListN.{length};
-ghost use Rattle.graph.specs.Limits.{maxEdges};
-ghost use Rattle.graph.specs.Refusal.{accept};
+ghost use Rattle.graph.specs.Edge.{edges};
 ghost use Rattle.graph.specs.Code.{told, Room};
 ghost use Rattle.network.specs.Batch.{batchCall, batchFaults};
 ghost use Rattle.calls.specs.Code.{network};
@@ -53,65 +52,26 @@ fn judge_batch(
     )
 }
 
-// A batch that numbers 1 to 4 let pass: its changes are tried on a scratch table, of lists 2.
-fn batch_in(
-    n: u32,
-    landmarks: &[u32],
-    tails: &mut [u32],
-    heads: &mut [u32],
-    weights: &mut [u32],
+// The records of a table, to the front of lists 2.
+fn copy_table(
     count: usize,
-    forward: &mut [u32],
-    backward: &mut [u32],
-    kinds: &[u32],
-    froms: &[u32],
-    tos: &[u32],
-    values: &[u32],
-    size: usize,
+    tails: &[u32],
+    heads: &[u32],
+    weights: &[u32],
     tails2: &mut [u32],
     heads2: &mut [u32],
     weights2: &mut [u32],
-) -> Applied
-    requires { ⌜ size ≡ length (changes (now kinds) (now froms) (now tos) (now values)) ⌝ }
-    requires { ⌜ batchFaults n (now landmarks) (network (now tails) (now heads) (now weights) (now forward) (now backward) count) size ≡ accept ⌝ }
-    requires { ⌜ Room maxEdges (now tails2) (now heads2) (now weights2) ⌝ }
-    ensures { λ r. ⌜ batchOutcome r (now (tails .exit)) (now (heads .exit)) (now (weights .exit)) (now (forward .exit)) (now (backward .exit)) ≡ batchCall n (now (landmarks .entry)) (network (now (tails .entry)) (now (heads .entry)) (now (weights .entry)) (now (forward .entry)) (now (backward .entry)) count) (changes (now (kinds .entry)) (now (froms .entry)) (now (tos .entry)) (now (values .entry))) ⌝ }
+)
+    requires { ⌜ Room count (now tails) (now heads) (now weights) × Room count (now tails2) (now heads2) (now weights2) ⌝ }
+    ensures { λ _. ⌜ edges (now (tails2 .exit)) (now (heads2 .exit)) (now (weights2 .exit)) count ≡ edges (now (tails .entry)) (now (heads .entry)) (now (weights .entry)) count ⌝ }
 {
     words::copy(count, tails, tails2, 0);
     words::copy(count, heads, heads2, 0);
     words::copy(count, weights, weights2, 0);
-    let edited = items::apply_items(
-        n,
-        size,
-        kinds,
-        froms,
-        tos,
-        values,
-        tails2,
-        heads2,
-        weights2,
-        count,
-    );
-    match edited {
-        Edited::Refused(number, place) => Applied::Refused(number, place),
-        Edited::Count(count2) => apply::apply(
-            n,
-            landmarks,
-            tails,
-            heads,
-            weights,
-            count,
-            forward,
-            backward,
-            tails2,
-            heads2,
-            weights2,
-            count2,
-        ),
-    }
 }
 
-// A batch whose changes are four lists side by side, for callers that can lend no slice of records.
+// A batch whose changes are four lists side by side, for callers that can lend no slice of records. They are tried on a scratch table, of
+// lists 2.
 pub fn batch_lists(
     n: u32,
     landmarks: &[u32],
@@ -146,22 +106,43 @@ pub fn batch_lists(
     let mut tails2 = [0u32; graph::MAX_EDGES];
     let mut heads2 = [0u32; graph::MAX_EDGES];
     let mut weights2 = [0u32; graph::MAX_EDGES];
-    batch_in(
-        n,
-        landmarks,
+    let records = count as usize;
+    copy_table(
+        records,
         tails,
         heads,
         weights,
-        count as usize,
-        forward,
-        backward,
+        &mut tails2,
+        &mut heads2,
+        &mut weights2,
+    );
+    let edited = items::apply_items(
+        n,
+        size,
         kinds,
         froms,
         tos,
         values,
-        size,
         &mut tails2,
         &mut heads2,
         &mut weights2,
-    )
+        records,
+    );
+    match edited {
+        Edited::Refused(number, place) => Applied::Refused(number, place),
+        Edited::Count(count2) => apply::apply(
+            n,
+            landmarks,
+            tails,
+            heads,
+            weights,
+            records,
+            forward,
+            backward,
+            &tails2,
+            &heads2,
+            &weights2,
+            count2,
+        ),
+    }
 }

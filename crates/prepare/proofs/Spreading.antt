@@ -2,32 +2,32 @@
 -- are those of the affected vertices once nothing is to do. Assumes nothing.
 use mathlib.Core.Path.{_≡_, refl, sym, ap, _∙_}
 use mathlib.Core.Logic.{_⊎_, inl, inr, ⊎-elim}
-use mathlib.Core.Bool.{Bool, true, false, not, _||_, cond, true≢false, false≢true}
+use mathlib.Core.Bool.{Bool, true, false, not, _&&_, _||_, cond, true≢false, false≢true}
 use mathlib.Core.List.{List, [], _∷_, List·Memᴰ, List·Memᴰ·head, List·Memᴰ·tail, List·Memᴰ·cases-cons, List·Memᴰ·not-nil}
 use Prim.Native.Nat.{ℕ, zero, suc, _+_, _-_, _*_, _≤_, _<_}
 use native.Mathlib.Decide.{ℕ-discrete}
 use native.Mathlib.Omega.{arith}
 use lib.ListN.{length, getD, set, replicate}
 use lib.Seq.{getD-set-same, getD-set-other}
-use borrow.Author.Tests.{not-true}
+use lib.Dec.{ltb}
+use borrow.Author.Tests.{ltb-true, ltb-false, not-true}
 use Rattle.property.specs.Property.{Property}
 use Rattle.frontier.specs.Waiting.{waitingOf, capacity, countOf}
 use Rattle.frontier.proofs.Counts.{count-le}
 use Rattle.frontier.proofs.Laws.{count-insert, count-remove}
 use Rattle.graph.specs.Limits.{maxVertices}
-use Rattle.graph.specs.Edge.{Edge, edge, edges}
-use Rattle.graph.specs.Code.{Room, edgeAt}
-use Rattle.graph.specs.Own.{part, own, Own}
+use Rattle.graph.specs.Arc.{arcHead}
+use Rattle.graph.specs.Edge.{Edge, edge}
+use Rattle.graph.specs.Index.{part, own, Own}
 use Rattle.graph.proofs.Tests.{both, and-true, or-right}
-use Rattle.graph.proofs.Lists.{replicate-at, mem-index, getD-within}
+use Rattle.graph.proofs.Lists.{replicate-at, getD-within}
 use Rattle.graph.proofs.Edges.{leaving-in, in-leaving}
-use Rattle.graph.proofs.Records.{edges-length, edges-at, edges-mem}
 use Rattle.run.specs.Run.{word}
 use Rattle.run.specs.Code.{bits, Marks}
 use Rattle.run.proofs.States.{marks-set, marks-clear}
 use Rattle.affected.specs.Affected.{removed, Named, held, marked, affected}
-use Rattle.compare.specs.Code.{Missing, Ends}
-use Rattle.prepare.specs.Code.{holds, Before, Going, Grown, marksHead, HeadsMarked, Along, Covered, Spreads}
+use Rattle.compare.specs.Code.{before, pairs, Lists}
+use Rattle.prepare.specs.Code.{arcEdge, holds, Going, Grown, marksHead, HeadsMarked, Along, Covered, Spreads}
 use Rattle.prepare.proofs.Bits.{raise-keeps, raise-only, bits-all, bits-length, marks-if}
 use Rattle.affected.proofs.Closure.{touches-named}
 use Rattle.affected.proofs.Sweeps.{closed-exact}
@@ -132,70 +132,71 @@ module _ (P : Property) (n s : ℕ) (vs : List ℕ) (e : Edge) (head : e .head <
 
 -- ---- the listed edges
 
--- each edge stands at some index
-pub edge-index : (ts hs ws : List ℕ) (m : ℕ) → Room m ts hs ws → (e : Edge) → List·Memᴰ e (edges ts hs ws m) → (k : ℕ) × (k < m) × (edgeAt ts hs ws k ≡ e)
-edge-index ts hs ws m r e i =
-    let z = mem-index (edge 0 0 0) i in
-    let l : z .0 < m = (let x = z .1 in omega (arith, edges-length ts hs ws m r)) in
-    (z .0, l, sym (edges-at ts hs ws m r (z .0) l) ∙ z .2)
+module _ {P : Property} {n s : ℕ} {f : ℕ → Edge} {vs bs ds : List ℕ} where
+  pub heads-start : Going n bs ds → HeadsMarked P n s f 0 vs bs ds bs ds
+  heads-start h = record { going = h; grown = grown-none (waitingOf bs) (waitingOf ds); named = λ es fs k l q d. d; heads = λ j l. absurd (omega arith) }
 
-pub edge-head : (n : ℕ) (ts hs ws : List ℕ) (m : ℕ) → Room m ts hs ws → Ends n m ts hs → (e : Edge) → List·Memᴰ e (edges ts hs ws m) → e .head < n
-edge-head n ts hs ws m r k e i =
-    let z = edge-index ts hs ws m r e i in
-    let x : edgeAt ts hs ws (z .0) ≡ e = z .2 in
-    rw (← x) (k .into (z .0) (z .1))
-
-module _ {P : Property} {n s m : ℕ} {ts hs ws gs vs bs ds : List ℕ} where
-  pub heads-start : Going n bs ds → HeadsMarked P n s m ts hs ws gs 0 vs bs ds bs ds
-  heads-start h = record { going = h; grown = grown-none (waitingOf bs) (waitingOf ds); named = λ fs k l q d. d; heads = λ j l. absurd (omega arith) }
-
-  pub heads-as : {cs es : List ℕ} {i g : ℕ} → HeadsMarked P n s m ts hs ws gs i vs bs ds cs es → i ≡ g → HeadsMarked P n s m ts hs ws gs g vs bs ds cs es
+  pub heads-as : {cs es : List ℕ} {i g : ℕ} → HeadsMarked P n s f i vs bs ds cs es → i ≡ g → HeadsMarked P n s f g vs bs ds cs es
   heads-as at e = rw e at at
 
-  module _ {g : ℕ} (fit : Before n m ts hs ws gs g vs) {cs es : List ℕ} {i : ℕ} (at : HeadsMarked P n s m ts hs ws gs i vs bs ds cs es) (inside : i < g) where
-    abbrev x : Edge
-    x = edgeAt ts hs ws (getD gs i 0)
+  module _ {cs es : List ℕ} {i : ℕ} (h : f i .head < n) (at : HeadsMarked P n s f i vs bs ds cs es) where
+    -- the edge at hand has no weight
+    none-turn : ltb 0 (f i .weight) ≡ false → (cs′ es′ : List ℕ) → waitingOf cs′ ≡ waitingOf cs → waitingOf es′ ≡ waitingOf es → Going n cs′ es′ → HeadsMarked P n s f (i + 1) vs bs ds cs′ es′
+    none-turn z cs′ es′ p q go = record {
+      going = go;
+      grown = rw (p, q) (at .grown);
+      named = λ es fs o l d c. rw p (at .named es fs o (omega arith) d c);
+      heads = λ j l w u. pick j w u (ℕ-discrete j i) (λ d. at .heads j (omega arith) w u);
+    }
+      where
+        pick : (j : ℕ) → 0 < f j .weight → held P s vs (f j) ≡ true → Dec (j ≡ i) → ((j ≡ i → ⊥) → marked (waitingOf cs) (f j .head) ≡ true) → marked (waitingOf cs′) (f j .head) ≡ true
+        pick j w u (yes e) k = absurd (let x = ltb-false 0 (f i .weight) z in let y : 0 < f i .weight = rw e at w in omega arith)
+        pick j w u (no d) k = rw p (k d)
 
-    pub heads-turn : (cs′ es′ : List ℕ) → waitingOf cs′ ≡ cond (marksHead P s vs (waitingOf cs) x) (set (waitingOf cs) (x .head) true) (waitingOf cs)
-        → waitingOf es′ ≡ cond (marksHead P s vs (waitingOf cs) x) (set (waitingOf es) (x .head) true) (waitingOf es)
-        → HeadsMarked P n s m ts hs ws gs (i + 1) vs bs ds cs′ es′
-    heads-turn cs′ es′ p q =
-        let k = fit .below i inside in
-        let h : x .head < n = fit .ends .into (getD gs i 0) k in
-        let y = mark-grown P n s vs x h cs es cs′ es′ (at .going) p q in record {
-          going = mark-going P n s vs x h cs es cs′ es′ (at .going) p q;
+    -- it has one
+    some-turn : ltb 0 (f i .weight) ≡ true → (cs′ es′ : List ℕ) → waitingOf cs′ ≡ cond (marksHead P s vs (waitingOf cs) (f i)) (set (waitingOf cs) (f i .head) true) (waitingOf cs)
+        → waitingOf es′ ≡ cond (marksHead P s vs (waitingOf cs) (f i)) (set (waitingOf es) (f i .head) true) (waitingOf es) → HeadsMarked P n s f (i + 1) vs bs ds cs′ es′
+    some-turn z cs′ es′ p q =
+        let y = mark-grown P n s vs (f i) h cs es cs′ es′ (at .going) p q in
+        let w = ltb-true 0 (f i .weight) z in
+        record {
+          going = mark-going P n s vs (f i) h cs es cs′ es′ (at .going) p q;
           grown = grown-then (at .grown) y;
-          named = λ fs o l d f.
-              mark-named P n s vs x h cs es cs′ es′ (at .going) p q (edges ts hs ws m) fs (edges-mem ts hs ws m (fit .room) (getD gs i 0) k)
-              (rw (d .lacks i (omega arith))) (at .named fs o (omega arith) d f);
-          heads = λ j l u. pick j u (ℕ-discrete j i) (λ z. at .heads j (omega arith) u);
+          named = λ xs fs o l d c.
+              mark-named P n s vs (f i) h cs es cs′ es′ (at .going) p q xs fs (d .among i (omega arith) w) (rw (d .lacks i (omega arith) w)) (at .named xs fs o (omega arith) d c);
+          heads = λ j l v u. pick j u (ℕ-discrete j i) (λ d. at .heads j (omega arith) v u);
         }
       where
-        pick : (j : ℕ) → held P s vs (edgeAt ts hs ws (getD gs j 0)) ≡ true → Dec (j ≡ i)
-            → ((j ≡ i → ⊥) → marked (waitingOf cs) (getD hs (getD gs j 0) 0) ≡ true) → marked (waitingOf cs′) (getD hs (getD gs j 0) 0) ≡ true
-        pick j u (yes e) f =
-            let h : x .head < n = fit .ends .into (getD gs i 0) (fit .below i inside) in
-            rw e (mark-done P n s vs x h cs es cs′ es′ (at .going) p q (rw e at u))
-        pick j u (no d) f =
-            let h : x .head < n = fit .ends .into (getD gs i 0) (fit .below i inside) in
-            mark-grown P n s vs x h cs es cs′ es′ (at .going) p q .keeps _ (f d)
+        pick : (j : ℕ) → held P s vs (f j) ≡ true → Dec (j ≡ i) → ((j ≡ i → ⊥) → marked (waitingOf cs) (f j .head) ≡ true) → marked (waitingOf cs′) (f j .head) ≡ true
+        pick j u (yes e) k = rw e (mark-done P n s vs (f i) h cs es cs′ es′ (at .going) p q (rw e at u))
+        pick j u (no d) k = mark-grown P n s vs (f i) h cs es cs′ es′ (at .going) p q .keeps _ (k d)
+
+    pub heads-turn : (b : Bool) → ltb 0 (f i .weight) ≡ b → (cs′ es′ : List ℕ) → waitingOf cs′ ≡ cond (b && marksHead P s vs (waitingOf cs) (f i)) (set (waitingOf cs) (f i .head) true) (waitingOf cs)
+        → waitingOf es′ ≡ cond (b && marksHead P s vs (waitingOf cs) (f i)) (set (waitingOf es) (f i .head) true) (waitingOf es) → HeadsMarked P n s f (i + 1) vs bs ds cs′ es′
+    heads-turn true z cs′ es′ p q = some-turn z cs′ es′ p q
+    heads-turn false z cs′ es′ p q =
+        none-turn z cs′ es′ p q (record {
+          marks = marks-if n cs cs′ (f i .head) false h p (at .going .marks);
+          todo = marks-if n es es′ (f i .head) false h q (at .going .todo);
+          among = λ t k. rw p (at .going .among t (rw q at k));
+        })
 
 -- ---- the edges of one vertex
 
-module _ {P : Property} {n s : ℕ} {hs ws : List ℕ} {u j : ℕ} {vs bs ds : List ℕ} where
-  pub along-start : Going n bs ds → Along P n s hs ws u j j vs bs ds bs ds
+module _ {P : Property} {n s : ℕ} {is : List ℕ} {u j : ℕ} {vs bs ds : List ℕ} where
+  pub along-start : Going n bs ds → Along P n s is u j j vs bs ds bs ds
   along-start h = record { going = h; grown = grown-none (waitingOf bs) (waitingOf ds); named = λ es fs i d. d; along = λ i a b. absurd (omega arith) }
 
-  pub along-as : {cs es : List ℕ} {k i : ℕ} → Along P n s hs ws u j k vs bs ds cs es → k ≡ i → Along P n s hs ws u j i vs bs ds cs es
+  pub along-as : {cs es : List ℕ} {k i : ℕ} → Along P n s is u j k vs bs ds cs es → k ≡ i → Along P n s is u j i vs bs ds cs es
   along-as at e = rw e at at
 
-  module _ {cs es : List ℕ} {k : ℕ} (at : Along P n s hs ws u j k vs bs ds cs es) (on : marked (waitingOf bs) u ≡ true) (low : j ≤ k) (head : getD hs k 0 < n) where
+  module _ {cs es : List ℕ} {k : ℕ} (at : Along P n s is u j k vs bs ds cs es) (on : marked (waitingOf bs) u ≡ true) (low : j ≤ k) (head : arcHead (getD is k 0) < n) where
     abbrev y : Edge
-    y = edge u (getD hs k 0) (getD ws k 0)
+    y = arcEdge is u k
 
     pub along-turn : (cs′ es′ : List ℕ) → waitingOf cs′ ≡ cond (marksHead P s vs (waitingOf cs) y) (set (waitingOf cs) (y .head) true) (waitingOf cs)
         → waitingOf es′ ≡ cond (marksHead P s vs (waitingOf cs) y) (set (waitingOf es) (y .head) true) (waitingOf es)
-        → Along P n s hs ws u j (k + 1) vs bs ds cs′ es′
+        → Along P n s is u j (k + 1) vs bs ds cs′ es′
     along-turn cs′ es′ p q =
         let z = mark-grown P n s vs y head cs es cs′ es′ (at .going) p q in record {
           going = mark-going P n s vs y head cs es cs′ es′ (at .going) p q;
@@ -206,42 +207,42 @@ module _ {P : Property} {n s : ℕ} {hs ws : List ℕ} {u j : ℕ} {vs bs ds : L
           along = λ i a b c. pick i c (ℕ-discrete i k) (λ e. at .along i a (omega arith) c);
         }
       where
-        pick : (i : ℕ) → held P s vs (edge u (getD hs i 0) (getD ws i 0)) ≡ true → Dec (i ≡ k)
-            → ((i ≡ k → ⊥) → marked (waitingOf cs) (getD hs i 0) ≡ true) → marked (waitingOf cs′) (getD hs i 0) ≡ true
+        pick : (i : ℕ) → held P s vs (arcEdge is u i) ≡ true → Dec (i ≡ k)
+            → ((i ≡ k → ⊥) → marked (waitingOf cs) (arcHead (getD is i 0)) ≡ true) → marked (waitingOf cs′) (arcHead (getD is i 0)) ≡ true
         pick i c (yes e) f = rw e (mark-done P n s vs y head cs es cs′ es′ (at .going) p q (rw e at c))
         pick i c (no d) f = mark-grown P n s vs y head cs es cs′ es′ (at .going) p q .keeps _ (f d)
 
 -- ---- an index has the edges of a vertex
 
-part-mem : (hs ws : List ℕ) (u j c k : ℕ) → j ≤ k → k < j + c → List·Memᴰ (edge u (getD hs k 0) (getD ws k 0)) (part hs ws u j c)
+part-mem : (is : List ℕ) (u j c k : ℕ) → j ≤ k → k < j + c → List·Memᴰ (arcEdge is u k) (part is u j c)
 unfolding part
-part-mem hs ws u j zero k a b = absurd (omega arith)
-part-mem hs ws u j (suc c) k a b = pick (ℕ-discrete k j) (λ d. part-mem hs ws u (suc j) c k (omega arith) (omega arith))
+part-mem is u j zero k a b = absurd (omega arith)
+part-mem is u j (suc c) k a b = pick (ℕ-discrete k j) (λ d. part-mem is u (suc j) c k (omega arith) (omega arith))
   where
-    pick : Dec (k ≡ j) → ((k ≡ j → ⊥) → List·Memᴰ (edge u (getD hs k 0) (getD ws k 0)) (part hs ws u (suc j) c))
-        → List·Memᴰ (edge u (getD hs k 0) (getD ws k 0)) (edge u (getD hs j 0) (getD ws j 0) ∷ part hs ws u (suc j) c)
-    pick (yes e) f = List·Memᴰ·head (ap (λ (i : ℕ). edge u (getD hs i 0) (getD ws i 0)) e)
+    pick : Dec (k ≡ j) → ((k ≡ j → ⊥) → List·Memᴰ (arcEdge is u k) (part is u (suc j) c))
+        → List·Memᴰ (arcEdge is u k) (arcEdge is u j ∷ part is u (suc j) c)
+    pick (yes e) f = List·Memᴰ·head (ap (λ (i : ℕ). arcEdge is u i) e)
     pick (no d) f = List·Memᴰ·tail (f d)
 
-mem-part : (hs ws : List ℕ) (u j c : ℕ) (e : Edge) → List·Memᴰ e (part hs ws u j c)
-    → (k : ℕ) × (j ≤ k) × (k < j + c) × (edge u (getD hs k 0) (getD ws k 0) ≡ e)
+mem-part : (is : List ℕ) (u j c : ℕ) (e : Edge) → List·Memᴰ e (part is u j c)
+    → (k : ℕ) × (j ≤ k) × (k < j + c) × (arcEdge is u k ≡ e)
 unfolding part
-mem-part hs ws u j zero e m = absurd (List·Memᴰ·not-nil m)
-mem-part hs ws u j (suc c) e m =
+mem-part is u j zero e m = absurd (List·Memᴰ·not-nil m)
+mem-part is u j (suc c) e m =
     ⊎-elim (λ p. (j, omega arith, omega arith, sym p))
-    (λ i. let z = mem-part hs ws u (suc j) c e i in let a = z .1 in let b = z .2 in (z .0, omega arith, omega arith, z .3)) (List·Memᴰ·cases-cons m)
+    (λ i. let z = mem-part is u (suc j) c e i in let a = z .1 in let b = z .2 in (z .0, omega arith, omega arith, z .3)) (List·Memᴰ·cases-cons m)
 
-module _ (n : ℕ) (is hs ws : List ℕ) (es : List Edge) (o : Own n is hs ws es) where
-  pub own-reads : (u k : ℕ) → u < n → getD is u 0 ≤ k → k < getD is (u + 1) 0 → List·Memᴰ (edge u (getD hs k 0) (getD ws k 0)) es
+module _ (n : ℕ) (is : List ℕ) (es : List Edge) (o : Own n is es) where
+  pub own-reads : (u k : ℕ) → u < n → getD is u 0 ≤ k → k < getD is (u + 1) 0 → List·Memᴰ (arcEdge is u k) es
   own-reads u k h a b =
-      let z : List·Memᴰ (edge u (getD hs k 0) (getD ws k 0)) (own is hs ws u) = part-mem hs ws u (getD is u 0) (getD is (u + 1) 0 - getD is u 0) k a (omega arith) in
+      let z : List·Memᴰ (arcEdge is u k) (own is u) = part-mem is u (getD is u 0) (getD is (u + 1) 0 - getD is u 0) k a (omega arith) in
       leaving-in u es _ (rw (o u h) at z) .0
 
   pub own-whole : (u : ℕ) (e : Edge) → u < n → e .tail ≡ u → List·Memᴰ e es
-      → (k : ℕ) × (getD is u 0 ≤ k) × (k < getD is (u + 1) 0) × (edge u (getD hs k 0) (getD ws k 0) ≡ e)
+      → (k : ℕ) × (getD is u 0 ≤ k) × (k < getD is (u + 1) 0) × (arcEdge is u k ≡ e)
   own-whole u e h q m =
-      let i : List·Memᴰ e (own is hs ws u) = rw (o u h) (in-leaving u m q) in
-      let z = mem-part hs ws u (getD is u 0) (getD is (u + 1) 0 - getD is u 0) e i in
+      let i : List·Memᴰ e (own is u) = rw (o u h) (in-leaving u m q) in
+      let z = mem-part is u (getD is u 0) (getD is (u + 1) 0 - getD is u 0) e i in
       let a = z .1 in
       let b = z .2 in
       (z .0, a, omega arith, z .3)
@@ -263,19 +264,19 @@ module _ {n : ℕ} {bs ds : List ℕ} (u : ℕ) (at : Going n bs ds) where
 
   -- The edges of u are gone along: those of any other vertex that is not to do were covered before, and no mark is taken away; a
   -- vertex that was marked on the way is to do.
-  pub spreads-turn : {P : Property} {s : ℕ} {hs ws vs : List ℕ} (is es : List ℕ) → waitingOf es ≡ set (waitingOf ds) u false → (bs′ ds′ : List ℕ) → u < n
-      → Along P n s hs ws u (getD is u 0) (getD is (u + 1) 0) vs bs es bs′ ds′ → (xs : List Edge) → Own n is hs ws xs → Spreads P n s xs vs bs ds bs′ ds′
-  spreads-turn {P} {s} {hs} {ws} {vs} is es e bs′ ds′ h al xs o = record {
+  pub spreads-turn : {P : Property} {s : ℕ} {vs : List ℕ} (is es : List ℕ) → waitingOf es ≡ set (waitingOf ds) u false → (bs′ ds′ : List ℕ) → u < n
+      → Along P n s is u (getD is u 0) (getD is (u + 1) 0) vs bs es bs′ ds′ → (xs : List Edge) → Own n is xs → Spreads P n s xs vs bs ds bs′ ds′
+  spreads-turn {P} {s} {vs} is es e bs′ ds′ h al xs o = record {
     keeps = al .grown .keeps;
-    named = λ fs d. al .named xs fs (λ i a b. own-reads n is hs ws xs o u i h a b) d;
+    named = λ fs d. al .named xs fs (λ i a b. own-reads n is xs o u i h a b) d;
     covered = λ c x m k q. ⊎-elim (λ r. old c x m k r (ℕ-discrete (x .tail) u)) inr (al .grown .new (x .tail) q);
   }
     where
       old : Covered P xs s vs (waitingOf bs) (waitingOf ds) → (x : Edge) → List·Memᴰ x xs → held P s vs x ≡ true → marked (waitingOf bs) (x .tail) ≡ true
           → Dec (x .tail ≡ u) → (marked (waitingOf bs′) (x .head) ≡ true) ⊎ (marked (waitingOf ds′) (x .tail) ≡ true)
       old c x m k r (yes p) =
-          let z = own-whole n is hs ws xs o u x h p m in
-          let f : edge u (getD hs (z .0) 0) (getD ws (z .0) 0) ≡ x = z .3 in
+          let z = own-whole n is xs o u x h p m in
+          let f : arcEdge is u (z .0) ≡ x = z .3 in
           inl (ap (λ (i : Edge). marked (waitingOf bs′) (i .head)) (sym f) ∙ al .along (z .0) (z .1) (z .2) (ap (λ (i : Edge). held P s vs i) f ∙ k))
       old c x m k r (no d) =
           ⊎-elim (λ q. inl (al .grown .keeps (x .head) q))
@@ -299,33 +300,30 @@ spreads-then p q = record { keeps = λ t k. q .keeps t (p .keeps t k); named = �
 -- From no marks the removed edges mark heads, and marks go on until nothing is to do. Every mark is of an affected vertex. A removed
 -- held edge is listed, so its head is marked; a held edge from a marked vertex has its head marked, since that vertex is not to do. So
 -- the marks are closed, and are exactly the affected vertices.
-module _ (P : Property) (n s m : ℕ) (ts hs ws gs : List ℕ) (g : ℕ) (vs : List ℕ) (fit : Before n m ts hs ws gs g vs)
-    (bs ds bs′ ds′ bs″ ds″ : List ℕ) (p : waitingOf bs ≡ replicate capacity false) (q : waitingOf ds ≡ replicate capacity false)
-    (k : HeadsMarked P n s m ts hs ws gs g vs bs ds bs′ ds′) (sp : Spreads P n s (edges ts hs ws m) vs bs′ ds′ bs″ ds″)
-    (go : Going n bs″ ds″) (idle : (t : ℕ) → getD (waitingOf ds″) t false ≡ false) where
+module _ (P : Property) (n s : ℕ) (xs vs : List ℕ) (bs ds bs′ ds′ bs″ ds″ : List ℕ) (p : waitingOf bs ≡ replicate capacity false) (q : waitingOf ds ≡ replicate capacity false)
+    (k : HeadsMarked P n s (before xs) (pairs xs) vs bs ds bs′ ds′) (go : Going n bs″ ds″) (idle : (t : ℕ) → getD (waitingOf ds″) t false ≡ false) where
   unmarked : (t : ℕ) → marked (waitingOf bs) t ≡ false
   unmarked t = ap (λ (l : List Bool). getD l t false) p ∙ replicate-at capacity t false
 
-  covered : Covered P (edges ts hs ws m) s vs (waitingOf bs″) (waitingOf ds″)
-  covered = sp .covered (λ e i h r. ⊎-elim (λ a. absurd (false≢true (sym (unmarked (e .tail)) ∙ a))) inr (k .grown .new (e .tail) r))
+  module _ (es fs : List Edge) (sp : Spreads P n s es vs bs′ ds′ bs″ ds″) where
+    covered : Covered P es s vs (waitingOf bs″) (waitingOf ds″)
+    covered = sp .covered (λ e i h r. ⊎-elim (λ a. absurd (false≢true (sym (unmarked (e .tail)) ∙ a))) inr (k .grown .new (e .tail) r))
 
-  pub marks-found : (fs : List Edge) → Missing m ts hs ws fs gs g → bits n bs″ ≡ affected P (edges ts hs ws m) fs s vs n
-  marks-found fs d =
-      closed-exact P (edges ts hs ws m) fs s vs n (edge-head n ts hs ws m (fit .room) (fit .ends)) (bits n bs″) (bits-length n bs″ (go .marks))
-      (λ t h. sp .named fs (k .named fs g (omega arith) d (λ i h. absurd (false≢true (sym (unmarked i) ∙ h)))) t (sym (bits-all n bs″ (go .marks) t) ∙ h))
-      (λ e i h. bits-all n bs″ (go .marks) (e .head) ∙ shut e i (both (held P s vs e) _ h .0) (removed fs e) refl (both (held P s vs e) _ h .1))
-    where
-      shut : (e : Edge) → List·Memᴰ e (edges ts hs ws m) → held P s vs e ≡ true → (b : Bool) → removed fs e ≡ b → (b || marked (bits n bs″) (e .tail)) ≡ true
-          → marked (waitingOf bs″) (e .head) ≡ true
-      shut e i h false r c =
-          ⊎-elim (λ a. a) (λ a. absurd (false≢true (sym (idle (e .tail)) ∙ a))) (covered e i h (sym (bits-all n bs″ (go .marks) (e .tail)) ∙ c))
-      shut e i h true r c =
-          let z = edge-index ts hs ws m (fit .room) e i in
-          let x : edgeAt ts hs ws (z .0) ≡ e = z .2 in
-          let y = d .all (z .0) (z .1) (ap (removed fs) x ∙ r) in
-          let o : edgeAt ts hs ws (getD gs (y .0) 0) ≡ e = ap (λ (j : ℕ). edgeAt ts hs ws j) (y .2) ∙ x in
-          ap (λ (j : Edge). marked (waitingOf bs″) (j .head)) (sym o)
-          ∙ sp .keeps _ (k .heads (y .0) (y .1) (ap (λ (j : Edge). held P s vs j) o ∙ h))
+    pub marks-found : ((e : Edge) → List·Memᴰ e es → e .head < n) → Lists es fs (pairs xs) (before xs) → bits n bs″ ≡ affected P es fs s vs n
+    marks-found heads d =
+        closed-exact P es fs s vs n heads (bits n bs″) (bits-length n bs″ (go .marks))
+        (λ t h. sp .named fs (k .named es fs (pairs xs) (omega arith) d (λ i h. absurd (false≢true (sym (unmarked i) ∙ h)))) t (sym (bits-all n bs″ (go .marks) t) ∙ h))
+        (λ e i h. bits-all n bs″ (go .marks) (e .head) ∙ shut e i (both (held P s vs e) _ h .0) (removed fs e) refl (both (held P s vs e) _ h .1))
+      where
+        shut : (e : Edge) → List·Memᴰ e es → held P s vs e ≡ true → (b : Bool) → removed fs e ≡ b → (b || marked (bits n bs″) (e .tail)) ≡ true
+            → marked (waitingOf bs″) (e .head) ≡ true
+        shut e i h false r c =
+            ⊎-elim (λ a. a) (λ a. absurd (false≢true (sym (idle (e .tail)) ∙ a))) (covered e i h (sym (bits-all n bs″ (go .marks) (e .tail)) ∙ c))
+        shut e i h true r c =
+            let y = d .all e i r in
+            let o : before xs (y .0) ≡ e = y .2 in
+            ap (λ (j : Edge). marked (waitingOf bs″) (j .head)) (sym o)
+            ∙ sp .keeps _ (k .heads (y .0) (y .1) (y .3) (ap (λ (j : Edge). held P s vs j) o ∙ h))
 
 -- nothing is marked and nothing to do
 pub going-clear : (n : ℕ) (bs ds : List ℕ) → n ≤ maxVertices → waitingOf bs ≡ replicate capacity false → waitingOf ds ≡ replicate capacity false → Going n bs ds

@@ -11,14 +11,15 @@ use native.Mathlib.Decide.{ℕ-discrete, decLt}
 use native.Mathlib.Omega.{arith}
 use lib.ListN.{length, getD, set, replicate, length-set}
 use lib.Seq.{getD-set-same, getD-set-other, ext-getD}
-use lib.Dec.{eqb}
-use borrow.Author.Tests.{eqb-true, eq-eqb}
+use lib.Dec.{eqb, ltb}
+use borrow.Author.Tests.{eqb-true, eq-eqb, ltb-true, ltb-false}
 use Rattle.property.specs.Property.{Property}
 use Rattle.frontier.specs.Waiting.{waitingOf, capacity}
 use Rattle.frontier.proofs.Laws.{First}
-use Rattle.graph.specs.Edge.{Edge, edge, edges, exists, range}
-use Rattle.graph.specs.Code.{Room, edgeAt}
-use Rattle.graph.proofs.Edges.{exists-true, true-exists}
+use Rattle.graph.specs.Arc.{arcHead, arcWeight}
+use Rattle.graph.specs.Edge.{Edge, edge, reverse, exists, range}
+use Rattle.graph.specs.Index.{Own}
+use Rattle.graph.proofs.Edges.{exists-true, true-exists, mem-reverse, reverse-mem}
 use Rattle.graph.proofs.Tests.{both, and-true, or-right, same-test}
 use Rattle.graph.proofs.Lists.{length-table, table-at, getD-within, replicate-at}
 use Rattle.run.specs.Run.{noTally, word}
@@ -26,11 +27,10 @@ use Rattle.run.specs.Code.{bits, Marks}
 use Rattle.run.proofs.States.{bits-at}
 use Rattle.affected.specs.Affected.{added, marked, affected}
 use Rattle.affected.specs.Prepared.{cleared, reopened, prepared}
-use Rattle.compare.specs.Code.{Missing}
-use Rattle.prepare.specs.Code.{Inward, Raised}
+use Rattle.compare.specs.Code.{after, pairs, Lists}
+use Rattle.prepare.specs.Code.{Raised, Woken, Entering}
 use Rattle.prepare.proofs.Bits.{bits-all, bits-length}
-use Rattle.graph.proofs.Records.{edges-mem}
-use Rattle.prepare.proofs.Spreading.{edge-index}
+use Rattle.prepare.proofs.Spreading.{own-reads, own-whole}
 
 -- ---- words
 
@@ -105,36 +105,36 @@ raised-turn bs cs ds Q R u a l e f g h = record {
     back t (yes p) k = inr (rw p g)
     back t (no d) k = ⊎-elim inl (λ q. inr (f t q)) (a .only t (sym (getD-set-other cs u t true false d) ∙ k))
 
--- one bit more, that which stands at index k of a list
-pub raised-part : (bs cs ds : List Bool) (xs : List ℕ) (j k : ℕ) → Raised bs cs (λ t. (i : ℕ) × (j ≤ i) × (i < k) × (getD xs i 0 ≡ t)) → getD xs k 0 < length cs
-    → ds ≡ set cs (getD xs k 0) true → j ≤ k → Raised bs ds (λ t. (i : ℕ) × (j ≤ i) × (i < k + 1) × (getD xs i 0 ≡ t))
-raised-part bs cs ds xs j k a l e h =
-    raised-turn bs cs ds (λ t. (i : ℕ) × (j ≤ i) × (i < k) × (getD xs i 0 ≡ t)) (λ t. (i : ℕ) × (j ≤ i) × (i < k + 1) × (getD xs i 0 ≡ t)) (getD xs k 0) a l e
+-- one bit more, that of the head of the arc at place k
+pub raised-part : (bs cs ds : List Bool) (is : List ℕ) (j k : ℕ) → Raised bs cs (Entering is j k) → arcHead (getD is k 0) < length cs → ds ≡ set cs (arcHead (getD is k 0)) true → j ≤ k
+    → Raised bs ds (Entering is j (k + 1))
+raised-part bs cs ds is j k a l e h =
+    raised-turn bs cs ds (Entering is j k) (Entering is j (k + 1)) (arcHead (getD is k 0)) a l e
     (λ t q. (q .0, q .1, (let z = q .2 in omega arith), q .3)) (k, h, omega arith, refl) (λ t q. pick t q (ℕ-discrete (q .0) k))
   where
-    pick : (t : ℕ) (q : (i : ℕ) × (j ≤ i) × (i < k + 1) × (getD xs i 0 ≡ t)) → Dec (q .0 ≡ k) → ((i : ℕ) × (j ≤ i) × (i < k) × (getD xs i 0 ≡ t)) ⊎ (t ≡ getD xs k 0)
-    pick t q (yes p) = inr (sym (q .3) ∙ ap (λ (i : ℕ). getD xs i 0) p)
+    pick : (t : ℕ) (q : Entering is j (k + 1) t) → Dec (q .0 ≡ k) → Entering is j k t ⊎ (t ≡ arcHead (getD is k 0))
+    pick t q (yes p) = inr (sym (q .3) ∙ ap (λ (i : ℕ). arcHead (getD is i 0)) p)
     pick t q (no d) = inl (q .0, q .1, (let z = q .2 in omega arith), q .3)
 
--- one bit more, that of which index k of a list tells
-pub raised-listed : (bs cs ds : List Bool) (xs gs : List ℕ) (k : ℕ) → Raised bs cs (λ t. (i : ℕ) × (i < k) × (getD xs (getD gs i 0) 0 ≡ t))
-    → getD xs (getD gs k 0) 0 < length cs → ds ≡ set cs (getD xs (getD gs k 0) 0) true → Raised bs ds (λ t. (i : ℕ) × (i < k + 1) × (getD xs (getD gs i 0) 0 ≡ t))
-raised-listed bs cs ds xs gs k a l e =
-    raised-turn bs cs ds (λ t. (i : ℕ) × (i < k) × (getD xs (getD gs i 0) 0 ≡ t)) (λ t. (i : ℕ) × (i < k + 1) × (getD xs (getD gs i 0) 0 ≡ t)) (getD xs (getD gs k 0) 0) a l e
-    (λ t q. (q .0, (let z = q .1 in omega arith), q .2)) (k, omega arith, refl) (λ t q. pick t q (ℕ-discrete (q .0) k))
+-- one bit more, that of the tail of change k, where it added an edge
+pub raised-change : (bs cs ds : List Bool) (xs : List ℕ) (k : ℕ) (b : Bool) → ltb 0 (after xs k .weight) ≡ b → Raised bs cs (Woken xs k) → after xs k .tail < length cs
+    → ds ≡ cond b (set cs (after xs k .tail) true) cs → Raised bs ds (Woken xs (k + 1))
+raised-change bs cs ds xs k true z a l e =
+    raised-turn bs cs ds (Woken xs k) (Woken xs (k + 1)) (after xs k .tail) a l e
+    (λ t q. (q .0, (let z = q .1 in omega arith), q .2, q .3)) (k, omega arith, ltb-true 0 (after xs k .weight) z, refl) (λ t q. pick t q (ℕ-discrete (q .0) k))
   where
-    pick : (t : ℕ) (q : (i : ℕ) × (i < k + 1) × (getD xs (getD gs i 0) 0 ≡ t)) → Dec (q .0 ≡ k) → ((i : ℕ) × (i < k) × (getD xs (getD gs i 0) 0 ≡ t)) ⊎ (t ≡ getD xs (getD gs k 0) 0)
-    pick t q (yes p) = inr (sym (q .2) ∙ ap (λ (i : ℕ). getD xs (getD gs i 0) 0) p)
-    pick t q (no d) = inl (q .0, (let z = q .1 in omega arith), q .2)
-
-pub raised-all : (bs cs : List Bool) (xs gs : List ℕ) (k l : ℕ) → k ≡ l → Raised bs cs (λ t. (i : ℕ) × (i < k) × (getD xs (getD gs i 0) 0 ≡ t))
-    → Raised bs cs (λ t. (i : ℕ) × (i < l) × (getD xs (getD gs i 0) 0 ≡ t))
-raised-all bs cs xs gs k l e a = rw e at a
-
--- all of a part of a list
-pub raised-whole : (bs cs : List Bool) (xs : List ℕ) (j k l : ℕ) → k ≡ l → Raised bs cs (λ t. (i : ℕ) × (j ≤ i) × (i < k) × (getD xs i 0 ≡ t))
-    → Raised bs cs (λ t. (i : ℕ) × (j ≤ i) × (i < l) × (getD xs i 0 ≡ t))
-raised-whole bs cs xs j k l e a = rw e at a
+    pick : (t : ℕ) (q : Woken xs (k + 1) t) → Dec (q .0 ≡ k) → Woken xs k t ⊎ (t ≡ after xs k .tail)
+    pick t q (yes p) = inr (sym (q .3) ∙ ap (λ (i : ℕ). after xs i .tail) p)
+    pick t q (no d) = inl (q .0, (let z = q .1 in omega arith), q .2, q .3)
+raised-change bs cs ds xs k false z a l e = record {
+  kept = λ t q. rw e (a .kept t q);
+  only = λ t q. ⊎-elim inl (λ w. inr (w .0, (let z = w .1 in omega arith), w .2, w .3)) (a .only t (rw e at q));
+  all = λ t q. rw e (a .all t (pick t q (ℕ-discrete (q .0) k)));
+}
+  where
+    pick : (t : ℕ) (q : Woken xs (k + 1) t) → Dec (q .0 ≡ k) → Woken xs k t
+    pick t q (yes p) = absurd (let x = ltb-false 0 (after xs k .weight) z in let w : 0 < after xs (q .0) .weight = q .2 in let y : 0 < after xs k .weight = rw p at w in omega arith)
+    pick t q (no d) = (q .0, (let z = q .1 in omega arith), q .2, q .3)
 
 -- more bits
 pub raised-then : (bs cs ds : List Bool) (Q R S : ℕ → Type 0) → Raised bs cs Q → Raised cs ds R → ((t : ℕ) → Q t → S t) → ((t : ℕ) → R t → S t)
@@ -146,25 +146,25 @@ raised-then bs cs ds Q R S a b f g h = record {
 }
 
 -- the tails of the edges into the marked vertices below i, by an index
-abbrev pub Behind : List ℕ → List ℕ → List ℕ → ℕ → ℕ → Type 0
-Behind ms is xs i t = (v : ℕ) × (v < i) × (getD (waitingOf ms) v false ≡ true) × ((k : ℕ) × (getD is v 0 ≤ k) × (k < getD is (v + 1) 0) × (getD xs k 0 ≡ t))
+abbrev pub Behind : List ℕ → List ℕ → ℕ → ℕ → Type 0
+Behind ms is i t = (v : ℕ) × (v < i) × (getD (waitingOf ms) v false ≡ true) × Entering is (getD is v 0) (getD is (v + 1) 0) t
 
-module _ (bs cs : List Bool) (ms is xs : List ℕ) (i : ℕ) (a : Raised bs cs (Behind ms is xs i)) where
+module _ (bs cs : List Bool) (ms is : List ℕ) (i : ℕ) (a : Raised bs cs (Behind ms is i)) where
   -- v is the next that is marked
-  pub raised-behind : (v : ℕ) (ds : List Bool) → First (waitingOf ms) i v → Raised cs ds (λ t. (k : ℕ) × (getD is v 0 ≤ k) × (k < getD is (v + 1) 0) × (getD xs k 0 ≡ t))
-      → Raised bs ds (Behind ms is xs (v + 1))
+  pub raised-behind : (v : ℕ) (ds : List Bool) → First (waitingOf ms) i v → Raised cs ds (Entering is (getD is v 0) (getD is (v + 1) 0))
+      → Raised bs ds (Behind ms is (v + 1))
   raised-behind v ds f b =
-      raised-then bs cs ds (Behind ms is xs i) (λ t. (k : ℕ) × (getD is v 0 ≤ k) × (k < getD is (v + 1) 0) × (getD xs k 0 ≡ t)) (Behind ms is xs (v + 1)) a b
+      raised-then bs cs ds (Behind ms is i) (Entering is (getD is v 0) (getD is (v + 1) 0)) (Behind ms is (v + 1)) a b
       (λ t q. (q .0, (let z = q .1 in let y = f .from in omega arith), q .2, q .3)) (λ t q. (v, omega arith, f .waits, q)) (λ t q. pick t q (ℕ-discrete (q .0) v) (decLt (q .0) i))
     where
-      pick : (t : ℕ) (q : Behind ms is xs (v + 1) t) → Dec (q .0 ≡ v) → Dec (q .0 < i) → Behind ms is xs i t ⊎ ((k : ℕ) × (getD is v 0 ≤ k) × (k < getD is (v + 1) 0) × (getD xs k 0 ≡ t))
+      pick : (t : ℕ) (q : Behind ms is (v + 1) t) → Dec (q .0 ≡ v) → Dec (q .0 < i) → Behind ms is i t ⊎ Entering is (getD is v 0) (getD is (v + 1) 0) t
       pick t (u, l, on, q) (yes e) d = inr (rw e at q)
       pick t (u, l, on, q) (no e) (yes h) = inl (u, h, on, q)
       pick t (u, l, on, q) (no e) (no h) = absurd (false≢true (sym (f .before u (omega arith) (omega arith)) ∙ on))
 
   -- none from i on is marked
   pub raised-over : ((v : ℕ) → i ≤ v → getD (waitingOf ms) v false ≡ false)
-      → Raised bs cs (λ t. (v : ℕ) × (getD (waitingOf ms) v false ≡ true) × ((k : ℕ) × (getD is v 0 ≤ k) × (k < getD is (v + 1) 0) × (getD xs k 0 ≡ t)))
+      → Raised bs cs (λ t. (v : ℕ) × (getD (waitingOf ms) v false ≡ true) × Entering is (getD is v 0) (getD is (v + 1) 0) t)
   raised-over f = record {
     kept = a .kept;
     only = λ t h. ⊎-elim inl (λ q. inr (q .0, q .2, q .3)) (a .only t h);
@@ -182,30 +182,24 @@ opens es ms t e = eqb (e .tail) t && (marked ms (e .head) || added es e)
 
 -- The added edges' tails are set first, then those of the edges into marked vertices. A bit that is set is of such an edge of the new
 -- list; and each such edge is listed, or stands in the index at its head.
-module _ (n m : ℕ) (ts gs : List ℕ) (g : ℕ) (is xs ms : List ℕ) (marks : Marks n ms) (bs cs ds : List ℕ) (p : waitingOf bs ≡ replicate capacity false)
-    (a : Raised (waitingOf bs) (waitingOf cs) (λ t. (i : ℕ) × (i < g) × (getD ts (getD gs i 0) 0 ≡ t)))
-    (b : Raised (waitingOf cs) (waitingOf ds)
-    (λ t. (v : ℕ) × (getD (waitingOf ms) v false ≡ true) × ((k : ℕ) × (getD is v 0 ≤ k) × (k < getD is (v + 1) 0) × (getD xs k 0 ≡ t))))
+module _ (n : ℕ) (xs is ms : List ℕ) (marks : Marks n ms) (bs cs ds : List ℕ) (p : waitingOf bs ≡ replicate capacity false)
+    (a : Raised (waitingOf bs) (waitingOf cs) (Woken xs (pairs xs)))
+    (b : Raised (waitingOf cs) (waitingOf ds) (λ t. (v : ℕ) × (getD (waitingOf ms) v false ≡ true) × Entering is (getD is v 0) (getD is (v + 1) 0) t))
     (fine : Marks n ds) (marked-within : (v : ℕ) → getD (waitingOf ms) v false ≡ true → v < n) where
-  module _ (hs ws : List ℕ) (es : List Edge) (r : Room m ts hs ws) (q : Missing m ts hs ws es gs g) (o : Inward n is xs (edges ts hs ws m)) where
-    abbrev fs : List Edge
-    fs = edges ts hs ws m
-
+  module _ (es fs : List Edge) (heads : (e : Edge) → List·Memᴰ e fs → e .head < n) (q : Lists fs es (pairs xs) (after xs)) (o : Own n is (map reverse fs)) where
     witness : (t : ℕ) (e : Edge) → List·Memᴰ e fs → e .tail ≡ t → (marked (bits n ms) (e .head) || added es e) ≡ true → exists (opens es (bits n ms) t) fs ≡ true
     witness t e i j k = true-exists (opens es (bits n ms) t) i (and-true (eq-eqb (e .tail) t j) k)
 
     sound : (t : ℕ) → getD (waitingOf ds) t false ≡ true → exists (opens es (bits n ms) t) fs ≡ true
     sound t h = ⊎-elim (λ y. ⊎-elim (λ z. absurd (false≢true (sym (replicate-at capacity t false) ∙ (ap (λ (l : List Bool). getD l t false) (sym p) ∙ z)))) listed (a .only t y)) into (b .only t h)
       where
-        listed : ((i : ℕ) × (i < g) × (getD ts (getD gs i 0) 0 ≡ t)) → exists (opens es (bits n ms) t) fs ≡ true
-        listed z =
-            let k = q .below (z .0) (z .1) in
-            witness t (edgeAt ts hs ws (getD gs (z .0) 0)) (edges-mem ts hs ws m r _ k) (z .2) (or-right (marked (bits n ms) _) (q .lacks (z .0) (z .1)))
+        listed : Woken xs (pairs xs) t → exists (opens es (bits n ms) t) fs ≡ true
+        listed z = witness t (after xs (z .0)) (q .among (z .0) (z .1) (z .2)) (z .3) (or-right (marked (bits n ms) _) (q .lacks (z .0) (z .1) (z .2)))
 
-        into : ((v : ℕ) × (getD (waitingOf ms) v false ≡ true) × ((k : ℕ) × (getD is v 0 ≤ k) × (k < getD is (v + 1) 0) × (getD xs k 0 ≡ t))) → exists (opens es (bits n ms) t) fs ≡ true
+        into : ((v : ℕ) × (getD (waitingOf ms) v false ≡ true) × Entering is (getD is v 0) (getD is (v + 1) 0) t) → exists (opens es (bits n ms) t) fs ≡ true
         into (v, on, (k, lo, hi, e)) =
-            let z = o .reads v k (marked-within v on) lo hi in
-            witness t (edge (getD xs k 0) v (z .0)) (z .1) e (ap (λ c. c || added es (edge (getD xs k 0) v (z .0))) (bits-all n ms marks v ∙ on))
+            let z = reverse-mem fs _ (own-reads n is (map reverse fs) o v k (marked-within v on) lo hi) in
+            witness t (edge (arcHead (getD is k 0)) v (arcWeight (getD is k 0))) z e (ap (λ c. c || added es (edge (arcHead (getD is k 0)) v (arcWeight (getD is k 0)))) (bits-all n ms marks v ∙ on))
 
     whole : (t : ℕ) → exists (opens es (bits n ms) t) fs ≡ true → getD (waitingOf ds) t false ≡ true
     whole t h =
@@ -215,13 +209,11 @@ module _ (n m : ℕ) (ts gs : List ℕ) (g : ℕ) (is xs ms : List ℕ) (marks :
       where
         pick : (e : Edge) → List·Memᴰ e fs → e .tail ≡ t → (c : Bool) → marked (bits n ms) (e .head) ≡ c → (c || added es e) ≡ true → getD (waitingOf ds) t false ≡ true
         pick e i j true on k =
-            let z = o .whole e i in
-            b .all t (e .head, sym (bits-all n ms marks (e .head)) ∙ on, (z .0, z .1, z .2, z .3 ∙ j))
+            let z = own-whole n is (map reverse fs) o (e .head) (reverse e) (heads e i) refl (mem-reverse i) in
+            b .all t (e .head, sym (bits-all n ms marks (e .head)) ∙ on, (z .0, z .1, z .2, ap (λ (x : Edge). x .head) (z .3) ∙ j))
         pick e i j false on k =
-            let z = edge-index ts hs ws m r e i in
-            let x : edgeAt ts hs ws (z .0) ≡ e = z .2 in
-            let y = q .all (z .0) (z .1) (ap (added es) x ∙ k) in
-            b .kept t (a .all t (y .0, y .1, ap (λ (l : ℕ). getD ts l 0) (y .2) ∙ (ap (λ (l : Edge). l .tail) x ∙ j)))
+            let y = q .all e i k in
+            b .kept t (a .all t (y .0, y .1, y .3, ap (λ (l : Edge). l .tail) (y .2) ∙ j))
 
     pub reopen-done : bits n ds ≡ reopened es fs (bits n ms) n
     unfolding reopened

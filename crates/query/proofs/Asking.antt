@@ -1,13 +1,12 @@
 -- A query's start words and its schedule, landmark by landmark, vertex by vertex and entry by entry. Assumes nothing.
 use mathlib.Core.Path.{_≡_, sym, ap, ap₂, _∙_}
-use mathlib.Core.Logic.{⊎-elim, _≢_}
 use mathlib.Core.Bool.{cond}
 use mathlib.Core.List.{List, map}
 use Prim.Native.Nat.{ℕ, suc, _+_, _-_, _*_, _<_, _≤_}
 use native.Mathlib.Nat.{sub-zero}
 use native.Mathlib.Numerals.{add-one}
 use native.Mathlib.Omega.{arith}
-use lib.ListN.{length, getD, set, drop, drop-of-length-le}
+use lib.ListN.{length, getD, drop, drop-of-length-le}
 use lib.Seq.{drop-cons, ext-getD}
 use lib.Dec.{eqb}
 use borrow.Author.Tests.{lt-ltb, le-ltb, eq-eqb, ne-eqb}
@@ -16,7 +15,7 @@ use Rattle.graph.specs.declared.Judged.the-variants.{Fine, Refused}
 use Rattle.graph.specs.Refusal.{Verdict, _▷_, refuseIf}
 use Rattle.graph.specs.Edge.{range}
 use Rattle.graph.specs.Code.{told}
-use Rattle.graph.proofs.Lists.{at-set, length-table, table-at}
+use Rattle.graph.proofs.Lists.{length-table, table-at}
 use Rattle.run.specs.Run.{word}
 use Rattle.run.specs.Start.{Landmark, finer, bound}
 use Rattle.network.specs.Network.{row}
@@ -77,12 +76,6 @@ module _ (P : Property) (ls : List Landmark) (t s : ℕ) {v : ℕ} where
   start-other d h = rw (ne-eqb t s d) h
 
 module _ (f : ℕ → ℕ) (out : List ℕ) (t : ℕ) (h : (j : ℕ) → j < t → getD out j 0 ≡ f j) where
-  pub words-turn : (v : ℕ) → t < length out → v ≡ f t → (j : ℕ) → j < t + 1 → getD (set out t v) j 0 ≡ f j
-  words-turn v l e j b = ⊎-elim (λ w. w .1 ∙ e ∙ ap f (sym (w .0))) (λ w. w .1 ∙ h j (before (w .0))) (at-set out t v j 0 l)
-    where
-      before : j ≢ t → j < t
-      before d = omega arith
-
   pub words-done : (n : ℕ) → length out ≡ n → n ≤ t → out ≡ map f (range 0 n)
   words-done n l m = ext-getD 0 out (map f (range 0 n)) (l ∙ sym (length-table f 0 n)) (λ i b. h i (omega arith) ∙ sym (table-at f n i 0 (omega arith)))
 

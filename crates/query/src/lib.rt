@@ -1,16 +1,19 @@
 // A query: its refusals, its start words, its run.
 use graph::Judged;
+use graph::pack;
 use graph::rules;
 use run::Tally;
 ghost use mathlib.Core.Path.{_≡_};
-ghost use mathlib.Core.Bool.{cond};
-ghost use Prim.Native.Nat.{_<_};
-ghost use lib.ListN.{length};
-ghost use lib.Dec.{eqb};
+ghost use mathlib.Core.List.{List};
+ghost use Prim.Native.Nat.{ℕ, _+_, _<_, _≤_};
+ghost use lib.ListN.{length, getD};
 ghost use Rattle.property.specs.Property.{property};
 ghost use Rattle.graph.specs.Refusal.{accept, _▷_};
+ghost use Rattle.graph.specs.Edge.{edges};
 ghost use Rattle.graph.specs.Table.{size};
 ghost use Rattle.graph.specs.Code.{told};
+ghost use Rattle.graph.specs.Index.{Fit, Own};
+ghost use Rattle.run.specs.Code.{Scheduled};
 ghost use Rattle.run.specs.Start as start;
 ghost use Rattle.network.specs.Query.{scheduled, longSchedule, shortWords, requested, queryFaults, queryCall};
 ghost use Rattle.calls.specs.Code.{network};
@@ -112,52 +115,34 @@ fn finer(p: u32, a: u32, b: u32) -> u32
     if property::better(p, a, b) { a } else { b }
 }
 
-// The best, over the landmarks, of the backward word of the source joined with the forward word of `t`. It goes from the last landmark down
+// A landmark's bounds better the words of `out`: `b`, the backward word of the source, joined with its forward row, which starts at `at`.
+fn join_row_of(p: u32, b: u32, at: usize, forward: &[u32], out: &mut [u32])
+    requires { ⌜ at + length (now out) ≤ length (now forward) ⌝ }
+    ensures { λ _. ⌜ ((t : ℕ) → t < length (now (out .entry)) → getD (now (out .exit)) t 0 ≡ start.finer (property p) (property p .join b (getD (now (forward .entry)) (at + t) 0)) (getD (now (out .entry)) t 0)) ⌝ }
+{
+    let mut t = 0;
+    while t < out.len() {
+        out[t] = finer(p, property::join(p, b, forward[at + t]), out[t]);
+        t += 1;
+    }
+}
+
+// The same, with the number of the property literal in each arm, so that its tests are made once and not at each vertex.
+fn join_row(p: u32, b: u32, at: usize, forward: &[u32], out: &mut [u32])
+    requires { ⌜ at + length (now out) ≤ length (now forward) ⌝ }
+    ensures { λ _. ⌜ ((t : ℕ) → t < length (now (out .entry)) → getD (now (out .exit)) t 0 ≡ start.finer (property p) (property p .join b (getD (now (forward .entry)) (at + t) 0)) (getD (now (out .entry)) t 0)) ⌝ }
+{
+    match p {
+        1 => join_row_of(1, b, at, forward, out),
+        2 => join_row_of(2, b, at, forward, out),
+        3 => join_row_of(3, b, at, forward, out),
+        4 => join_row_of(4, b, at, forward, out),
+        _ => join_row_of(5, b, at, forward, out),
+    }
+}
+
+// The start words of all vertices: the best bound over the landmarks, and its value at the source. It goes from the last landmark down
 // because the definition folds from the right.
-fn bound(
-    p: u32,
-    n: usize,
-    landmarks: &[u32],
-    source: usize,
-    t: usize,
-    forward: &[u32],
-    backward: &[u32],
-) -> u32
-    requires { ⌜ (t < n) × Rowed n (now landmarks) p source (now forward) (now backward) ⌝ }
-    ensures { λ r. ⌜ r ≡ start.bound (property p) (knownBy n (now (landmarks .entry)) p source (now (forward .entry)) (now (backward .entry))) t ⌝ }
-{
-    let mut best = property::none(p);
-    let mut i = landmarks.len();
-    while i > 0 {
-        i -= 1;
-        let at = calls::row_start(p, n, i);
-        let v = property::join(p, backward[at + source], forward[at + t]);
-        best = finer(p, v, best);
-    }
-    best
-}
-
-// The start word of vertex `t`: its bound, and its value at the source.
-fn start_word(
-    p: u32,
-    n: usize,
-    landmarks: &[u32],
-    source: usize,
-    t: usize,
-    forward: &[u32],
-    backward: &[u32],
-) -> u32
-    requires { ⌜ (t < n) × Rowed n (now landmarks) p source (now forward) (now backward) ⌝ }
-    ensures { λ r. ⌜ r ≡ cond (eqb t source) (property p .start) (start.bound (property p) (knownBy n (now (landmarks .entry)) p source (now (forward .entry)) (now (backward .entry))) t) ⌝ }
-{
-    if t == source {
-        property::start(p)
-    } else {
-        bound(p, n, landmarks, source, t, forward, backward)
-    }
-}
-
-// The start words of all vertices.
 fn start_words(
     p: u32,
     n: usize,
@@ -170,52 +155,41 @@ fn start_words(
     requires { ⌜ (length (now out) ≡ n) × Rowed n (now landmarks) p source (now forward) (now backward) ⌝ }
     ensures { λ _. ⌜ now (out .exit) ≡ start.asked (property p) (knownBy n (now (landmarks .entry)) p source (now (forward .entry)) (now (backward .entry))) n source .words ⌝ }
 {
-    let mut t = 0;
-    while t < n {
-        out[t] = start_word(p, n, landmarks, source, t, forward, backward);
-        t += 1;
+    graph::words::fill(out, property::none(p));
+    let mut i = landmarks.len();
+    while i > 0 {
+        i -= 1;
+        let at = calls::row_start(p, n, i);
+        join_row(p, backward[at + source], at, forward, out);
     }
+    out[source] = property::start(p);
 }
 
-// A query that every refusal before the run lets pass, in scratch lists: start words, run, and the answer where it came to rest.
+// A query that every refusal before the run lets pass, by an index of the table and in scratch lists: start words, run, and the answer
+// where it came to rest.
 fn query_in(
     n: usize,
     landmarks: &[u32],
-    tails: &[u32],
-    heads: &[u32],
-    weights: &[u32],
-    count: usize,
+    index: &[u32],
     forward: &[u32],
     backward: &[u32],
     property: u32,
     source: usize,
     schedule: &[u32],
-    firsts: &mut [u32],
     start: &mut [u32],
     row: &mut [u32],
     starts: &mut [u32],
     settled: &mut [u32],
 ) -> Answered
-    requires { ⌜ queryFaults n (now landmarks) (network (now tails) (now heads) (now weights) (now forward) (now backward) count) (asking property source (now schedule)) (length (now starts)) (length (now settled)) ≡ accept ⌝ }
-    requires { ⌜ (n < length (now firsts)) × (length (now start) ≡ n) × (length (now row) ≡ n) ⌝ }
-    ensures { λ r. ⌜ asOutcome r (now (starts .exit)) (now (settled .exit)) ≡ queryCall n (now (landmarks .entry)) (network (now (tails .entry)) (now (heads .entry)) (now (weights .entry)) (now (forward .entry)) (now (backward .entry)) count) (asking property source (now (schedule .entry))) (wordsOf (now (starts .entry)) (now (settled .entry))) ⌝ }
+    requires { ⌜ Fit n (now index) × Rowed n (now landmarks) property source (now forward) (now backward) × Scheduled n (now schedule) ⌝ }
+    requires { ⌜ (length (now start) ≡ n) × (length (now row) ≡ n) × (n ≤ length (now starts)) × (n ≤ length (now settled)) ⌝ }
+    ensures { λ r. ⌜ ((ts hs ws : List ℕ) (m : ℕ) → Own n (now (index .entry)) (edges ts hs ws m) → queryFaults n (now (landmarks .entry)) (network ts hs ws (now (forward .entry)) (now (backward .entry)) m) (asking property source (now (schedule .entry))) (length (now (starts .entry))) (length (now (settled .entry))) ≡ accept → asOutcome r (now (starts .exit)) (now (settled .exit)) ≡ queryCall n (now (landmarks .entry)) (network ts hs ws (now (forward .entry)) (now (backward .entry)) m) (asking property source (now (schedule .entry))) (wordsOf (now (starts .entry)) (now (settled .entry)))) ⌝ }
 {
-    graph::index::index(n, count, tails, firsts);
     start_words(property, n, landmarks, source, forward, backward, start);
     graph::words::copy(n, start, row, 0);
     let mut waiting = frontier::empty();
     run::start_at(n, source, &mut waiting);
-    let tally = run::run_counted(
-        property,
-        n,
-        count,
-        firsts,
-        heads,
-        weights,
-        schedule,
-        row,
-        &mut waiting,
-    );
+    let tally = run::run_counted(property, n, index, schedule, row, &mut waiting);
     if frontier::any(&waiting) {
         return Answered::Refused(13, 0);
     }
@@ -261,22 +235,28 @@ pub fn query(
         return Answered::Refused(number, place);
     }
     let size = n as usize;
-    let mut firsts = [0u32; graph::INDEX_WORDS];
+    let mut free = [0u32; graph::PLACE_WORDS];
+    let mut index = [0u32; graph::INDEX_WORDS];
+    pack::index(
+        size,
+        count as usize,
+        tails,
+        heads,
+        weights,
+        &mut free,
+        &mut index,
+    );
     let mut start = [0u32; graph::VERTEX_WORDS];
     let mut row = [0u32; graph::VERTEX_WORDS];
     query_in(
         size,
         landmarks,
-        tails,
-        heads,
-        weights,
-        count as usize,
+        &index,
         forward,
         backward,
         property,
         source as usize,
         schedule,
-        &mut firsts,
         &mut start[..size],
         &mut row[..size],
         starts,

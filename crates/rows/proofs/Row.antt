@@ -1,12 +1,10 @@
 -- One row of a batch as its functions leave it. Assumes nothing.
 use mathlib.Core.Path.{_≡_, sym, ap, _∙_}
 use mathlib.Core.List.{List}
-use Prim.Native.Nat.{ℕ, suc, _+_, _*_, _/_, _%_, _≤_}
-use native.Mathlib.Omega.{arith}
+use Prim.Native.Nat.{ℕ, suc, _*_, _/_, _%_}
 use lib.ListN.{getD}
 use Rattle.property.specs.Property.{property, properties}
 use Rattle.frontier.specs.Waiting.{waitingOf, anyOf, countOf}
-use Rattle.frontier.proofs.Counts.{count-le}
 use Rattle.graph.specs.Limits.{maxVertices, maxEdges}
 use Rattle.graph.specs.Edge.{Edge}
 use Rattle.run.specs.declared.Tally.{Tally}
@@ -15,7 +13,6 @@ use Rattle.run.specs.Code.{bits, noCounts, state, Ran}
 use Rattle.run.proofs.States.{bits-any}
 use Rattle.affected.specs.Affected.{affected}
 use Rattle.affected.specs.Prepared.{prepared}
-use Rattle.affected.proofs.Sweeps.{affected-length}
 use Rattle.rows.specs.declared.Rowed.{Rowed}
 use Rattle.network.specs.Batch.{rowAffected, rowEnd}
 use Rattle.rows.specs.Code.{RowDone}
@@ -27,23 +24,15 @@ module _ (n r : ℕ) {p i : ℕ} (ls : List ℕ) (es fs : List Edge) (vs ws bs w
   row-run : state n ws′ bs′ t ≡ rowEnd n ls es fs vs r
   row-run = run ∙ rw (start, ep, ei)
 
-  pub row-done : (a : Rowed) → n ≤ maxVertices → Ran n ws′ bs′ noCounts t 0 n (maxVertices * maxVertices * maxEdges)
+  pub row-done : (a : Rowed) → Ran n ws′ bs′ noCounts t 0 n (maxVertices * maxVertices * maxEdges)
       → a .unsettled ≡ anyOf (waitingOf bs′) → a .affected ≡ countOf (affected (property p) es fs (getD ls i 0) vs n) → a .stores ≡ t .stores
       → RowDone n ls es fs vs r ws′ a
-  row-done a few ran u c s = record {
+  row-done a ran u c s = record {
     words = ap (λ st. st .words) row-run;
     unsettled = u ∙ (sym (bits-any n bs′ (ran .sized .waiting)) ∙ ap (λ st. anyOf (st .waiting)) row-run);
     affected = c ∙ counted;
     stores = s ∙ ap (λ st. st .tally .stores) row-run;
-    few = low;
-    low = (let z : t .stores ≤ 0 + maxVertices * maxVertices * maxEdges = ran .stores in omega arith);
   }
     where
       counted : countOf (affected (property p) es fs (getD ls i 0) vs n) ≡ countOf (rowAffected n ls es fs vs r)
       counted = rw (ep, ei)
-
-      low : a .affected ≤ maxVertices
-      low =
-          let x = count-le (affected (property p) es fs (getD ls i 0) vs n) in
-          let y = affected-length (property p) es fs (getD ls i 0) vs n in
-          omega arith

@@ -7,17 +7,18 @@ use native.Mathlib.Omega.{arith}
 use lib.ListN.{length, getD, drop}
 use lib.Seq.{drop-cons}
 use Rattle.graph.specs.Edge.{edge, range}
-use Rattle.graph.specs.Own.{part}
+use Rattle.graph.specs.Arc.{arcHead, arcWeight}
+use Rattle.graph.specs.Index.{part}
 
-pub part-more : (hs ws : List ℕ) (u j hi : ℕ) → j < hi → part hs ws u j (hi - j) ≡ edge u (getD hs j 0) (getD ws j 0) ∷ part hs ws u (j + 1) (hi - (j + 1))
+pub part-more : (is : List ℕ) (u j hi : ℕ) → j < hi → part is u j (hi - j) ≡ edge u (arcHead (getD is j 0)) (arcWeight (getD is j 0)) ∷ part is u (j + 1) (hi - (j + 1))
 unfolding part
-part-more hs ws u j hi h =
+part-more is u j hi h =
     let e : hi - j ≡ suc (hi - (j + 1)) = omega arith in
     rw (e, add-one)
 
-pub part-none : (hs ws : List ℕ) (u j hi : ℕ) → hi ≤ j → part hs ws u j (hi - j) ≡ []
+pub part-none : (is : List ℕ) (u j hi : ℕ) → hi ≤ j → part is u j (hi - j) ≡ []
 unfolding part
-part-none hs ws u j hi h =
+part-none is u j hi h =
     let e : hi - j ≡ 0 = omega arith in
     rw e
 

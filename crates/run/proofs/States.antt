@@ -8,11 +8,13 @@ use native.Mathlib.Numerals.{add-one}
 use native.Mathlib.Omega.{arith}
 use lib.ListN.{length, getD, set, take, replicate, length-set, length-take, length-replicate, List·getD-eq-default}
 use lib.Seq.{take-set-lt, getD-take, getD-set-other}
-use Rattle.property.specs.Property.{Property}
+use mathlib.Core.Logic.{⊎-elim}
+use Rattle.property.specs.Property.{Property, M}
+use Rattle.property.specs.Laws.{Laws}
 use Rattle.frontier.specs.Waiting.{waitingOf, capacity, anyOf}
 use Rattle.frontier.proofs.Laws.{any-none, none-any, any-some, some-any}
 use Rattle.graph.specs.Edge.{Edge, leaving}
-use Rattle.graph.proofs.Lists.{getD-within, take-replicate, replicate-at}
+use Rattle.graph.proofs.Lists.{at-set, getD-within, take-replicate, replicate-at}
 use Rattle.run.specs.declared.Tally.{Tally}
 use Rattle.run.specs.Run as run
 use Rattle.run.specs.Run.{State, word, relaxable, storeIf, relax, clear, handle}
@@ -113,6 +115,30 @@ module _ (P : Property) (n h a : ℕ) (ws bs : List ℕ) (t : Tally) (e : Edge)
   pub relax-keeps : P .better a (getD ws h 0) ≡ false → state n ws bs t ≡ relax P (state n ws bs t) e
   unfolding relax storeIf
   relax-keeps b = rw (relaxable-by ∙ b)
+
+-- going along an edge never betters its own tail's word
+pub relax-tail : (P : Property) → Laws P → (st : State) (e : Edge) → word P (st .words) (e .tail) ≤ M → e .head < length (st .words)
+    → word P (relax P st e .words) (e .tail) ≡ word P (st .words) (e .tail)
+unfolding relax storeIf
+relax-tail P L st e m h = pick (relaxable P (st .words) e) refl
+  where
+    pick : (b : Bool) → relaxable P (st .words) e ≡ b → word P (storeIf b P st e .words) (e .tail) ≡ word P (st .words) (e .tail)
+    pick false r = refl
+    pick true r =
+        ⊎-elim
+        (λ q. absurd (true≢false (sym r ∙ ap (λ (k : ℕ). P .better (P .along (word P (st .words) (e .tail)) (e .weight)) (word P (st .words) k)) (sym (q .0)) ∙ L .along-no-better _ (e .weight) m)))
+        (λ q. q .1)
+        (at-set (st .words) (e .head) _ (e .tail) (P .none) h)
+
+-- so the tail keeps its word, as the code holds it
+pub keeps-tail : (P : Property) → Laws P → (n : ℕ) (ws bs : List ℕ) (t : Tally) {st : State} (e : Edge) → st ≡ relax P (state n ws bs t) e
+    → e .tail < n → e .head < n → length ws ≡ n → length (st .words) ≡ n → getD ws (e .tail) 0 ≤ M → getD (st .words) (e .tail) 0 ≡ getD ws (e .tail) 0
+keeps-tail P L n ws bs t {st} e q i h a b m =
+    let w = getD-within ws (e .tail) (P .none) 0 (omega arith) in
+    sym (getD-within (st .words) (e .tail) (P .none) 0 (omega arith))
+    ∙ ap (λ (x : State). word P (x .words) (e .tail)) q
+    ∙ relax-tail P L (state n ws bs t) e (omega arith) (omega arith)
+    ∙ w
 
 -- ---- a vertex is handled
 

@@ -1,6 +1,7 @@
 // Runs: handling a vertex, the schedule, rounds, and where a run starts. Each step takes the tally by value and returns it; `run` alone is lent it.
 use frontier::Next;
 use frontier::Words;
+use graph::arc;
 ghost use mathlib.Core.Path.{_≡_};
 ghost use mathlib.Core.List.{List};
 ghost use mathlib.Core.Bool.{true, false};
@@ -10,7 +11,7 @@ ghost use Rattle.property.specs.Property.{property};
 ghost use Rattle.frontier.specs.Waiting.{capacity};
 ghost use Rattle.graph.specs.Limits.{maxVertices, maxEdges};
 ghost use Rattle.graph.specs.Edge.{Edge};
-ghost use Rattle.graph.specs.Own.{Fit, Own};
+ghost use Rattle.graph.specs.Index.{Fit, Own};
 ghost use Rattle.run.specs.Run as spec;
 ghost use Rattle.run.specs.Start.{opened};
 ghost use Rattle.run.specs.Code.{bits, noCounts, state, Marks, Sized, Low, Ready, Ran, Scheduled};
@@ -54,47 +55,43 @@ fn relax(
 pub fn handle(
     p: u32,
     n: usize,
-    count: usize,
     u: usize,
-    firsts: &[u32],
-    heads: &[u32],
-    weights: &[u32],
+    index: &[u32],
     words: &mut [u32],
     waiting: &mut Words,
     tally: Tally,
 ) -> Tally
     requires { ⌜ u < n ⌝ }
-    requires { ⌜ Ready 39 n count (now firsts) (now heads) (now weights) (now words) (now waiting) tally ⌝ }
-    ensures { λ r. ⌜ ((es : List Edge) → Own n (now (firsts .entry)) (now (heads .entry)) (now (weights .entry)) es → state n (now (words .exit)) (now (waiting .exit)) r ≡ spec.handle (property p) es (state n (now (words .entry)) (now (waiting .entry)) tally) u) ⌝ }
+    requires { ⌜ Ready 39 n (now index) (now words) (now waiting) tally ⌝ }
+    ensures { λ r. ⌜ ((es : List Edge) → Own n (now (index .entry)) es → state n (now (words .exit)) (now (waiting .exit)) r ≡ spec.handle (property p) es (state n (now (words .entry)) (now (waiting .entry)) tally) u) ⌝ }
     ensures { λ r. ⌜ Ran n (now (words .exit)) (now (waiting .exit)) tally r 0 0 maxEdges ⌝ }
 {
     frontier::remove(waiting, u);
-    let hi = firsts[u + 1] as usize;
-    let mut j = firsts[u] as usize;
+    let hi = index[u + 1] as usize;
+    let mut j = index[u] as usize;
+    let v = words[u];
     let mut t = tally;
     while j < hi {
-        let h = heads[j] as usize;
-        let a = property::along(p, words[u], weights[j]);
-        t = relax(p, n, h, a, words, waiting, t);
+        let a = index[j];
+        let h = arc::head(a) as usize;
+        let x = property::along(p, v, arc::weight(a));
+        t = relax(p, n, h, x, words, waiting, t);
         j += 1;
     }
     t
 }
 
-// One round: each waiting vertex is handled when its turn comes, ascending.
-fn round(
+// One round of property `p`: each waiting vertex is handled when its turn comes, ascending.
+fn round_of(
     p: u32,
     n: usize,
-    count: usize,
-    firsts: &[u32],
-    heads: &[u32],
-    weights: &[u32],
+    index: &[u32],
     words: &mut [u32],
     waiting: &mut Words,
     tally: Tally,
 ) -> Tally
-    requires { ⌜ Ready 38 n count (now firsts) (now heads) (now weights) (now words) (now waiting) tally ⌝ }
-    ensures { λ r. ⌜ ((es : List Edge) → Own n (now (firsts .entry)) (now (heads .entry)) (now (weights .entry)) es → state n (now (words .exit)) (now (waiting .exit)) r ≡ spec.round (property p) es n (state n (now (words .entry)) (now (waiting .entry)) tally)) ⌝ }
+    requires { ⌜ Ready 38 n (now index) (now words) (now waiting) tally ⌝ }
+    ensures { λ r. ⌜ ((es : List Edge) → Own n (now (index .entry)) es → state n (now (words .exit)) (now (waiting .exit)) r ≡ spec.round (property p) es n (state n (now (words .entry)) (now (waiting .entry)) tally)) ⌝ }
     ensures { λ r. ⌜ Ran n (now (words .exit)) (now (waiting .exit)) tally r 0 1 (maxVertices * maxEdges) ⌝ }
 {
     let mut t = Tally {
@@ -108,26 +105,45 @@ fn round(
         let Next::At(v) = next else {
             return t;
         };
-        t = handle(p, n, count, v, firsts, heads, weights, words, waiting, t);
+        t = handle(p, n, v, index, words, waiting, t);
         i = v + 1;
     }
     t
+}
+
+// One round. The number of its property is literal in each arm, so that its tests are made once and not at each edge.
+fn round(
+    p: u32,
+    n: usize,
+    index: &[u32],
+    words: &mut [u32],
+    waiting: &mut Words,
+    tally: Tally,
+) -> Tally
+    requires { ⌜ Ready 38 n (now index) (now words) (now waiting) tally ⌝ }
+    ensures { λ r. ⌜ ((es : List Edge) → Own n (now (index .entry)) es → state n (now (words .exit)) (now (waiting .exit)) r ≡ spec.round (property p) es n (state n (now (words .entry)) (now (waiting .entry)) tally)) ⌝ }
+    ensures { λ r. ⌜ Ran n (now (words .exit)) (now (waiting .exit)) tally r 0 1 (maxVertices * maxEdges) ⌝ }
+{
+    match p {
+        1 => round_of(1, n, index, words, waiting, tally),
+        2 => round_of(2, n, index, words, waiting, tally),
+        3 => round_of(3, n, index, words, waiting, tally),
+        4 => round_of(4, n, index, words, waiting, tally),
+        _ => round_of(5, n, index, words, waiting, tally),
+    }
 }
 
 // Rounds while any vertex waits, at most `n`.
 pub fn settle(
     p: u32,
     n: usize,
-    count: usize,
-    firsts: &[u32],
-    heads: &[u32],
-    weights: &[u32],
+    index: &[u32],
     words: &mut [u32],
     waiting: &mut Words,
     tally: Tally,
 ) -> Tally
-    requires { ⌜ Ready 32 n count (now firsts) (now heads) (now weights) (now words) (now waiting) tally ⌝ }
-    ensures { λ r. ⌜ ((es : List Edge) → Own n (now (firsts .entry)) (now (heads .entry)) (now (weights .entry)) es → state n (now (words .exit)) (now (waiting .exit)) r ≡ spec.settle (property p) es n n (state n (now (words .entry)) (now (waiting .entry)) tally)) ⌝ }
+    requires { ⌜ Ready 32 n (now index) (now words) (now waiting) tally ⌝ }
+    ensures { λ r. ⌜ ((es : List Edge) → Own n (now (index .entry)) es → state n (now (words .exit)) (now (waiting .exit)) r ≡ spec.settle (property p) es n n (state n (now (words .entry)) (now (waiting .entry)) tally)) ⌝ }
     ensures { λ r. ⌜ Ran n (now (words .exit)) (now (waiting .exit)) tally r 0 n (maxVertices * maxVertices * maxEdges) ⌝ }
 {
     let mut t = tally;
@@ -136,7 +152,7 @@ pub fn settle(
         if !frontier::any(waiting) {
             return t;
         }
-        t = round(p, n, count, firsts, heads, weights, words, waiting, t);
+        t = round(p, n, index, words, waiting, t);
         k += 1;
     }
     t
@@ -146,18 +162,15 @@ pub fn settle(
 fn take(
     p: u32,
     n: usize,
-    count: usize,
     u: usize,
-    firsts: &[u32],
-    heads: &[u32],
-    weights: &[u32],
+    index: &[u32],
     words: &mut [u32],
     waiting: &mut Words,
     tally: Tally,
 ) -> Tally
     requires { ⌜ u < n ⌝ }
-    requires { ⌜ Ready 38 n count (now firsts) (now heads) (now weights) (now words) (now waiting) tally ⌝ }
-    ensures { λ r. ⌜ ((es : List Edge) → Own n (now (firsts .entry)) (now (heads .entry)) (now (weights .entry)) es → state n (now (words .exit)) (now (waiting .exit)) r ≡ spec.takeEntry (property p) es (state n (now (words .entry)) (now (waiting .entry)) tally) u) ⌝ }
+    requires { ⌜ Ready 38 n (now index) (now words) (now waiting) tally ⌝ }
+    ensures { λ r. ⌜ ((es : List Edge) → Own n (now (index .entry)) es → state n (now (words .exit)) (now (waiting .exit)) r ≡ spec.takeEntry (property p) es (state n (now (words .entry)) (now (waiting .entry)) tally) u) ⌝ }
     ensures { λ r. ⌜ Ran n (now (words .exit)) (now (waiting .exit)) tally r 1 0 maxEdges ⌝ }
 {
     if frontier::contains(waiting, u) {
@@ -166,7 +179,7 @@ fn take(
             rounds: tally.rounds,
             stores: tally.stores,
         };
-        handle(p, n, count, u, firsts, heads, weights, words, waiting, t)
+        handle(p, n, u, index, words, waiting, t)
     } else {
         tally
     }
@@ -176,25 +189,22 @@ fn take(
 fn pass(
     p: u32,
     n: usize,
-    count: usize,
-    firsts: &[u32],
-    heads: &[u32],
-    weights: &[u32],
+    index: &[u32],
     schedule: &[u32],
     words: &mut [u32],
     waiting: &mut Words,
     tally: Tally,
 ) -> Tally
-    requires { ⌜ Ready 32 n count (now firsts) (now heads) (now weights) (now words) (now waiting) tally ⌝ }
+    requires { ⌜ Ready 32 n (now index) (now words) (now waiting) tally ⌝ }
     requires { ⌜ Scheduled n (now schedule) ⌝ }
-    ensures { λ r. ⌜ ((es : List Edge) → Own n (now (firsts .entry)) (now (heads .entry)) (now (weights .entry)) es → state n (now (words .exit)) (now (waiting .exit)) r ≡ spec.pass (property p) es (now (schedule .entry)) (state n (now (words .entry)) (now (waiting .entry)) tally)) ⌝ }
+    ensures { λ r. ⌜ ((es : List Edge) → Own n (now (index .entry)) es → state n (now (words .exit)) (now (waiting .exit)) r ≡ spec.pass (property p) es (now (schedule .entry)) (state n (now (words .entry)) (now (waiting .entry)) tally)) ⌝ }
     ensures { λ r. ⌜ Ran n (now (words .exit)) (now (waiting .exit)) tally r (length (now (schedule .entry))) 0 (maxEdges * length (now (schedule .entry))) ⌝ }
 {
     let mut t = tally;
     let mut entry = 0;
     while entry < schedule.len() {
         let u = schedule[entry] as usize;
-        t = take(p, n, count, u, firsts, heads, weights, words, waiting, t);
+        t = take(p, n, u, index, words, waiting, t);
         entry += 1;
     }
     t
@@ -204,95 +214,53 @@ fn pass(
 fn run_from(
     p: u32,
     n: usize,
-    count: usize,
-    firsts: &[u32],
-    heads: &[u32],
-    weights: &[u32],
+    index: &[u32],
     schedule: &[u32],
     words: &mut [u32],
     waiting: &mut Words,
     tally: Tally,
 ) -> Tally
-    requires { ⌜ Ready 31 n count (now firsts) (now heads) (now weights) (now words) (now waiting) tally × Scheduled n (now schedule) ⌝ }
-    ensures { λ r. ⌜ ((es : List Edge) → Own n (now (firsts .entry)) (now (heads .entry)) (now (weights .entry)) es → state n (now (words .exit)) (now (waiting .exit)) r ≡ spec.settle (property p) es n n (spec.pass (property p) es (now (schedule .entry)) (state n (now (words .entry)) (now (waiting .entry)) tally))) × Ran n (now (words .exit)) (now (waiting .exit)) tally r (length (now (schedule .entry))) n (maxEdges * length (now (schedule .entry)) + maxVertices * maxVertices * maxEdges) ⌝ }
+    requires { ⌜ Ready 31 n (now index) (now words) (now waiting) tally × Scheduled n (now schedule) ⌝ }
+    ensures { λ r. ⌜ ((es : List Edge) → Own n (now (index .entry)) es → state n (now (words .exit)) (now (waiting .exit)) r ≡ spec.settle (property p) es n n (spec.pass (property p) es (now (schedule .entry)) (state n (now (words .entry)) (now (waiting .entry)) tally))) × Ran n (now (words .exit)) (now (waiting .exit)) tally r (length (now (schedule .entry))) n (maxEdges * length (now (schedule .entry)) + maxVertices * maxVertices * maxEdges) ⌝ }
 {
-    let passed = pass(
-        p,
-        n,
-        count,
-        firsts,
-        heads,
-        weights,
-        schedule,
-        words,
-        waiting,
-        tally,
-    );
-    settle(p, n, count, firsts, heads, weights, words, waiting, passed)
+    let passed = pass(p, n, index, schedule, words, waiting, tally);
+    settle(p, n, index, words, waiting, passed)
 }
 
 // A run, the schedule and then rounds, on the tally that its caller lends.
 pub fn run(
     p: u32,
     n: usize,
-    count: usize,
-    firsts: &[u32],
-    heads: &[u32],
-    weights: &[u32],
+    index: &[u32],
     schedule: &[u32],
     words: &mut [u32],
     waiting: &mut Words,
     tally: &mut Tally,
 )
-    requires { ⌜ Ready 31 n count (now firsts) (now heads) (now weights) (now words) (now waiting) (now tally) × Scheduled n (now schedule) ⌝ }
-    ensures { λ _. ⌜ ((es : List Edge) → Own n (now (firsts .entry)) (now (heads .entry)) (now (weights .entry)) es → state n (now (words .exit)) (now (waiting .exit)) (now (tally .exit)) ≡ spec.settle (property p) es n n (spec.pass (property p) es (now (schedule .entry)) (state n (now (words .entry)) (now (waiting .entry)) (now (tally .entry))))) × Ran n (now (words .exit)) (now (waiting .exit)) (now (tally .entry)) (now (tally .exit)) (length (now (schedule .entry))) n (maxEdges * length (now (schedule .entry)) + maxVertices * maxVertices * maxEdges) ⌝ }
+    requires { ⌜ Ready 31 n (now index) (now words) (now waiting) (now tally) × Scheduled n (now schedule) ⌝ }
+    ensures { λ _. ⌜ ((es : List Edge) → Own n (now (index .entry)) es → state n (now (words .exit)) (now (waiting .exit)) (now (tally .exit)) ≡ spec.settle (property p) es n n (spec.pass (property p) es (now (schedule .entry)) (state n (now (words .entry)) (now (waiting .entry)) (now (tally .entry))))) × Ran n (now (words .exit)) (now (waiting .exit)) (now (tally .entry)) (now (tally .exit)) (length (now (schedule .entry))) n (maxEdges * length (now (schedule .entry)) + maxVertices * maxVertices * maxEdges) ⌝ }
 {
-    *tally = run_from(
-        p,
-        n,
-        count,
-        firsts,
-        heads,
-        weights,
-        schedule,
-        words,
-        waiting,
-        *tally,
-    );
+    *tally = run_from(p, n, index, schedule, words, waiting, *tally);
 }
 
 // A run on a tally of its own, which is its reply.
 pub fn run_counted(
     p: u32,
     n: usize,
-    count: usize,
-    firsts: &[u32],
-    heads: &[u32],
-    weights: &[u32],
+    index: &[u32],
     schedule: &[u32],
     words: &mut [u32],
     waiting: &mut Words,
 ) -> Tally
-    requires { ⌜ Fit n count (now firsts) (now heads) (now weights) × Sized n (now words) (now waiting) × Scheduled n (now schedule) ⌝ }
-    ensures { λ r. ⌜ ((es : List Edge) → Own n (now (firsts .entry)) (now (heads .entry)) (now (weights .entry)) es → state n (now (words .exit)) (now (waiting .exit)) r ≡ spec.settle (property p) es n n (spec.pass (property p) es (now (schedule .entry)) (state n (now (words .entry)) (now (waiting .entry)) noCounts))) × Ran n (now (words .exit)) (now (waiting .exit)) noCounts r (length (now (schedule .entry))) n (maxEdges * length (now (schedule .entry)) + maxVertices * maxVertices * maxEdges) ⌝ }
+    requires { ⌜ Fit n (now index) × Sized n (now words) (now waiting) × Scheduled n (now schedule) ⌝ }
+    ensures { λ r. ⌜ ((es : List Edge) → Own n (now (index .entry)) es → state n (now (words .exit)) (now (waiting .exit)) r ≡ spec.settle (property p) es n n (spec.pass (property p) es (now (schedule .entry)) (state n (now (words .entry)) (now (waiting .entry)) noCounts))) × Ran n (now (words .exit)) (now (waiting .exit)) noCounts r (length (now (schedule .entry))) n (maxEdges * length (now (schedule .entry)) + maxVertices * maxVertices * maxEdges) ⌝ }
 {
     let mut tally = Tally {
         taken: 0,
         rounds: 0,
         stores: 0,
     };
-    run(
-        p,
-        n,
-        count,
-        firsts,
-        heads,
-        weights,
-        schedule,
-        words,
-        waiting,
-        &mut tally,
-    );
+    run(p, n, index, schedule, words, waiting, &mut tally);
     tally
 }
 
@@ -300,29 +268,16 @@ pub fn run_counted(
 pub fn run_unscheduled(
     p: u32,
     n: usize,
-    count: usize,
-    firsts: &[u32],
-    heads: &[u32],
-    weights: &[u32],
+    index: &[u32],
     words: &mut [u32],
     waiting: &mut Words,
 ) -> Tally
-    requires { ⌜ Fit n count (now firsts) (now heads) (now weights) × Sized n (now words) (now waiting) ⌝ }
-    ensures { λ r. ⌜ ((es : List Edge) → Own n (now (firsts .entry)) (now (heads .entry)) (now (weights .entry)) es → state n (now (words .exit)) (now (waiting .exit)) r ≡ spec.settle (property p) es n n (state n (now (words .entry)) (now (waiting .entry)) noCounts)) ⌝ }
+    requires { ⌜ Fit n (now index) × Sized n (now words) (now waiting) ⌝ }
+    ensures { λ r. ⌜ ((es : List Edge) → Own n (now (index .entry)) es → state n (now (words .exit)) (now (waiting .exit)) r ≡ spec.settle (property p) es n n (state n (now (words .entry)) (now (waiting .entry)) noCounts)) ⌝ }
     ensures { λ r. ⌜ Ran n (now (words .exit)) (now (waiting .exit)) noCounts r 0 n (maxVertices * maxVertices * maxEdges) ⌝ }
 {
     let schedule = [0u32; 0];
-    run_counted(
-        p,
-        n,
-        count,
-        firsts,
-        heads,
-        weights,
-        &schedule,
-        words,
-        waiting,
-    )
+    run_counted(p, n, index, &schedule, words, waiting)
 }
 
 // Vertex `s` alone waits.

@@ -1,48 +1,38 @@
 -- `compare::note` meets its contract. Assumes nothing.
-use mathlib.Core.Path.{refl, sym, ap}
-use mathlib.Core.Bool.{cond}
-use Prim.Native.Nat.{_+_}
 use borrow.Author.Needs.{needs}
+use mathlib.Core.Path.{_≡_, sym, ap}
+use mathlib.Core.Bool.{cond}
+use Prim.Native.Nat.{_+_, _*_}
+use lib.ListN.{set}
+use borrow.Author.Tests.{eq-eqb, ne-eqb}
+use Rattle.compare.proofs.Walking.{stored}
 use Rattle.compare.proofs.note.Statement.{statement}
 use Rattle.compare.proofs.note.Tie as tie
 
-cast-list : tie.Need-cast-list
-cast-list c = search needs
-
-mul-list : tie.Need-mul-list
-mul-list c = search needs
-
-slice-write-list : tie.Need-slice-write-list
-slice-write-list c = search needs
-
-add-result : tie.Need-add-result
-add-result c = search needs
-
-same-length : tie.Need-same-length
-same-length c = search needs
+-- the two words
+words : (c : tie.After-arc2) → let a = c .before .before .before .args in set (set (a .list .now) (2 * a .size) (c .before .arc .result)) (2 * a .size + 1) (c .arc2 .result) ≡ stored (a .list .now) (a .size) (a .t) (a .h) (a .old) (a .new)
+words c = rw (c .before .arc .ensures, c .arc2 .ensures)
 
 returns : tie.Need-returns
-returns c =
-    let a = c .before .args in
-    (refl, ap (λ b. cond b (a .size) (a .size + 1)) (sym (c .if1 .taken)))
-
-same-length-2 : tie.Need-same-length-2
-same-length-2 c = search needs
+returns c = let a = c .before .before .before .before .args in (words (c .before), ap (λ b. cond b (a .size) (a .size + 1)) (sym (eq-eqb (a .old) (a .new) (c .if1 .taken))))
 
 returns-2 : tie.Need-returns-2
-returns-2 c =
-    let a = c .before .args in
-    (refl, ap (λ b. cond b (a .size) (a .size + 1)) (sym (c .if1 .left)))
+returns-2 c = let a = c .before .before .before .before .args in (words (c .before), ap (λ b. cond b (a .size) (a .size + 1)) (sym (ne-eqb (a .old) (a .new) (c .if1 .left))))
 
 pub note-spec : {M : Type 1} → statement M
 note-spec =
     tie.close
     (tie.spec
-    cast-list
-    mul-list
-    slice-write-list
-    add-result
-    same-length
+    (λ c. search needs)
+    (λ c κs. search needs)
+    (λ c. search needs)
+    (λ c. search needs)
+    (λ c κs. search needs)
+    (λ c. search needs)
+    (λ c. search needs)
+    (λ c. search needs)
+    (λ c. search needs)
+    (λ c. search needs)
     returns
-    same-length-2
+    (λ c. search needs)
     returns-2)

@@ -1,60 +1,19 @@
 -- `open::open_forward` meets its contract. Assumes nothing.
-use Prim.Native.Nat.{_<_}
 use native.Mathlib.Omega.{arith}
-use lib.ListN.{length}
 use borrow.Author.Needs.{needs}
-use Rattle.graph.proofs.Own.{tails-below, fit-table, own-table}
 use Rattle.open.proofs.open_forward.Statement.{statement}
 use Rattle.open.proofs.open_forward.Tie as tie
 
-slice-aggregate-index : tie.Need-slice-aggregate-index
-slice-aggregate-index c = search needs
-
 index-requires : tie.Need-index-requires
 index-requires c κs =
-    let s = c .before .before .before .before .before .before in
-    let g = s .args in
-    let o = s .pre .0 in
-    record {
-      few = o .few;
-      records = omega (arith, o .records);
-      keys = omega (arith, o .room .tails);
-      firsts = omega (arith, o .few);
-      vertices = λ k l. tails-below (g .n) (g .count) (g .tails .now) (g .heads .now) (g .weights .now) (o .room) (o .rules) k (omega arith);
-    }
-
-slice-aggregate-open-rows : tie.Need-slice-aggregate-open-rows
-slice-aggregate-open-rows c = search needs
+    let o = c .before .before .before .before .before .before .before .pre .0 in
+    record { few = o .few; records = o .records; room = o .room; rules = o .rules; firsts = omega (arith, o .few); list = omega (arith, o .few, o .records) }
 
 open-rows-requires : tie.Need-open-rows-requires
-open-rows-requires c κs =
-    let i = c .before .before .before in
-    let s = i .before .before .before .before .before .before .before in
-    let g = s .args in
-    let o = s .pre .0 in
-    let size : g .n < length (i .index .last .1 .1 .1 .0) = omega (arith, i .index .kept .1 .1 .1 .0, o .few) in
-    let fit = fit-table (g .n) (g .count) (g .tails .now) (g .heads .now) (g .weights .now) (o .room) (o .rules) (i .index .last .1 .1 .1 .0) (o .few) (o .records) size (i .index .ensures) in
-    (record { index = fit; landmarks = o .landmarks }, s .pre .1)
-
-same-length : tie.Need-same-length
-same-length c = search needs
+open-rows-requires c κs = let s = c .before .before .before .before .before .before .before .before .before .before .before .before in ((c .before .before .before .before .index2 .ensures .fit, s .pre .0 .landmarks), s .pre .1)
 
 returns : tie.Need-returns
-returns c =
-    let i = c .before .before .before .before .before .before in
-    let s = i .before .before .before .before .before .before .before in
-    let g = s .args in
-    let o = s .pre .0 in
-    c .before .before .open-rows .ensures _
-    (own-table (g .n) (g .count) (g .tails .now) (g .heads .now) (g .weights .now) (o .room) (o .rules) (i .index .last .1 .1 .1 .0) (i .index .ensures))
+returns c = c .before .before .open-rows .ensures _ (c .before .before .before .before .before .before .before .index2 .ensures .own)
 
 pub open-forward-spec : {M : Type 1} → statement M
-open-forward-spec =
-    tie.close
-    (tie.spec
-    slice-aggregate-index
-    index-requires
-    slice-aggregate-open-rows
-    open-rows-requires
-    same-length
-    returns)
+open-forward-spec = tie.close (tie.spec (λ c. search needs) (λ c. search needs) index-requires (λ c. search needs) open-rows-requires (λ c. search needs) returns)

@@ -18,13 +18,13 @@ shared-slice-read-s : tie.Need-shared-slice-read-s
 shared-slice-read-s c = search needs
 
 cast-s : tie.Need-cast-s
-cast-s c = omega (arith, c .shared-slice-known5 .given (c .before .row-landmark .result))
+cast-s c = omega (arith, c .shared-slice-known3 .given (c .before .row-landmark .result))
 
 open-row-requires : tie.Need-open-row-requires
 open-row-requires c κs =
     let i = c .before .before .before in
-    let s = i .before .before .before .before .before .before .before in
-    (s .pre .0 .landmarks .vertices (i .row-landmark .result) (omega (arith, i .row-landmark .ensures)), s .pre .0 .index .few, s .pre .1 .1)
+    let s = i .before .before .before .before .before in
+    (s .pre .0 .1 .vertices (i .row-landmark .result) (omega (arith, i .row-landmark .ensures)), s .pre .0 .0 .few, s .pre .1 .1)
 
 run-unscheduled-requires : tie.Need-run-unscheduled-requires
 run-unscheduled-requires c κs = search needs
@@ -41,7 +41,7 @@ returns c =
     let o = q .before .before .before .before .before in
     let i = o .before .before .before .before in
     let p = i .before in
-    let g = p .before .before .before .before .before .before .args in
+    let g = p .before .before .before .before .args in
     λ es h. row-settled (g .n) (g .r) (g .landmarks .now) es _ _ _ _ (q .run-unscheduled .result) (p .row-property .ensures) (i .row-landmark .ensures) (o .open-row .ensures .0) (q .run-unscheduled .ensures .0 es h) (c .any .result) (q .run-unscheduled .ensures .1 .sized .waiting) (c .any .ensures)
 
 pub open-row-spec : {M : Type 1} → statement M

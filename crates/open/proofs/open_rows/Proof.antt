@@ -8,7 +8,7 @@ use lib.ListN.{length, take}
 use borrow.Author.Needs.{needs}
 use borrow.Rule.Slice.PartMut.{same-len-mid}
 use Rattle.graph.specs.Edge.{Edge, range}
-use Rattle.graph.specs.Own.{Own}
+use Rattle.graph.specs.Index.{Own}
 use Rattle.network.specs.Network.{rowCount}
 use Rattle.network.specs.Open.{openRow}
 use Rattle.calls.specs.Code.{AreRows}
@@ -18,15 +18,15 @@ use Rattle.open.proofs.open_rows.Statement.{statement}
 use Rattle.open.proofs.open_rows.Tie as tie
 
 abbrev Inv-loop : tie.InvT-loop
-Inv-loop n count landmarks firsts heads weights out₀ rows waiting₀ waits₀ r₀ out waiting waits r =
-    ((es : List Edge) → Own n firsts heads weights es → AreRows (map (openRow n landmarks es) (range 0 r)) (take (r * n) out) waits)
+Inv-loop n landmarks index out₀ rows waiting₀ waits₀ r₀ out waiting waits r =
+    ((es : List Edge) → Own n index es → AreRows (map (openRow n landmarks es) (range 0 r)) (take (r * n) out) waits)
     × (r ≤ rows) × (length out ≡ length out₀)
 
 abbrev μ-loop : tie.MeasureT-loop
-μ-loop n count landmarks firsts heads weights out₀ rows waiting₀ waits₀ r₀ out waiting waits r = rows - r
+μ-loop n landmarks index out₀ rows waiting₀ waits₀ r₀ out waiting waits r = rows - r
 
 abbrev begin : tie.At-loop Inv-loop μ-loop → tie.Start Inv-loop μ-loop
-begin l = l .before .before .before .before .before .before .before
+begin l = l .before .before .before .before .before
 
 -- the row of a turn ends within the list
 within : (c : tie.In-loop Inv-loop μ-loop) → let g = begin (c .before) .args in c .before .loop .r * g .n + g .n ≤ length (c .before .loop .out)
@@ -43,7 +43,7 @@ empty-requires c κs = search needs
 
 loop-holds : tie.Need-loop-holds Inv-loop μ-loop
 loop-holds c =
-    let g = c .before .before .before .before .before .before .args in
+    let g = c .before .before .before .before .args in
     (λ es o. rows-none (openRow (g .n) (g .landmarks .now) es) (g .n) (g .out .now), omega arith, refl)
 
 mul-start : tie.Need-mul-start Inv-loop μ-loop
@@ -71,7 +71,7 @@ open-row-requires c κs =
     (s .pre .0, (omega arith, row-size (s .args .n) (l .loop .r * s .args .n) (l .loop .out) (within (c .before .before))))
 
 add-r : tie.Need-add-r Inv-loop μ-loop
-add-r c = omega (arith, begin (c .before .before .before .before .before .before) .pre .0 .landmarks .few, c .before .before .before .before .before .loop-test .taken)
+add-r c = omega (arith, begin (c .before .before .before .before .before .before) .pre .0 .1 .few, c .before .before .before .before .before .loop-test .taken)
 
 loop-less : tie.Need-loop-less Inv-loop μ-loop
 loop-less c = omega (arith, c .before .before .before .before .before .loop-test .taken)
@@ -83,8 +83,8 @@ loop-again c =
     let g = begin l .args in
     let a = l .loop .r * g .n in
     let call = c .before .before .open-row in
-    let part = call .last .1 .1 .1 .1 .1 .1 .1 .1 .0 in
-    let size = call .kept .1 .1 .1 .1 .1 .1 .1 .1 .0 in (
+    let part = call .last .1 .1 .1 .1 .1 .0 in
+    let size = call .kept .1 .1 .1 .1 .1 .0 in (
       λ es o. rows-turn (openRow (g .n) (g .landmarks .now) es) (g .n) (l .loop .r) (a + g .n - a) (l .loop .out) part (l .loop .waits) (call .result)
           (omega (arith, within t))
           (size ∙ row-size (g .n) a (l .loop .out) (within t))

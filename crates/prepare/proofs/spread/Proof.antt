@@ -1,93 +1,37 @@
--- `prepare::spread` meets its contract. The loop's invariant is `Spreads`; what falls is twice the vertices without a mark and once
--- those to do. Assumes nothing.
-use mathlib.Core.Path.{sym, _∙_}
-use mathlib.Core.List.{List}
-use Prim.Native.Nat.{_+_, _-_, _*_, _<_}
-use native.Mathlib.Omega.{arith}
+-- `prepare::spread` meets its contract. Assumes nothing.
 use Rattle.property.specs.Property.{property}
-use Rattle.frontier.specs.Waiting.{waitingOf, capacity, countOf}
-use Rattle.frontier.proofs.Laws.{First, next-first, next-none}
-use Rattle.graph.specs.Edge.{Edge}
-use Rattle.graph.specs.Own.{Own}
-use Rattle.run.proofs.States.{marks-within}
-use Rattle.prepare.specs.Code.{Going, Spreads}
-use Rattle.prepare.proofs.Spreading.{spreads-none, spreads-turn, spreads-then, spread-falls, taken-going}
+use Rattle.property.proofs.Instances.{property-rest}
 use borrow.Author.Needs.{needs}
 use Rattle.prepare.proofs.spread.Statement.{statement}
 use Rattle.prepare.proofs.spread.Tie as tie
 
-abbrev Inv-loop : tie.InvT-loop
-Inv-loop p n s count firsts iheads iweights words marks₀ todo₀ marks todo = ((es : List Edge) → Own n firsts iheads iweights es → Spreads (property p) n s es words marks₀ todo₀ marks todo) × Going n marks todo
+returns : tie.Need-returns
+returns c = rw (c .before .before .before .match .keys1) (c .spread-of .ensures)
 
-abbrev μ-loop : tie.MeasureT-loop
-μ-loop p n s count firsts iheads iweights words marks₀ todo₀ marks todo = 2 * (capacity - countOf (waitingOf marks)) + countOf (waitingOf todo)
+returns-2 : tie.Need-returns-2
+returns-2 c = rw (c .before .before .before .match .keys2) (c .spread-of2 .ensures)
 
--- what was found
-found : (c : tie.After-next Inv-loop μ-loop) → First (waitingOf (c .before .before .before .before .loop .todo)) 0 (c .next .given .0 .0)
-found c = next-first _ _ _ (sym (c .before .before .next-from .ensures .0) ∙ c .next .given .1)
+returns-3 : tie.Need-returns-3
+returns-3 c = rw (c .before .before .before .match .keys3) (c .spread-of3 .ensures)
 
--- it is one of the vertices
-found-within : (c : tie.After-next Inv-loop μ-loop) → c .next .given .0 .0 < c .before .before .before .before .before .before .before .before .before .args .n
-found-within c = marks-within _ (c .before .before .before .before .loop .todo) _ (c .before .before .before .before .loop .inv .1 .todo) (found c .waits)
+returns-4 : tie.Need-returns-4
+returns-4 c = rw (c .before .before .before .match .keys4) (c .spread-of4 .ensures)
 
-loop-holds : tie.Need-loop-holds Inv-loop μ-loop
-loop-holds c = ((λ es o. spreads-none), c .before .before .before .before .pre .2)
-
-next-from-requires : tie.Need-next-from-requires Inv-loop μ-loop
-next-from-requires c κs = search needs
-
-enum-known-next : tie.Need-enum-known-next Inv-loop μ-loop
-enum-known-next c = search needs
-
-enum-told : tie.Need-enum-told Inv-loop μ-loop
-enum-told c = search needs
-
-returns : tie.Need-returns Inv-loop μ-loop
-returns c =
-    let f = c .before .before in
-    let l = f .before .before in
-    (l .loop .inv .0, (l .loop .inv .1, λ t. next-none (waitingOf (l .loop .todo)) 0 (sym (f .next-from .ensures .0) ∙ c .enum-told .given .1) t (omega arith)))
-
-remove-requires : tie.Need-remove-requires Inv-loop μ-loop
-remove-requires c κs = let z = found-within (c .before .before) in search needs
-
-spread-from-requires : tie.Need-spread-from-requires Inv-loop μ-loop
-spread-from-requires c κs =
-    let r = c .before .before in
-    let k = r .before .before .before in
-    let l = k .before .before .before .before in
-    let s = l .before .before .before .before .before in
-    let h = found-within k in
-    ((h, s .pre .0, s .pre .1), (taken-going _ (l .loop .inv .1) _ h (r .remove .ensures), l .loop .inv .1 .among _ (found k .waits)))
-
-loop-less : tie.Need-loop-less Inv-loop μ-loop
-loop-less c =
-    let r = c .before .before .before in
-    let k = r .before .before .before in
-    let l = k .before .before .before .before in
-    spread-falls _ (l .loop .inv .1) (found k .waits) _ _ _ (r .remove .ensures) (c .spread-from .ensures .going .marks) (c .spread-from .ensures .grown)
-
-loop-again : tie.Need-loop-again Inv-loop μ-loop
-loop-again c =
-    let r = c .before .before .before in
-    let k = r .before .before .before in
-    let l = k .before .before .before .before in
-    let a = l .before .before .before .before .before .args in
-    let h = found-within k in
-    ((λ es o. spreads-then (l .loop .inv .0 es o) (spreads-turn _ (l .loop .inv .1) (a .firsts .now) _ (r .remove .ensures) _ _ h (c .spread-from .ensures) es o)), c .spread-from .ensures .going)
+returns-5 : tie.Need-returns-5
+unfolding property
+returns-5 c = rw (property-rest _ (c .before .before .before .match .rest)) (c .spread-of5 .ensures)
 
 pub spread-spec : {M : Type 1} → statement M
 spread-spec =
     tie.close
     (tie.spec
-    Inv-loop
-    μ-loop
-    loop-holds
-    next-from-requires
-    enum-known-next
-    enum-told
+    (λ c κs. search needs)
+    (λ c κs. search needs)
+    (λ c κs. search needs)
+    (λ c κs. search needs)
+    (λ c κs. search needs)
     returns
-    remove-requires
-    spread-from-requires
-    loop-less
-    loop-again)
+    returns-2
+    returns-3
+    returns-4
+    returns-5)

@@ -1,7 +1,9 @@
 -- `prepare::spread_from` meets its contract. The loop's invariant is `Along`. Assumes nothing.
-use Prim.Native.Nat.{_+_, _-_, _≤_}
+use Prim.Native.Nat.{_+_, _-_, _≤_, _<_}
 use native.Mathlib.Omega.{arith}
+use lib.ListN.{length, getD}
 use Rattle.property.specs.Property.{property}
+use Rattle.graph.specs.Arc.{arcHead}
 use Rattle.prepare.specs.Code.{Along}
 use Rattle.prepare.proofs.Spreading.{along-start, along-turn, along-as}
 use borrow.Author.Needs.{needs}
@@ -9,73 +11,44 @@ use Rattle.prepare.proofs.spread_from.Statement.{statement}
 use Rattle.prepare.proofs.spread_from.Tie as tie
 
 abbrev Inv-loop : tie.InvT-loop
-Inv-loop p n s count u firsts iheads iweights words marks₀ todo₀ hi j₀ marks todo j = Along (property p) n s iheads iweights u j₀ j words marks₀ todo₀ marks todo × (j₀ ≤ j) × (j ≤ hi) × (hi ≤ count)
+Inv-loop p n s u old words marks₀ todo₀ hi j₀ marks todo j =
+    Along (property p) n s old u j₀ j words marks₀ todo₀ marks todo × (j₀ ≤ j) × (j ≤ hi) × (hi ≤ getD old n 0) × (n < j₀) × (hi ≤ length old)
 
 abbrev μ-loop : tie.MeasureT-loop
-μ-loop p n s count u firsts iheads iweights words marks₀ todo₀ hi j₀ marks todo j = hi - j
-
-add-hi : tie.Need-add-hi Inv-loop μ-loop
-add-hi c = search needs
-
-mul-hi : tie.Need-mul-hi Inv-loop μ-loop
-mul-hi c = search needs
-
-shared-slice-read-hi : tie.Need-shared-slice-read-hi Inv-loop μ-loop
-shared-slice-read-hi c = search needs
+μ-loop p n s u old words marks₀ todo₀ hi j₀ marks todo j = hi - j
 
 cast-hi : tie.Need-cast-hi Inv-loop μ-loop
-cast-hi c = omega (arith, c .shared-slice-known5 .given (c .before .before .before .before .before .args .u + 1))
-
-mul-j : tie.Need-mul-j Inv-loop μ-loop
-mul-j c = search needs
-
-shared-slice-read-j : tie.Need-shared-slice-read-j Inv-loop μ-loop
-shared-slice-read-j c = search needs
+cast-hi c = omega (arith, c .shared-slice-known3 .given (c .before .before .before .args .u + 1))
 
 cast-j : tie.Need-cast-j Inv-loop μ-loop
-cast-j c = omega (arith, c .shared-slice-known6 .given (c .before .before .before .before .before .before .args .u))
+cast-j c = omega (arith, c .shared-slice-known4 .given (c .before .before .before .before .args .u))
 
 loop-holds : tie.Need-loop-holds Inv-loop μ-loop
 loop-holds c =
-    let s = c .before .before .before .before .before .before in
+    let s = c .before .before .before .before in
     let a = s .args in
-    (along-start (s .pre .1 .0), omega arith, s .pre .0 .2 .rising (a .u) (s .pre .0 .0), s .pre .0 .2 .within (a .u) (s .pre .0 .0))
+    let f = s .pre .0 .2 in
+    let w = f .within (a .u) (s .pre .0 .0) in
+    (along-start (s .pre .1 .0), omega arith, f .rising (a .u) (s .pre .0 .0), w, f .after (a .u) (omega (arith, s .pre .0 .0)), omega (arith, w, f .last))
 
-cast-mark-head : tie.Need-cast-mark-head Inv-loop μ-loop
-cast-mark-head c = search needs
-
-mul-mark-head : tie.Need-mul-mark-head Inv-loop μ-loop
-mul-mark-head c = search needs
-
-shared-slice-read-mark-head : tie.Need-shared-slice-read-mark-head Inv-loop μ-loop
-shared-slice-read-mark-head c = search needs
-
-mul-mark-head-2 : tie.Need-mul-mark-head-2 Inv-loop μ-loop
-mul-mark-head-2 c = search needs
-
-shared-slice-read-mark-head-2 : tie.Need-shared-slice-read-mark-head-2 Inv-loop μ-loop
-shared-slice-read-mark-head-2 c = search needs
+-- the head of the arc at hand is a vertex
+inside : (t : tie.In-loop Inv-loop μ-loop) → let s = t .before .before .before .before .before .before in arcHead (getD (s .args .old .now) (t .before .loop .j) 0) < s .args .n
+inside t = let v = t .before .loop .inv in t .before .before .before .before .before .before .pre .0 .2 .inside (t .before .loop .j) (omega (arith, v .1, v .4)) (omega (arith, v .3, t .loop-test .taken))
 
 mark-head-requires : tie.Need-mark-head-requires Inv-loop μ-loop
 mark-head-requires c κs =
-    let t = c .before .before .before .before in
-    let l = t .before in
-    let s = l .before .before .before .before .before .before .before in
-    (s .pre .0 .0, s .pre .0 .2 .inside (l .loop .j) (omega arith), s .pre .0 .2 .few, s .pre .0 .1)
-
-add-j : tie.Need-add-j Inv-loop μ-loop
-add-j c = search needs
-
-loop-less : tie.Need-loop-less Inv-loop μ-loop
-loop-less c = search needs
+    let t = c .before .before .before .before .before in
+    let s = t .before .before .before .before .before .before in
+    (s .pre .0 .0, omega (arith, inside t, c .before .before .before .head .ensures), s .pre .0 .2 .few, s .pre .0 .1)
 
 loop-again : tie.Need-loop-again Inv-loop μ-loop
 loop-again c =
-    let t = c .before .before .before .before .before in
+    let t = c .before .before .before .before .before .before in
     let l = t .before in
-    let s = l .before .before .before .before .before .before .before in
-    let h = s .pre .0 .2 .inside (l .loop .j) (omega arith) in
-    (along-turn (l .loop .inv .0) (s .pre .1 .1) (l .loop .inv .1) h _ _ (c .mark-head .ensures .0) (c .mark-head .ensures .1), omega arith, omega arith, omega arith)
+    let s = l .before .before .before .before .before in
+    let h = c .before .before .before .before .head .ensures in
+    let w = c .before .before .before .weight .ensures in
+    (along-turn (l .loop .inv .0) (s .pre .1 .1) (l .loop .inv .1) (inside t) _ _ (rw (h, w) at (c .mark-head .ensures .0)) (rw (h, w) at (c .mark-head .ensures .1)), omega arith, omega arith, l .loop .inv .3, l .loop .inv .4, l .loop .inv .5)
 
 returns : tie.Need-returns Inv-loop μ-loop
 returns c =
@@ -88,21 +61,21 @@ spread-from-spec =
     (tie.spec
     Inv-loop
     μ-loop
-    add-hi
-    mul-hi
-    shared-slice-read-hi
+    (λ c. search needs)
+    (λ c. search needs)
+    (λ c. search needs)
     cast-hi
-    mul-j
-    shared-slice-read-j
+    (λ c. search needs)
+    (λ c. search needs)
     cast-j
     loop-holds
-    cast-mark-head
-    mul-mark-head
-    shared-slice-read-mark-head
-    mul-mark-head-2
-    shared-slice-read-mark-head-2
+    (λ c. search needs)
+    (λ c. search needs)
+    (λ c. search needs)
+    (λ c κs. search needs)
+    (λ c κs. search needs)
     mark-head-requires
-    add-j
-    loop-less
+    (λ c. search needs)
+    (λ c. search needs)
     loop-again
     returns)

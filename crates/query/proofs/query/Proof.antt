@@ -2,10 +2,11 @@
 use borrow.Author.Needs.{needs}
 use native.Mathlib.Omega.{arith}
 use mathlib.Core.Path.{_≡_, sym}
-use Prim.Native.Nat.{ℕ, _≤_}
+use Prim.Native.Nat.{ℕ}
 use lib.ListN.{length, replicate}
 use lib.Seq.{length-take-le}
 use Rattle.graph.proofs.Judging.{fine-accept}
+use Rattle.graph.proofs.Records.{room-less}
 use Rattle.graph.specs.Limits.{maxVertices}
 use Rattle.graph.specs.Refusal.{accept}
 use Rattle.network.specs.Network.{Network}
@@ -13,7 +14,7 @@ use Rattle.network.specs.Query.{Query}
 use Rattle.calls.specs.Code.{network}
 use Rattle.network.specs.Query.{queryFaults}
 use Rattle.query.specs.Code.{asking}
-use Rattle.query.proofs.AskingFaults.{faults-accept}
+use Rattle.query.proofs.AskingFaults.{Sound, faults-accept}
 use Rattle.query.proofs.AskingRun.{query-refused}
 use Rattle.query.proofs.query.Statement.{statement}
 use Rattle.query.proofs.query.Tie as tie
@@ -31,17 +32,11 @@ ask s = let a = s .args in asking (a .property) (a .source) (a .schedule .now)
 fine : (c : tie.After-enum-told) → let s = begin (c .before .before) in queryFaults (s .args .n) (s .args .landmarks .now) (net s) (ask s) (length (s .args .starts .now)) (length (s .args .settled .now)) ≡ accept
 fine c = fine-accept _ _ (c .before .before .judge-query .ensures) (c .enum-told .given .1)
 
-few : (c : tie.After-enum-told) → begin (c .before .before) .args .n ≤ maxVertices
-few c =
+sound : (c : tie.After-enum-told) → let s = begin (c .before .before) in Sound (s .args .n) (s .args .landmarks .now) (net s) (ask s) (length (s .args .starts .now)) (length (s .args .settled .now))
+sound c =
     let s = begin (c .before .before) in
     let a = s .args in
-    faults-accept (a .n) (a .landmarks .now) (net s) (ask s) (length (a .starts .now)) (length (a .settled .now)) (fine c) .rows .few
-
-judge-query-requires : tie.Need-judge-query-requires
-judge-query-requires c κs = search needs
-
-enum-known-judged : tie.Need-enum-known-judged
-enum-known-judged c = search needs
+    faults-accept (a .n) (a .landmarks .now) (net s) (ask s) (length (a .starts .now)) (length (a .settled .now)) (fine c)
 
 returns : tie.Need-returns
 returns c =
@@ -49,54 +44,51 @@ returns c =
     let s = begin j in
     query-refused (s .args .n) (s .args .landmarks .now) (net s) (ask s) (s .args .starts .now) (s .args .settled .now) _ (j .judge-query .ensures) (c .before .judged .given .1)
 
-enum-told : tie.Need-enum-told
-enum-told c = search needs
-
-slice-aggregate-query-in : tie.Need-slice-aggregate-query-in
-slice-aggregate-query-in c = search needs
+index-requires : tie.Need-index-requires
+index-requires c κs =
+    let g = sound (c .before .before) in
+    record { few = g .rows .few; records = g .records; room = room-less (g .records) (g .room); rules = g .rules; firsts = omega (arith, g .rows .few); list = omega (arith, g .rows .few, g .records) }
 
 array-borrow-prefix-start : tie.Need-array-borrow-prefix-start
-array-borrow-prefix-start c = few (c .before)
+array-borrow-prefix-start c = sound (c .before .before .before .before .before .before) .rows .few
 
 slice-aggregate-query-in-2 : tie.Need-slice-aggregate-query-in-2
-slice-aggregate-query-in-2 c = sym (length-take-le (begin (c .before .before .before .before) .args .n) (replicate maxVertices 0) (few (c .before .before)))
+slice-aggregate-query-in-2 c = sym (length-take-le (begin (c .before .before .before .before .before .before .before .before .before) .args .n) (replicate maxVertices 0) (sound (c .before .before .before .before .before .before .before) .rows .few))
 
 array-borrow-prefix-row : tie.Need-array-borrow-prefix-row
-array-borrow-prefix-row c = few (c .before .before)
+array-borrow-prefix-row c = sound (c .before .before .before .before .before .before .before) .rows .few
 
 slice-aggregate-query-in-3 : tie.Need-slice-aggregate-query-in-3
-slice-aggregate-query-in-3 c = sym (length-take-le (begin (c .before .before .before .before .before) .args .n) (replicate maxVertices 0) (few (c .before .before .before)))
+slice-aggregate-query-in-3 c = sym (length-take-le (begin (c .before .before .before .before .before .before .before .before .before .before) .args .n) (replicate maxVertices 0) (sound (c .before .before .before .before .before .before .before .before) .rows .few))
 
 query-in-requires : tie.Need-query-in-requires
 query-in-requires c κs =
-    let d = c .before .before .before .before .before in
-    let e = length-take-le {A = ℕ} (begin (d .before .before) .args .n) (replicate maxVertices 0) (few d) in
-    let l = few d in
-    (fine d, (omega arith, e, e))
-
-same-length : tie.Need-same-length
-same-length c = search needs
-
-same-length-2 : tie.Need-same-length-2
-same-length-2 c = search needs
+    let g = sound (c .before .before .before .before .before .before .before .before .before .before) in
+    let e = length-take-le {A = ℕ} (begin (c .before .before .before .before .before .before .before .before .before .before .before .before) .args .n) (replicate maxVertices 0) (g .rows .few) in
+    ((c .before .before .before .before .before .before .before .index2 .ensures .fit, g .rows, g .schedule), (e, e, g .starts, g .settled))
 
 returns-2 : tie.Need-returns-2
-returns-2 c = search needs
+returns-2 c =
+    let a = begin (c .before .before .before .before .before .before .before .before .before .before .before .before .before .before .before .before .before .before .before) .args in
+    c .before .before .before .before .before .before .query-in .ensures (a .tails .now) (a .heads .now) (a .weights .now) (a .count) (c .before .before .before .before .before .before .before .before .before .before .before .before .before .before .index2 .ensures .own) (fine (c .before .before .before .before .before .before .before .before .before .before .before .before .before .before .before .before .before))
 
 pub query-spec : {M : Type 1} → statement M
 query-spec =
     tie.close
     (tie.spec
-    judge-query-requires
-    enum-known-judged
+    (λ c κs. search needs)
+    (λ c. search needs)
     returns
-    enum-told
-    slice-aggregate-query-in
+    (λ c. search needs)
+    (λ c. search needs)
+    (λ c. search needs)
+    index-requires
+    (λ c. search needs)
     array-borrow-prefix-start
     slice-aggregate-query-in-2
     array-borrow-prefix-row
     slice-aggregate-query-in-3
     query-in-requires
-    same-length
-    same-length-2
+    (λ c. search needs)
+    (λ c. search needs)
     returns-2)

@@ -1,57 +1,109 @@
--- `query::start_words` meets its contract. Assumes nothing.
+-- `query::start_words` meets its contract. The loop's invariant: the words are the bounds over the landmarks from i on. Assumes nothing.
 use borrow.Author.Needs.{needs}
 use native.Mathlib.Omega.{arith}
-use mathlib.Core.Path.{_≡_, _∙_}
-use Prim.Native.Nat.{ℕ, _-_, _<_, _≤_}
-use lib.ListN.{length, getD, length-set}
+use mathlib.Core.Path.{_≡_, refl, sym, ap, _∙_}
+use mathlib.Core.Logic.{⊎-elim}
+use Prim.Native.Nat.{ℕ, _+_, _-_, _<_, _≤_}
+use lib.ListN.{length, getD, set, replicate, length-set, length-replicate}
 use Rattle.property.specs.Property.{property}
-use Rattle.run.specs.Start.{asked}
+use Rattle.graph.proofs.Lists.{at-set, getD-within, replicate-at}
+use Rattle.run.specs.Start.{Landmark, asked}
 use Rattle.query.specs.Code.{knownBy}
-use Rattle.query.proofs.Asking.{startOf, words-turn, words-done}
+use Rattle.query.proofs.Asking.{entry, boundFrom, bound-none, bound-turn, bound-done, entry-join, startOf, start-source, start-other, words-done}
+use Rattle.calls.proofs.Rows.{row-within}
 use Rattle.query.proofs.start_words.Statement.{statement}
 use Rattle.query.proofs.start_words.Tie as tie
 
 abbrev Inv-loop : tie.InvT-loop
-Inv-loop p n landmarks source forward backward out₀ t₀ out t =
-    ((j : ℕ) → j < t → getD out j 0 ≡ startOf (property p) (knownBy n landmarks p source forward backward) source j) × (length out ≡ n) × (t ≤ n)
+Inv-loop p n landmarks source forward backward out₀ i₀ out i =
+    ((t : ℕ) → t < n → getD out t 0 ≡ boundFrom (property p) (entry n landmarks p source forward backward) (length landmarks) t i) × (length out ≡ n) × (i ≤ length landmarks)
 
 abbrev μ-loop : tie.MeasureT-loop
-μ-loop p n landmarks source forward backward out₀ t₀ out t = n - t
+μ-loop p n landmarks source forward backward out₀ i₀ out i = i
+
+abbrev start : tie.At-loop Inv-loop μ-loop → tie.Start Inv-loop μ-loop
+start l = l .before .before .before .before .before .before .before .before .before .before
+
+abbrev told : tie.Start Inv-loop μ-loop → ℕ → Landmark
+told s = let a = s .args in entry (a .n) (a .landmarks .now) (a .p) (a .source) (a .forward .now) (a .backward .now)
 
 loop-holds : tie.Need-loop-holds Inv-loop μ-loop
-loop-holds c = (λ j l. absurd (omega arith), c .before .before .before .before .pre .0, omega arith)
+loop-holds c =
+    let f = c .before .before in
+    let s = f .before .before .before .before .before .before .before in
+    let a = s .args in
+    let e = f .fill .ensures in
+    let z = length-replicate (length (a .out .now)) (f .before .none .result) in (
+      (λ t l.
+          ap (λ x. getD x t 0) e ∙ getD-within (replicate (length (a .out .now)) (f .before .none .result)) t 0 (f .before .none .result) (omega (arith, s .pre .0)) ∙ replicate-at (length (a .out .now)) t (f .before .none .result) ∙ f .before .none .ensures
+          ∙ sym (bound-none (property (a .p)) (told s) (length (a .landmarks .now)) t)),
+      ap length e ∙ z ∙ s .pre .0,
+      omega arith,
+    )
 
-start-word-requires : tie.Need-start-word-requires Inv-loop μ-loop
-start-word-requires c κs = search needs
+row-start-requires : tie.Need-row-start-requires Inv-loop μ-loop
+row-start-requires c κs = search needs
 
-mul-out : tie.Need-mul-out Inv-loop μ-loop
-mul-out c = search needs
+-- the row lies in both lists
+inside : (c : tie.After-row-start Inv-loop μ-loop) → let a = start (c .before .before) .args in (c .row-start .result + a .n ≤ length (a .backward .now)) × (c .row-start .result + a .n ≤ length (a .forward .now))
+inside c =
+    let b = c .before .before in
+    let a = start b .args in
+    let h = start b .pre .1 in
+    let y = row-within (a .n) (b .loop .i - 1) (a .p) (length (a .landmarks .now)) (length (a .backward .now)) (omega arith) (h .first) (h .last) (h .backward) in
+    let z = row-within (a .n) (b .loop .i - 1) (a .p) (length (a .landmarks .now)) (length (a .forward .now)) (omega arith) (h .first) (h .last) (h .forward) in
+    (omega (arith, c .row-start .ensures), omega (arith, c .row-start .ensures))
 
-slice-write-out : tie.Need-slice-write-out Inv-loop μ-loop
-slice-write-out c = search needs
+add-join-row : tie.Need-add-join-row Inv-loop μ-loop
+add-join-row c = let h = inside c in omega (arith, start (c .before .before) .pre .1 .source)
 
-add-t : tie.Need-add-t Inv-loop μ-loop
-add-t c = search needs
+mul-join-row : tie.Need-mul-join-row Inv-loop μ-loop
+mul-join-row c = let h = inside c in omega (arith, start (c .before .before) .pre .1 .source)
 
-loop-less : tie.Need-loop-less Inv-loop μ-loop
-loop-less c = search needs
+shared-slice-read-join-row : tie.Need-shared-slice-read-join-row Inv-loop μ-loop
+shared-slice-read-join-row c = let h = inside (c .before) in omega (arith, start (c .before .before .before) .pre .1 .source)
+
+join-row-requires : tie.Need-join-row-requires Inv-loop μ-loop
+join-row-requires c κs = let h = inside (c .before .before) in let l = c .before .before .before .before in omega (arith, h .1, l .loop .inv .1)
 
 loop-again : tie.Need-loop-again Inv-loop μ-loop
 loop-again c =
-    let l = c .before .before in (
-      words-turn _ (l .loop .out) (l .loop .t) (l .loop .inv .0) (c .start-word .result) (omega arith) (c .start-word .ensures),
-      length-set (l .loop .out) (l .loop .t) (c .start-word .result) ∙ l .loop .inv .1,
+    let j = c .before .before in
+    let r = j .before .before .before in
+    let l = r .before .before in
+    let s = start l in
+    let a = s .args in
+    let h = s .pre .1 in
+    let i = inside r in (
+      (λ t b.
+          let v = entry-join (a .n) (a .landmarks .now) (a .p) (a .source) (a .forward .now) (a .backward .now) (l .loop .i - 1) t (r .row-start .result) _ (r .row-start .ensures) (h .source) b (omega (arith, h .source)) (omega arith) refl in
+          bound-turn (property (a .p)) (told s) (length (a .landmarks .now)) t (l .loop .i) _ _ _ (omega arith) (l .loop .inv .2) v (l .loop .inv .0 t b) (j .join-row .ensures t (omega (arith, l .loop .inv .1)))),
+      search needs,
       omega arith,
     )
 
 same-length : tie.Need-same-length Inv-loop μ-loop
-same-length c = search needs
+same-length c =
+    let l = c .before .before in
+    let s = start l in
+    length-set (l .loop .out) (s .args .source) (c .start .result) ∙ l .loop .inv .1 ∙ sym (s .pre .0)
 
 returns : tie.Need-returns Inv-loop μ-loop
 unfolding asked
 returns c =
-    let l = c .before in
-    words-done _ (l .loop .out) (l .loop .t) (l .loop .inv .0) _ (l .loop .inv .1) (c .loop-test .left)
+    let l = c .before .before in
+    let s = start l in
+    let a = s .args in
+    let P = property (a .p) in
+    let ls = knownBy (a .n) (a .landmarks .now) (a .p) (a .source) (a .forward .now) (a .backward .now) in
+    let n : length (l .loop .out) ≡ a .n = l .loop .inv .1 in
+    words-done (startOf P ls (a .source)) (set (l .loop .out) (a .source) (c .start .result)) (a .n)
+    (λ j b.
+    ⊎-elim
+    (λ e. start-source P ls j (a .source) (e .0) (e .1 ∙ c .start .ensures))
+    (λ e. start-other P ls j (a .source) (e .0) (e .1 ∙ bound-done P (told s) (length (a .landmarks .now)) j (l .loop .i) _ (omega arith) (l .loop .inv .0 j b)))
+    (at-set (l .loop .out) (a .source) (c .start .result) j 0 (omega (arith, s .pre .1 .source))))
+    (a .n) (length-set (l .loop .out) (a .source) (c .start .result) ∙ n) (omega arith)
 
 pub start-words-spec : {M : Type 1} → statement M
 start-words-spec =
@@ -59,12 +111,19 @@ start-words-spec =
     (tie.spec
     Inv-loop
     μ-loop
+    (λ c κs. search needs)
+    (λ c κs. search needs)
     loop-holds
-    start-word-requires
-    mul-out
-    slice-write-out
-    add-t
-    loop-less
+    (λ c. search needs)
+    row-start-requires
+    add-join-row
+    mul-join-row
+    shared-slice-read-join-row
+    join-row-requires
+    (λ c. search needs)
     loop-again
+    (λ c κs. search needs)
+    (λ c. search needs)
+    (λ c. search needs)
     same-length
     returns)

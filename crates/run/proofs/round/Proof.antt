@@ -1,139 +1,42 @@
--- `run::round` meets its contract. The loop's invariant: the vertices from `i` on, visited from the state now, come to what all come to from the
--- state in which the round begins. Assumes nothing.
-use mathlib.Core.Path.{_≡_, sym, _∙_}
-use mathlib.Core.List.{List, foldl}
-use Prim.Native.Nat.{_-_, _*_, _≤_, _<_}
-use native.Mathlib.Nat.{sub-zero}
-use native.Mathlib.Omega.{arith}
+-- `run::round` meets its contract: each arm is the property of its number. Assumes nothing.
 use borrow.Author.Needs.{needs}
 use Rattle.property.specs.Property.{property}
-use Rattle.frontier.specs.Waiting.{waitingOf}
-use Rattle.frontier.proofs.Laws.{First, next-first, next-none}
-use Rattle.graph.specs.Limits.{maxEdges}
-use Rattle.graph.specs.Edge.{Edge, range}
-use Rattle.graph.specs.Own.{Own}
-use Rattle.run.specs.Run as spec
-use Rattle.run.specs.Code.{state, Ran}
-use Rattle.run.proofs.States.{marks-within, ran-none, ran-then}
-use Rattle.run.proofs.Rounds.{round-next, round-none, round-ends, round-begins, ran-round}
+use Rattle.property.proofs.Instances.{property-rest}
 use Rattle.run.proofs.round.Statement.{statement}
 use Rattle.run.proofs.round.Tie as tie
 
-abbrev Inv-loop : tie.InvT-loop
-Inv-loop p n count firsts heads weights words₀ waiting₀ t₀ i₀ words waiting t i =
-    ((es : List Edge) → Own n firsts heads weights es
-    → foldl (spec.visit (property p) es) (state n words waiting t) (range i (n - i)) ≡ foldl (spec.visit (property p) es) (state n words₀ waiting₀ t₀) (range 0 n))
-    × (i ≤ n) × Ran n words waiting t₀ t 0 0 (maxEdges * i)
+returns : tie.Need-returns
+returns c = rw (c .before .before .before .before .before .match .keys1) (c .before .before .round-of .ensures)
 
-abbrev μ-loop : tie.MeasureT-loop
-μ-loop p n count firsts heads weights words₀ waiting₀ t₀ i₀ words waiting t i = n - i
+returns-2 : tie.Need-returns-2
+returns-2 c = rw (c .before .before .before .before .before .match .keys2) (c .before .before .round-of2 .ensures)
 
--- what was found
-found : (c : tie.After-next Inv-loop μ-loop)
-    → First (waitingOf (c .before .before .before .before .before .loop .waiting)) (c .before .before .before .before .before .loop .i) (c .next .given .0 .0)
-found c = next-first _ _ _ (sym (c .before .before .next-from .ensures .0) ∙ c .next .given .1)
+returns-3 : tie.Need-returns-3
+returns-3 c = rw (c .before .before .before .before .before .match .keys3) (c .before .before .round-of3 .ensures)
 
--- it is one of the vertices
-found-within : (c : tie.After-next Inv-loop μ-loop) → c .next .given .0 .0 < c .before .before .before .before .before .before .before .before .before .before .before .args .n
-found-within c = marks-within _ (c .before .before .before .before .before .loop .waiting) _ (c .before .before .before .before .before .loop .inv .2 .sized .waiting) (found c .waits)
+returns-4 : tie.Need-returns-4
+returns-4 c = rw (c .before .before .before .before .before .match .keys4) (c .before .before .round-of4 .ensures)
 
-add-t14 : tie.Need-add-t14 Inv-loop μ-loop
-add-t14 c = search needs
-
-loop-holds : tie.Need-loop-holds Inv-loop μ-loop
-loop-holds c =
-    let s = c .before .before .before .before .before in
-    ((λ es o. rw sub-zero), omega arith, ran-none (s .pre .sized) _ 0 0 0)
-
-next-from-requires : tie.Need-next-from-requires Inv-loop μ-loop
-next-from-requires c κs = search needs
-
-enum-known-next : tie.Need-enum-known-next Inv-loop μ-loop
-enum-known-next c = search needs
-
-enum-told : tie.Need-enum-told Inv-loop μ-loop
-enum-told c = search needs
-
-same-length : tie.Need-same-length Inv-loop μ-loop
-same-length c = search needs
-
-returns : tie.Need-returns Inv-loop μ-loop
-returns c =
-    let l = c .before .before .before .before .before in
-    let s = l .before .before .before .before .before .before in
-    let g = s .args in
-    let at = l .loop in (
-      λ es o.
-          round-none (property (g .p)) es (g .n) (at .i) (at .words) (at .waiting) (at .t) _ (at .inv .0 es o)
-          (next-none (waitingOf (at .waiting)) (at .i) (sym (c .before .before .next-from .ensures .0) ∙ c .enum-told .given .1))
-          ∙ round-begins (property (g .p)) es (g .n) (g .words .now) (g .waiting .now) (g .tally),
-      ran-round (g .tally) (at .inv .2) (omega (arith, s .pre .index .few)),
-    )
-
-handle-requires : tie.Need-handle-requires Inv-loop μ-loop
-handle-requires c κs =
-    let k = c .before .before .before in
-    let l = k .before .before .before .before .before in
-    let s = l .before .before .before .before .before .before in
-    let f = s .pre .index .few in
-    let r = l .loop .inv .2 in (
-      found-within k,
-      record { index = s .pre .index; sized = r .sized; low = record { taken = omega arith; rounds = omega arith; stores = omega arith } },
-    )
-
-add-i : tie.Need-add-i Inv-loop μ-loop
-add-i c = omega (arith, found-within (c .before .before .before .before .before .before))
-
-loop-less : tie.Need-loop-less Inv-loop μ-loop
-loop-less c = omega (arith, found (c .before .before .before .before .before .before) .from)
-
-loop-again : tie.Need-loop-again Inv-loop μ-loop
-loop-again c =
-    let r = c .before .before in
-    let k = r .before .before .before .before in
-    let l = k .before .before .before .before .before in
-    let s = l .before .before .before .before .before .before in
-    let g = s .args in
-    let at = l .loop in
-    let f = found k in (
-      λ es o.
-          round-next (property (g .p)) es (g .n) (at .i) (at .words) (at .waiting) (at .t) _ (at .inv .0 es o)
-          (k .next .given .0 .0) _ (at .inv .2 .sized .waiting) f (r .handle .ensures .0 es o),
-      omega (arith, found-within k),
-      ran-then (at .inv .2) (r .handle .ensures .1) (omega arith) (omega arith) (omega (arith, f .from)),
-    )
-
-same-length-2 : tie.Need-same-length-2 Inv-loop μ-loop
-same-length-2 c = search needs
-
-returns-2 : tie.Need-returns-2 Inv-loop μ-loop
-returns-2 c =
-    let l = c .before in
-    let s = l .before .before .before .before .before .before in
-    let g = s .args in
-    let at = l .loop in (
-      λ es o.
-          round-ends (property (g .p)) es (g .n) (at .i) (at .words) (at .waiting) (at .t) _ (at .inv .0 es o) (c .loop-test .left)
-          ∙ round-begins (property (g .p)) es (g .n) (g .words .now) (g .waiting .now) (g .tally),
-      ran-round (g .tally) (at .inv .2) (omega (arith, s .pre .index .few)),
-    )
+returns-5 : tie.Need-returns-5
+unfolding property
+returns-5 c = rw (property-rest _ (c .before .before .before .before .before .match .rest)) (c .before .before .round-of5 .ensures)
 
 pub round-spec : {M : Type 1} → statement M
 round-spec =
     tie.close
     (tie.spec
-    Inv-loop
-    μ-loop
-    add-t14
-    loop-holds
-    next-from-requires
-    enum-known-next
-    enum-told
-    same-length
+    (λ c κs. search needs)
+    (λ c κs. search needs)
+    (λ c κs. search needs)
+    (λ c κs. search needs)
+    (λ c κs. search needs)
+    (λ c. search needs)
     returns
-    handle-requires
-    add-i
-    loop-less
-    loop-again
-    same-length-2
-    returns-2)
+    (λ c. search needs)
+    returns-2
+    (λ c. search needs)
+    returns-3
+    (λ c. search needs)
+    returns-4
+    (λ c. search needs)
+    returns-5)

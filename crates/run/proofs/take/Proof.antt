@@ -11,12 +11,12 @@ use Rattle.run.proofs.take.Tie as tie
 contains-requires : tie.Need-contains-requires
 contains-requires c κs = search needs
 
-add-t15 : tie.Need-add-t15
-add-t15 c = search needs
+add-t12 : tie.Need-add-t12
+add-t12 c = search needs
 
 handle-requires : tie.Need-handle-requires
 handle-requires c κs =
-    let s = c .before .before .before .before .before .before .before .before .before .before in
+    let s = c .before .before .before .before .before .before .before .before in
     let f = s .pre .1 in
     (s .pre .0, record { index = f .index; sized = f .sized; low = record { taken = omega arith; rounds = omega arith; stores = omega arith } })
 
@@ -27,7 +27,7 @@ returns : tie.Need-returns
 returns c =
     let r = c .before .before in
     let b = r .before .before .before .before in
-    let s = b .before .before .before .before .before .before .before in
+    let s = b .before .before .before .before .before in
     let g = s .args in (
       λ es o.
           take-waiting (property (g .p)) es (g .n) (g .u) (g .words .now) (g .waiting .now) (g .tally) (s .pre .0) _
@@ -37,7 +37,7 @@ returns c =
 
 returns-2 : tie.Need-returns-2
 returns-2 c =
-    let s = c .before .before .before .before .before .before .before in
+    let s = c .before .before .before .before .before in
     let g = s .args in (
       λ es o.
           take-idle (property (g .p)) es (g .n) (g .u) (g .words .now) (g .waiting .now) (g .tally) (s .pre .0)
@@ -47,4 +47,4 @@ returns-2 c =
 
 pub take-spec : {M : Type 1} → statement M
 take-spec =
-    tie.close (tie.spec contains-requires add-t15 handle-requires same-length returns returns-2)
+    tie.close (tie.spec contains-requires add-t12 handle-requires same-length returns returns-2)

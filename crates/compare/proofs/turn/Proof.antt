@@ -1,0 +1,116 @@
+-- `compare::turn` meets its contract. Assumes nothing.
+use borrow.Author.Needs.{needs}
+use native.Mathlib.Omega.{arith}
+use mathlib.Core.Path.{_≡_, refl, _∙_}
+use Prim.Native.Nat.{_+_, _-_, _*_, _<_, _≤_}
+use lib.ListN.{length, length-set}
+use Rattle.compare.specs.Code.{pairs}
+use Rattle.compare.proofs.Reversed.{Turned, turned-none, turned-turn, turned-net, turned-inside}
+use Rattle.compare.proofs.turn.Statement.{statement}
+use Rattle.compare.proofs.turn.Tie as tie
+
+abbrev Inv-loop : tie.InvT-loop
+Inv-loop list₀ size k₀ list k = Turned list₀ list k × (k ≤ size) × (size ≡ pairs list₀)
+
+abbrev μ-loop : tie.MeasureT-loop
+μ-loop list₀ size k₀ list k = size - k
+
+loop-holds : tie.Need-loop-holds Inv-loop μ-loop
+loop-holds c = (turned-none _, omega arith, refl)
+
+-- both words of the change lie in the list
+within : (c : tie.In-loop Inv-loop μ-loop) → 2 * c .before .loop .k + 1 < length (c .before .loop .list)
+within c = let t = c .before .loop .inv in omega (arith, t .0 .size, t .2, c .loop-test .taken)
+
+mul-at : tie.Need-mul-at Inv-loop μ-loop
+mul-at c = let w = within c in omega arith
+
+mul-a : tie.Need-mul-a Inv-loop μ-loop
+mul-a c = let w = within c in omega arith
+
+slice-read-a : tie.Need-slice-read-a Inv-loop μ-loop
+slice-read-a c = let w = within (c .before) in omega arith
+
+add-b : tie.Need-add-b Inv-loop μ-loop
+add-b c = let w = within (c .before) in omega arith
+
+mul-b : tie.Need-mul-b Inv-loop μ-loop
+mul-b c = let w = within (c .before) in omega arith
+
+slice-read-b : tie.Need-slice-read-b Inv-loop μ-loop
+slice-read-b c = within (c .before .before)
+
+arc-requires : tie.Need-arc-requires Inv-loop μ-loop
+arc-requires c κs = let l = c .before .before .before .before .before in (omega (arith, c .before .head .ensures), omega (arith, c .weight .ensures, c .before .before .before .slice-known2 .given (2 * l .loop .k)))
+
+mul-list : tie.Need-mul-list Inv-loop μ-loop
+mul-list c = let w = within (c .before .before .before .before .before) in omega arith
+
+slice-write-list : tie.Need-slice-write-list Inv-loop μ-loop
+slice-write-list c = let w = within (c .before .before .before .before .before) in omega arith
+
+arc-requires-2 : tie.Need-arc-requires-2 Inv-loop μ-loop
+arc-requires-2 c κs = let l = c .before .before .before .before .before .before .before .before in (omega (arith, c .before .head2 .ensures), omega (arith, c .weight2 .ensures, c .before .before .before .before .before .slice-known3 .given (2 * l .loop .k + 1)))
+
+add-list : tie.Need-add-list Inv-loop μ-loop
+add-list c = let w = within (c .before .before .before .before .before .before .before .before) in omega arith
+
+mul-list-2 : tie.Need-mul-list-2 Inv-loop μ-loop
+mul-list-2 c = let w = within (c .before .before .before .before .before .before .before .before) in omega arith
+
+slice-write-list-2 : tie.Need-slice-write-list-2 Inv-loop μ-loop
+slice-write-list-2 c = let w = within (c .before .before .before .before .before .before .before .before) in let l = c .before .before .before .before .before .before .before .before .before in let z = length-set (l .loop .list) (2 * l .loop .k) (c .before .before .before .arc .result) in omega arith
+
+loop-again : tie.Need-loop-again Inv-loop μ-loop
+loop-again c =
+    let t = c .before .before .before .before .before .before .before .before in
+    let l = t .before in
+    let w = within t in
+    let a = c .before .before .before in (
+      turned-turn _ (l .loop .list) (l .loop .k) (a .arc .result) (c .arc2 .result) (l .loop .inv .0) (omega (arith, l .loop .inv .0 .size))
+          (a .arc .ensures ∙ rw (a .before .before .head .ensures, a .before .weight .ensures))
+          (c .arc2 .ensures ∙ rw (c .before .before .head2 .ensures, c .before .weight2 .ensures)),
+      omega arith,
+      l .loop .inv .2,
+    )
+
+same-length : tie.Need-same-length Inv-loop μ-loop
+same-length c = c .before .loop .inv .0 .size
+
+returns : tie.Need-returns Inv-loop μ-loop
+returns c =
+    let l = c .before in
+    let s = l .before .before in
+    let e : l .loop .k ≡ pairs (s .args .list .now) = omega (arith, l .loop .inv .2, l .loop .inv .1, c .loop-test .left) in
+    let t : Turned (s .args .list .now) (l .loop .list) (pairs (s .args .list .now)) = rw e at (l .loop .inv .0) in
+    (turned-inside _ _ t, turned-net _ _ t)
+
+pub turn-spec : {M : Type 1} → statement M
+turn-spec =
+    tie.close
+    (tie.spec
+    Inv-loop
+    μ-loop
+    loop-holds
+    mul-at
+    mul-a
+    slice-read-a
+    add-b
+    mul-b
+    slice-read-b
+    (λ c κs. search needs)
+    (λ c κs. search needs)
+    arc-requires
+    mul-list
+    slice-write-list
+    (λ c κs. search needs)
+    (λ c κs. search needs)
+    arc-requires-2
+    add-list
+    mul-list-2
+    slice-write-list-2
+    (λ c. search needs)
+    (λ c. search needs)
+    loop-again
+    same-length
+    returns)

@@ -1,0 +1,89 @@
+-- `graph::ends::carry_ends` meets its contract. Assumes nothing.
+use borrow.Author.Needs.{needs}
+use native.Mathlib.Omega.{arith}
+use mathlib.Core.Path.{_≡_, refl, _∙_}
+use mathlib.Core.List.{List}
+use Prim.Native.Nat.{ℕ, _+_, _-_, _<_, _≤_}
+use lib.ListN.{length, getD, length-set}
+use lib.Seq.{getD-set-other}
+use Rattle.graph.specs.Parted.{Ends, Parted}
+use Rattle.graph.proofs.Parted.{parted-first, carry-turn}
+use Rattle.graph.proofs.ends.carry_ends.Statement.{statement}
+use Rattle.graph.proofs.ends.carry_ends.Tie as tie
+
+abbrev Inv-loop : tie.InvT-loop
+Inv-loop n ends₀ k₀ ends k =
+    ((m : ℕ) (ks : List ℕ) → Ends m ks ends₀ → (u : ℕ) → u ≤ k → Parted m ks u (getD ends u 0)) × ((u : ℕ) → k < u → getD ends u 0 ≡ getD ends₀ u 0)
+    × (k ≤ n) × (length ends ≡ length ends₀)
+
+abbrev μ-loop : tie.MeasureT-loop
+μ-loop n ends₀ k₀ ends k = n - k
+
+loop-holds : tie.Need-loop-holds Inv-loop μ-loop
+loop-holds c = ((λ m ks h u l. parted-first m ks (c .before .args .ends .now) h u l), (λ u l. refl), omega arith, refl)
+
+add-next : tie.Need-add-next Inv-loop μ-loop
+add-next c = search needs
+
+mul-greater : tie.Need-mul-greater Inv-loop μ-loop
+mul-greater c = search needs
+
+slice-read-greater : tie.Need-slice-read-greater Inv-loop μ-loop
+slice-read-greater c = search needs
+
+mul-greater-2 : tie.Need-mul-greater-2 Inv-loop μ-loop
+mul-greater-2 c = search needs
+
+slice-read-greater-2 : tie.Need-slice-read-greater-2 Inv-loop μ-loop
+slice-read-greater-2 c = search needs
+
+greater-requires : tie.Need-greater-requires Inv-loop μ-loop
+greater-requires c κs = search needs
+
+mul-ends : tie.Need-mul-ends Inv-loop μ-loop
+mul-ends c = search needs
+
+slice-write-ends : tie.Need-slice-write-ends Inv-loop μ-loop
+slice-write-ends c = search needs
+
+add-k : tie.Need-add-k Inv-loop μ-loop
+add-k c = search needs
+
+loop-less : tie.Need-loop-less Inv-loop μ-loop
+loop-less c = search needs
+
+loop-again : tie.Need-loop-again Inv-loop μ-loop
+loop-again c =
+    let l = c .before .before .before .before in (
+      carry-turn (l .loop .k) (c .greater .result) (l .before .before .args .ends .now) (l .loop .ends) (omega arith) (c .greater .ensures) (l .loop .inv .0) (l .loop .inv .1),
+      (λ u b. getD-set-other (l .loop .ends) (l .loop .k + 1) u (c .greater .result) 0 (λ q. omega arith) ∙ l .loop .inv .1 u (omega arith)),
+      omega arith,
+      simp length-set (l .loop .inv .3),
+    )
+
+same-length : tie.Need-same-length Inv-loop μ-loop
+same-length c = search needs
+
+returns : tie.Need-returns Inv-loop μ-loop
+returns c = λ m ks h u l. c .before .loop .inv .0 m ks h u (omega arith)
+
+pub carry-ends-spec : {M : Type 1} → statement M
+carry-ends-spec =
+    tie.close
+    (tie.spec
+    Inv-loop
+    μ-loop
+    loop-holds
+    add-next
+    mul-greater
+    slice-read-greater
+    mul-greater-2
+    slice-read-greater-2
+    greater-requires
+    mul-ends
+    slice-write-ends
+    add-k
+    loop-less
+    loop-again
+    same-length
+    returns)

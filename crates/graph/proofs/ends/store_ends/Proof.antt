@@ -1,0 +1,86 @@
+-- `graph::ends::store_ends` meets its contract. Assumes nothing.
+use borrow.Author.Needs.{needs}
+use native.Mathlib.Omega.{arith}
+use mathlib.Core.Path.{_≡_, refl}
+use Prim.Native.Nat.{ℕ, _+_, _-_, _<_, _≤_}
+use lib.ListN.{length, getD, length-set}
+use Rattle.graph.specs.Parted.{Ends}
+use Rattle.graph.proofs.Parted.{ends-none, ends-turn, ends-done}
+use Rattle.graph.proofs.ends.store_ends.Statement.{statement}
+use Rattle.graph.proofs.ends.store_ends.Tie as tie
+
+abbrev Inv-loop : tie.InvT-loop
+Inv-loop count keys ends₀ k₀ ends k = Ends k keys ends × (k ≤ count) × (length ends ≡ length ends₀)
+
+abbrev μ-loop : tie.MeasureT-loop
+μ-loop count keys ends₀ k₀ ends k = count - k
+
+-- the word after the key is in the list
+near : (c : tie.In-loop Inv-loop μ-loop) → getD (c .before .before .args .keys .now) (c .before .loop .k) 0 + 1 < length (c .before .before .args .ends .now)
+near c = c .before .before .pre .1 .0 (c .before .loop .k) (c .loop-test .taken)
+
+loop-holds : tie.Need-loop-holds Inv-loop μ-loop
+loop-holds c = (ends-none (c .args .keys .now) (c .args .ends .now) (c .pre .1 .1), omega arith, refl)
+
+mul-u : tie.Need-mul-u Inv-loop μ-loop
+mul-u c = search needs
+
+shared-slice-read-u : tie.Need-shared-slice-read-u Inv-loop μ-loop
+shared-slice-read-u c = search needs
+
+cast-u : tie.Need-cast-u Inv-loop μ-loop
+cast-u c = let x = near (c .before) in omega arith
+
+add-u : tie.Need-add-u Inv-loop μ-loop
+add-u c = let x = near (c .before) in omega arith
+
+add-k : tie.Need-add-k Inv-loop μ-loop
+add-k c = search needs
+
+cast-ends : tie.Need-cast-ends Inv-loop μ-loop
+cast-ends c = search needs
+
+mul-ends : tie.Need-mul-ends Inv-loop μ-loop
+mul-ends c = let x = near (c .before) in omega arith
+
+slice-write-ends : tie.Need-slice-write-ends Inv-loop μ-loop
+slice-write-ends c = let x = near (c .before) in omega arith
+
+loop-less : tie.Need-loop-less Inv-loop μ-loop
+loop-less c = search needs
+
+loop-again : tie.Need-loop-again Inv-loop μ-loop
+loop-again c =
+    let l = c .before .before in
+    let s = l .before in
+    let x = near (c .before) in (
+      ends-turn (s .args .count) (l .loop .k) (s .args .keys .now) (l .loop .ends) (s .pre .0 .2) (omega arith) (omega arith) (l .loop .inv .0),
+      omega arith,
+      simp length-set (l .loop .inv .2),
+    )
+
+same-length : tie.Need-same-length Inv-loop μ-loop
+same-length c = search needs
+
+returns : tie.Need-returns Inv-loop μ-loop
+returns c = let l = c .before in ends-done (l .before .args .count) (l .loop .k) (l .before .args .keys .now) (l .loop .ends) (l .loop .inv .1) (c .loop-test .left) (l .loop .inv .0)
+
+pub store-ends-spec : {M : Type 1} → statement M
+store-ends-spec =
+    tie.close
+    (tie.spec
+    Inv-loop
+    μ-loop
+    loop-holds
+    mul-u
+    shared-slice-read-u
+    cast-u
+    add-u
+    add-k
+    cast-ends
+    mul-ends
+    slice-write-ends
+    loop-less
+    loop-again
+    same-length
+    returns)

@@ -1,0 +1,46 @@
+-- `prepare::wake_change` meets its contract. Assumes nothing.
+use native.Mathlib.Omega.{arith}
+use mathlib.Core.Path.{_≡_, sym, ap, _∙_}
+use Prim.Native.Nat.{_*_}
+use lib.Dec.{ltb}
+use Rattle.compare.specs.Code.{after}
+use borrow.Author.Needs.{needs}
+use Rattle.prepare.proofs.wake_change.Statement.{statement}
+use Rattle.prepare.proofs.wake_change.Tie as tie
+
+insert-requires : tie.Need-insert-requires
+insert-requires c κs =
+    let s = c .before .before .before .before .before .before .before .before in
+    let x = s .pre .1 (2 * s .args .k) (let l = s .pre .0 in omega arith) in
+    omega (arith, x, c .before .before .before .before .before .head .ensures)
+
+cast-t : tie.Need-cast-t
+cast-t c = omega (arith, c .head .ensures)
+
+-- whether the pair has an edge
+has : (c : tie.After-is-added) → c .is-added .result ≡ ltb 0 (after (c .before .before .before .before .before .before .args .net .now) (c .before .before .before .before .before .before .args .k) .weight)
+has c = c .is-added .ensures ∙ ap (ltb 0) (c .before .weight .ensures)
+
+returns : tie.Need-returns
+returns c = let z = sym (has (c .before .before .before)) ∙ c .before .before .if1 .taken in rw z (rw (c .before .before .before .before .before .before .head .ensures) at (c .insert .ensures))
+
+returns-2 : tie.Need-returns-2
+returns-2 c = let z = sym (has (c .before)) ∙ c .if1 .left in rw z
+
+pub wake-change-spec : {M : Type 1} → statement M
+wake-change-spec =
+    tie.close
+    (tie.spec
+    (λ c. search needs)
+    (λ c. search needs)
+    (λ c. search needs)
+    (λ c κs. search needs)
+    cast-t
+    (λ c. search needs)
+    (λ c. search needs)
+    (λ c. search needs)
+    (λ c κs. search needs)
+    (λ c κs. search needs)
+    insert-requires
+    returns
+    returns-2)
