@@ -130,8 +130,8 @@ enum { PLATE_TRACK_READ_SOURCES_COUNT };
 /* Bytes of stack that each call takes at most, at the greatest sizes; measured (tests/stack). */
 enum {
     PLATE_TRACK_STACK_OPEN = 64 * 1024,
-    PLATE_TRACK_STACK_QUERY = 4 * 1024,
-    PLATE_TRACK_STACK_BATCH = 140 * 1024,
+    PLATE_TRACK_STACK_QUERY = 14 * 1024,
+    PLATE_TRACK_STACK_BATCH = 156 * 1024,
     PLATE_TRACK_STACK_SETTLED = 1024,
     PLATE_TRACK_STACK_CHOOSE = 2 * 1024,
     PLATE_TRACK_STACK_ROW = 1024,

@@ -23,60 +23,6 @@ slice-aggregate-batch-lists c =
     let s = e .before .before .before .before .before .before .before .before in
     sym (length-take-le (s .args .size) (s .args .lists .now) (omega (arith, e .if1 .left, s .pre)))
 
-add-batch-lists : tie.Need-add-batch-lists
-add-batch-lists c = search needs
-
-sub-batch-lists : tie.Need-sub-batch-lists
-sub-batch-lists c = search needs
-
-part-batch-lists-start : tie.Need-part-batch-lists-start
-part-batch-lists-start c = search needs
-
-part-batch-lists-end : tie.Need-part-batch-lists-end
-part-batch-lists-end c = search needs
-
-add-batch-lists-2 : tie.Need-add-batch-lists-2
-add-batch-lists-2 c = search needs
-
-sub-batch-lists-2 : tie.Need-sub-batch-lists-2
-sub-batch-lists-2 c = search needs
-
-part-batch-lists-start-2 : tie.Need-part-batch-lists-start-2
-part-batch-lists-start-2 c = search needs
-
-part-batch-lists-end-2 : tie.Need-part-batch-lists-end-2
-part-batch-lists-end-2 c = search needs
-
-add-batch-lists-3 : tie.Need-add-batch-lists-3
-add-batch-lists-3 c = search needs
-
-sub-batch-lists-3 : tie.Need-sub-batch-lists-3
-sub-batch-lists-3 c = search needs
-
-part-batch-lists-start-3 : tie.Need-part-batch-lists-start-3
-part-batch-lists-start-3 c = search needs
-
-part-batch-lists-end-3 : tie.Need-part-batch-lists-end-3
-part-batch-lists-end-3 c = search needs
-
-batch-lists-requires : tie.Need-batch-lists-requires
-batch-lists-requires c κs = search needs
-
-same-length : tie.Need-same-length
-same-length c = search needs
-
-same-length-2 : tie.Need-same-length-2
-same-length-2 c = search needs
-
-same-length-3 : tie.Need-same-length-3
-same-length-3 c = search needs
-
-same-length-4 : tie.Need-same-length-4
-same-length-4 c = search needs
-
-same-length-5 : tie.Need-same-length-5
-same-length-5 c = search needs
-
 returns-2 : tie.Need-returns-2
 returns-2 c cs l =
     let d = c .before .before .before .before .before .before .before .before .before .before in
@@ -92,22 +38,22 @@ batch-copied-spec =
     (tie.spec
     returns
     slice-aggregate-batch-lists
-    add-batch-lists
-    sub-batch-lists
-    part-batch-lists-start
-    part-batch-lists-end
-    add-batch-lists-2
-    sub-batch-lists-2
-    part-batch-lists-start-2
-    part-batch-lists-end-2
-    add-batch-lists-3
-    sub-batch-lists-3
-    part-batch-lists-start-3
-    part-batch-lists-end-3
-    batch-lists-requires
-    same-length
-    same-length-2
-    same-length-3
-    same-length-4
-    same-length-5
+    (λ c. search needs)
+    (λ c. search needs)
+    (λ c. search needs)
+    (λ c. search needs)
+    (λ c. search needs)
+    (λ c. search needs)
+    (λ c. search needs)
+    (λ c. search needs)
+    (λ c. search needs)
+    (λ c. search needs)
+    (λ c. search needs)
+    (λ c. search needs)
+    (λ c κs. search needs)
+    (λ c. search needs)
+    (λ c. search needs)
+    (λ c. search needs)
+    (λ c. search needs)
+    (λ c. search needs)
     returns-2)

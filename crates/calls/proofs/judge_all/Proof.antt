@@ -6,26 +6,8 @@ use Rattle.graph.proofs.Judging.{lengths-accept, then-refused, then-judged, fin
 use Rattle.calls.proofs.judge_all.Statement.{statement}
 use Rattle.calls.proofs.judge_all.Tie as tie
 
-judge-size-requires : tie.Need-judge-size-requires
-judge-size-requires c κs = search needs
-
-enum-told : tie.Need-enum-told
-enum-told c = search needs
-
-enum-told-2 : tie.Need-enum-told-2
-enum-told-2 c = search needs
-
 returns : tie.Need-returns
 returns c = then-refused _ _ _ _ _ (c .before .before .judge-size .ensures) (c .enum-told2 .given .1)
-
-judge-lists-requires : tie.Need-judge-lists-requires
-judge-lists-requires c κs = search needs
-
-enum-told-3 : tie.Need-enum-told-3
-enum-told-3 c = search needs
-
-enum-told-4 : tie.Need-enum-told-4
-enum-told-4 c = search needs
 
 returns-2 : tie.Need-returns-2
 returns-2 c =
@@ -50,13 +32,13 @@ pub judge-all-spec : {M : Type 1} → statement M
 judge-all-spec =
     tie.close
     (tie.spec
-    judge-size-requires
-    enum-told
-    enum-told-2
+    (λ c κs. search needs)
+    (λ c. search needs)
+    (λ c. search needs)
     returns
-    judge-lists-requires
-    enum-told-3
-    enum-told-4
+    (λ c κs. search needs)
+    (λ c. search needs)
+    (λ c. search needs)
     returns-2
     judge-network-requires
     returns-3)

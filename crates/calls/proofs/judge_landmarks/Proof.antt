@@ -26,12 +26,6 @@ three c =
     let e = two (c .before) in
     ⊎-elim (λ w. w .1 ∙ (e ∙ or-taken _ _ (sym e ∙ w .0 .taken))) (λ w. w .2 ∙ (ap not (w .1 .ensures) ∙ or-left _ _ (sym e ∙ w .0 .left))) (c .if2 .came)
 
-are-landmarks-requires : tie.Need-are-landmarks-requires
-are-landmarks-requires c κs = search needs
-
-refuse-if-requires : tie.Need-refuse-if-requires
-refuse-if-requires c κs = search needs
-
 returns : tie.Need-returns
 returns c =
     let a = c .before .before .before .before .args in
@@ -39,4 +33,4 @@ returns c =
     c .refuse-if .ensures ∙ ap (λ (b : Bool). refuseIf b 3 0) e
 
 pub judge-landmarks-spec : {M : Type 1} → statement M
-judge-landmarks-spec = tie.close (tie.spec are-landmarks-requires refuse-if-requires returns)
+judge-landmarks-spec = tie.close (tie.spec (λ c κs. search needs) (λ c κs. search needs) returns)

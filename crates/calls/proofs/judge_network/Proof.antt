@@ -4,23 +4,11 @@ use Rattle.graph.proofs.Judging.{then-refused, then-judged}
 use Rattle.calls.proofs.judge_network.Statement.{statement}
 use Rattle.calls.proofs.judge_network.Tie as tie
 
-judge-landmarks-requires : tie.Need-judge-landmarks-requires
-judge-landmarks-requires c κs = search needs
-
-enum-told : tie.Need-enum-told
-enum-told c = search needs
-
-enum-told-2 : tie.Need-enum-told-2
-enum-told-2 c = search needs
-
 returns : tie.Need-returns
 returns c = then-refused _ _ _ _ _ (c .before .before .judge-landmarks .ensures) (c .enum-told2 .given .1)
-
-judge-table-requires : tie.Need-judge-table-requires
-judge-table-requires c κs = search needs
 
 returns-2 : tie.Need-returns-2
 returns-2 c = then-judged _ _ _ _ (c .before .before .before .judge-landmarks .ensures) (c .before .enum-told .given .1) (c .judge-table .ensures)
 
 pub judge-network-spec : {M : Type 1} → statement M
-judge-network-spec = tie.close (tie.spec judge-landmarks-requires enum-told enum-told-2 returns judge-table-requires returns-2)
+judge-network-spec = tie.close (tie.spec (λ c κs. search needs) (λ c. search needs) (λ c. search needs) returns (λ c κs. search needs) returns-2)

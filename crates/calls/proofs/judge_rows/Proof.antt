@@ -19,17 +19,8 @@ flag c =
     let e = c .before .is-short .ensures in
     ⊎-elim (λ w. w .1 ∙ (e ∙ or-taken _ _ (sym e ∙ w .0 .taken))) (λ w. w .2 ∙ (w .1 .ensures ∙ or-left _ _ (sym e ∙ w .0 .left))) (c .if1 .came)
 
-is-short-requires : tie.Need-is-short-requires
-is-short-requires c κs = search needs
-
-is-short-requires-2 : tie.Need-is-short-requires-2
-is-short-requires-2 c κs = search needs
-
-refuse-if-requires : tie.Need-refuse-if-requires
-refuse-if-requires c κs = search needs
-
 returns : tie.Need-returns
 returns c = c .refuse-if .ensures ∙ ap (λ (b : Bool). refuseIf b 2 0) (flag (c .before))
 
 pub judge-rows-spec : {M : Type 1} → statement M
-judge-rows-spec = tie.close (tie.spec is-short-requires is-short-requires-2 refuse-if-requires returns)
+judge-rows-spec = tie.close (tie.spec (λ c κs. search needs) (λ c κs. search needs) (λ c κs. search needs) returns)

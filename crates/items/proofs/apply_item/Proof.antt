@@ -21,12 +21,6 @@ fine e = ap told (sym (e .enum-told .given .1)) ∙ e .before .before .judge-wor
 struck : (l : tie.Else1) → let a = start (l .before) .args in change (a .kind) (a .t) (a .h) (a .w) ≡ change 2 (a .t) (a .h) 0
 struck l = let a = start (l .before) .args in words-delete (a .n) (a .place) (a .kind) (a .t) (a .h) (a .w) (l .if1 .left) (sym (fine (l .before)))
 
-judge-words-requires : tie.Need-judge-words-requires
-judge-words-requires c κs = search needs
-
-enum-known-own : tie.Need-enum-known-own
-enum-known-own c = search needs
-
 returns : tie.Need-returns
 unfolding verdict told
 returns c =
@@ -34,23 +28,11 @@ returns c =
     let j = o .before .before in
     (item-words _ _ _ _ _ _ (ap told (sym (o .own .given .1)) ∙ j .judge-words .ensures), leaves-refused _ _ _ _ _ _ _ _ refl)
 
-enum-told : tie.Need-enum-told
-enum-told c = search needs
-
 insert-item-requires : tie.Need-insert-item-requires
 insert-item-requires c κs =
     let t = c .before .before .before in
     let e = t .before in
     (start e .pre, sym (fine e ∙ ap (λ (k : ℕ). words (start e .args .n) (start e .args .place) (change k (start e .args .t) (start e .args .h) (start e .args .w))) (t .if1 .taken)))
-
-same-length : tie.Need-same-length
-same-length c = search needs
-
-same-length-2 : tie.Need-same-length-2
-same-length-2 c = search needs
-
-same-length-3 : tie.Need-same-length-3
-same-length-3 c = search needs
 
 returns-2 : tie.Need-returns-2
 returns-2 c =
@@ -67,15 +49,6 @@ delete-item-requires c κs =
     let e = l .before in
     (start e .pre, sym (fine e ∙ ap (words (start e .args .n) (start e .args .place)) (struck l)))
 
-same-length-4 : tie.Need-same-length-4
-same-length-4 c = search needs
-
-same-length-5 : tie.Need-same-length-5
-same-length-5 c = search needs
-
-same-length-6 : tie.Need-same-length-6
-same-length-6 c = search needs
-
 returns-3 : tie.Need-returns-3
 returns-3 c =
     let i = c .before .before .before .before .before .before in
@@ -87,17 +60,17 @@ pub apply-item-spec : {M : Type 1} → statement M
 apply-item-spec =
     tie.close
     (tie.spec
-    judge-words-requires
-    enum-known-own
+    (λ c κs. search needs)
+    (λ c. search needs)
     returns
-    enum-told
+    (λ c. search needs)
     insert-item-requires
-    same-length
-    same-length-2
-    same-length-3
+    (λ c. search needs)
+    (λ c. search needs)
+    (λ c. search needs)
     returns-2
     delete-item-requires
-    same-length-4
-    same-length-5
-    same-length-6
+    (λ c. search needs)
+    (λ c. search needs)
+    (λ c. search needs)
     returns-3)

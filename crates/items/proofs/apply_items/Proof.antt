@@ -70,21 +70,6 @@ shared-slice-read-apply-item-4 c = inside (c .before .before .before .before) .3
 apply-item-requires : tie.Need-apply-item-requires Inv-loop μ-loop
 apply-item-requires c κs = let l = c .before .before .before .before .before .before .before .before in l .loop .inv .2
 
-enum-known-edited : tie.Need-enum-known-edited Inv-loop μ-loop
-enum-known-edited c = search needs
-
-enum-told : tie.Need-enum-told Inv-loop μ-loop
-enum-told c = search needs
-
-same-length : tie.Need-same-length Inv-loop μ-loop
-same-length c = search needs
-
-same-length-2 : tie.Need-same-length-2 Inv-loop μ-loop
-same-length-2 c = search needs
-
-same-length-3 : tie.Need-same-length-3 Inv-loop μ-loop
-same-length-3 c = search needs
-
 returns : tie.Need-returns Inv-loop μ-loop
 unfolding verdict
 returns c =
@@ -95,12 +80,6 @@ returns c =
     let q = c .enum-told .given .1 in
     let d = changes-more (g .kinds .now) (g .froms .now) (g .tos .now) (g .values .now) (l .loop .k) (within t) in
     (ap verdict q ∙ items-stop _ _ _ _ _ _ d (l .loop .inv .0) _ _ (sym (ap verdict q) ∙ a .apply-item .ensures .0), leaves-refused _ _ _ _ _ _ _ _ q)
-
-add-k : tie.Need-add-k Inv-loop μ-loop
-add-k c = search needs
-
-loop-less : tie.Need-loop-less Inv-loop μ-loop
-loop-less c = search needs
 
 loop-again : tie.Need-loop-again Inv-loop μ-loop
 unfolding verdict
@@ -121,15 +100,6 @@ loop-again c =
       a .apply-item .kept .1 .1 .1 .1 .1 .1 .0 ∙ l .loop .inv .5,
       a .apply-item .kept .1 .1 .1 .1 .1 .1 .1 .0 ∙ l .loop .inv .6,
     )
-
-same-length-4 : tie.Need-same-length-4 Inv-loop μ-loop
-same-length-4 c = search needs
-
-same-length-5 : tie.Need-same-length-5 Inv-loop μ-loop
-same-length-5 c = search needs
-
-same-length-6 : tie.Need-same-length-6 Inv-loop μ-loop
-same-length-6 c = search needs
 
 returns-2 : tie.Need-returns-2 Inv-loop μ-loop
 unfolding verdict
@@ -156,16 +126,16 @@ apply-items-spec =
     mul-apply-item-4
     shared-slice-read-apply-item-4
     apply-item-requires
-    enum-known-edited
-    enum-told
-    same-length
-    same-length-2
-    same-length-3
+    (λ c. search needs)
+    (λ c. search needs)
+    (λ c. search needs)
+    (λ c. search needs)
+    (λ c. search needs)
     returns
-    add-k
-    loop-less
+    (λ c. search needs)
+    (λ c. search needs)
     loop-again
-    same-length-4
-    same-length-5
-    same-length-6
+    (λ c. search needs)
+    (λ c. search needs)
+    (λ c. search needs)
     returns-2)

@@ -29,24 +29,6 @@ below i =
     let l = find-below _ _ _ _ (found i) in
     omega arith
 
-find-requires : tie.Need-find-requires
-find-requires c κs = search needs
-
-enum-known-i : tie.Need-enum-known-i
-enum-known-i c = search needs
-
-enum-told : tie.Need-enum-told
-enum-told c = search needs
-
-same-length : tie.Need-same-length
-same-length c = search needs
-
-same-length-2 : tie.Need-same-length-2
-same-length-2 c = search needs
-
-same-length-3 : tie.Need-same-length-3
-same-length-3 c = search needs
-
 returns : tie.Need-returns
 unfolding verdict
 returns c =
@@ -61,15 +43,6 @@ delete-at-requires c κs =
 
 sub-t24 : tie.Need-sub-t24
 sub-t24 c = let l = below (c .before .before .before .before .before .before .before .before .before .before .before) in omega arith
-
-same-length-4 : tie.Need-same-length-4
-same-length-4 c = search needs
-
-same-length-5 : tie.Need-same-length-5
-same-length-5 c = search needs
-
-same-length-6 : tie.Need-same-length-6
-same-length-6 c = search needs
 
 returns-2 : tie.Need-returns-2
 unfolding verdict edit
@@ -87,16 +60,16 @@ pub delete-item-spec : {M : Type 1} → statement M
 delete-item-spec =
     tie.close
     (tie.spec
-    find-requires
-    enum-known-i
-    enum-told
-    same-length
-    same-length-2
-    same-length-3
+    (λ c κs. search needs)
+    (λ c. search needs)
+    (λ c. search needs)
+    (λ c. search needs)
+    (λ c. search needs)
+    (λ c. search needs)
     returns
     delete-at-requires
     sub-t24
-    same-length-4
-    same-length-5
-    same-length-6
+    (λ c. search needs)
+    (λ c. search needs)
+    (λ c. search needs)
     returns-2)

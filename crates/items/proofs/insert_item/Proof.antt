@@ -25,38 +25,11 @@ absent e = sym (e .before .before .find .ensures) ∙ e .enum-told2 .given .1
 long : (e : tie.After-enum-told2) → let a = start e .args in length (edges (a .tails .now) (a .heads .now) (a .weights .now) (a .count)) ≡ a .count
 long e = let t = start e .pre .0 in edges-length _ _ _ _ (room-less (t .few) (t .room))
 
-find-requires : tie.Need-find-requires
-find-requires c κs = search needs
-
-enum-told : tie.Need-enum-told
-enum-told c = search needs
-
-same-length : tie.Need-same-length
-same-length c = search needs
-
-same-length-2 : tie.Need-same-length-2
-same-length-2 c = search needs
-
-same-length-3 : tie.Need-same-length-3
-same-length-3 c = search needs
-
 returns : tie.Need-returns
 unfolding verdict
 returns c =
     let f = c .before .before in
     (insert-present _ _ _ _ _ _ (sym (f .find .ensures) ∙ c .enum-told .given .1), leaves-refused _ _ _ _ _ _ _ _ refl)
-
-enum-told-2 : tie.Need-enum-told-2
-enum-told-2 c = search needs
-
-same-length-4 : tie.Need-same-length-4
-same-length-4 c = search needs
-
-same-length-5 : tie.Need-same-length-5
-same-length-5 c = search needs
-
-same-length-6 : tie.Need-same-length-6
-same-length-6 c = search needs
 
 returns-2 : tie.Need-returns-2
 unfolding verdict
@@ -67,18 +40,6 @@ insert-requires c κs =
     let e = c .before .before .before in
     let t = start (e .before) .pre .0 in
     (room-less (omega arith) (t .room), (t .rules, absent-present _ _ (start (e .before) .args .w) _ (absent (e .before))))
-
-add-t25 : tie.Need-add-t25
-add-t25 c = search needs
-
-same-length-7 : tie.Need-same-length-7
-same-length-7 c = search needs
-
-same-length-8 : tie.Need-same-length-8
-same-length-8 c = search needs
-
-same-length-9 : tie.Need-same-length-9
-same-length-9 c = search needs
 
 returns-3 : tie.Need-returns-3
 unfolding verdict edit
@@ -95,20 +56,20 @@ pub insert-item-spec : {M : Type 1} → statement M
 insert-item-spec =
     tie.close
     (tie.spec
-    find-requires
-    enum-told
-    same-length
-    same-length-2
-    same-length-3
+    (λ c κs. search needs)
+    (λ c. search needs)
+    (λ c. search needs)
+    (λ c. search needs)
+    (λ c. search needs)
     returns
-    enum-told-2
-    same-length-4
-    same-length-5
-    same-length-6
+    (λ c. search needs)
+    (λ c. search needs)
+    (λ c. search needs)
+    (λ c. search needs)
     returns-2
     insert-requires
-    add-t25
-    same-length-7
-    same-length-8
-    same-length-9
+    (λ c. search needs)
+    (λ c. search needs)
+    (λ c. search needs)
+    (λ c. search needs)
     returns-3)

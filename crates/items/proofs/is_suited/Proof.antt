@@ -4,9 +4,6 @@ use borrow.Author.Tests.{eq-eqb, ne-eqb}
 use Rattle.items.proofs.is_suited.Statement.{statement}
 use Rattle.items.proofs.is_suited.Tie as tie
 
-is-weight-requires : tie.Need-is-weight-requires
-is-weight-requires c κs = search needs
-
 returns : tie.Need-returns
 returns c = rw (eq-eqb _ _ (c .before .if1 .taken)) (c .is-weight .ensures)
 
@@ -14,4 +11,4 @@ returns-2 : tie.Need-returns-2
 returns-2 c = rw (ne-eqb _ _ (c .if1 .left))
 
 pub is-suited-spec : {M : Type 1} → statement M
-is-suited-spec = tie.close (tie.spec is-weight-requires returns returns-2)
+is-suited-spec = tie.close (tie.spec (λ c κs. search needs) returns returns-2)

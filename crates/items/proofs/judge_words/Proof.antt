@@ -34,12 +34,6 @@ returns-3 c =
     let j = c .before in
     words-loop _ _ _ _ _ _ (j .before .before .if1 .left) (head-below (j .before)) (known j) (c .if5 .taken)
 
-is-suited-requires : tie.Need-is-suited-requires
-is-suited-requires c κs = search needs
-
-refuse-if-requires : tie.Need-refuse-if-requires
-refuse-if-requires c κs = search needs
-
 returns-4 : tie.Need-returns-4
 returns-4 c =
     let e = c .before .before in
@@ -50,4 +44,4 @@ returns-4 c =
 pub judge-words-spec : {M : Type 1} → statement M
 judge-words-spec =
     tie.close
-    (tie.spec returns returns-2 returns-3 is-suited-requires refuse-if-requires returns-4)
+    (tie.spec returns returns-2 returns-3 (λ c κs. search needs) (λ c κs. search needs) returns-4)

@@ -32,30 +32,12 @@ few c =
     let o = open-accept (g .n) (g .landmarks .now) (g .tails .now) (g .heads .now) (g .weights .now) (g .forward .now) (g .backward .now) (g .count) (fine c) .0 in
     rows-most _ _ (o .landmarks .few) (o .few)
 
-judge-all-requires : tie.Need-judge-all-requires
-judge-all-requires c κs = search needs
-
-enum-known-judged : tie.Need-enum-known-judged
-enum-known-judged c = search needs
-
-same-length : tie.Need-same-length
-same-length c = search needs
-
-same-length-2 : tie.Need-same-length-2
-same-length-2 c = search needs
-
 returns : tie.Need-returns
 returns c =
     let j = c .before .before .before in
     let g = begin j .args in
     open-refused (g .n) (g .landmarks .now) (g .tails .now) (g .heads .now) (g .weights .now) (g .forward .now) (g .backward .now) (g .count)
     _ (j .judge-all .ensures) (c .before .judged .given .1)
-
-enum-told : tie.Need-enum-told
-enum-told c = search needs
-
-mul-k : tie.Need-mul-k
-mul-k c = search needs
 
 mul-k-2 : tie.Need-mul-k-2
 mul-k-2 c = let e = few c in omega arith
@@ -83,32 +65,23 @@ open-in-requires c κs =
     let e = length-take-le {A = ℕ} (rowCount (g .landmarks .now) * g .n) (replicate (maxLandmarks * properties * maxVertices) 0) (few d) in
     (fine d, (e, e))
 
-same-length-3 : tie.Need-same-length-3
-same-length-3 c = search needs
-
-same-length-4 : tie.Need-same-length-4
-same-length-4 c = search needs
-
-returns-2 : tie.Need-returns-2
-returns-2 c = search needs
-
 pub open-spec : {M : Type 1} → statement M
 open-spec =
     tie.close
     (tie.spec
-    judge-all-requires
-    enum-known-judged
-    same-length
-    same-length-2
+    (λ c κs. search needs)
+    (λ c. search needs)
+    (λ c. search needs)
+    (λ c. search needs)
     returns
-    enum-told
-    mul-k
+    (λ c. search needs)
+    (λ c. search needs)
     mul-k-2
     array-borrow-prefix-fwd
     slice-aggregate-open-in
     array-borrow-prefix-bwd
     slice-aggregate-open-in-2
     open-in-requires
-    same-length-3
-    same-length-4
-    returns-2)
+    (λ c. search needs)
+    (λ c. search needs)
+    (λ c. search needs))

@@ -32,12 +32,6 @@ open-backward-requires c κs =
     let s = c .before .before .before .before .before .before .before .before .before .before .before .before .before in
     (accepted s .0, s .pre .1 .1)
 
-same-length : tie.Need-same-length
-same-length c = search needs
-
-same-length-2 : tie.Need-same-length-2
-same-length-2 c = search needs
-
 returns : tie.Need-returns
 returns c =
     let b = c .before .before .before in
@@ -65,18 +59,6 @@ copy-requires-2 c κs =
     let b = c .before .before .before .before .before .before .before .before .before .before in
     (omega (arith, sizes b), omega (arith, sizes b, accepted (begin (b .before .before .before .before))))
 
-same-length-3 : tie.Need-same-length-3
-same-length-3 c = search needs
-
-same-length-4 : tie.Need-same-length-4
-same-length-4 c = search needs
-
-same-length-5 : tie.Need-same-length-5
-same-length-5 c = search needs
-
-same-length-6 : tie.Need-same-length-6
-same-length-6 c = search needs
-
 returns-2 : tie.Need-returns-2
 returns-2 c =
     let d = c .before .before in
@@ -96,13 +78,13 @@ open-in-spec =
     (tie.spec
     open-forward-requires
     open-backward-requires
-    same-length
-    same-length-2
+    (λ c. search needs)
+    (λ c. search needs)
     returns
     copy-requires
     copy-requires-2
-    same-length-3
-    same-length-4
-    same-length-5
-    same-length-6
+    (λ c. search needs)
+    (λ c. search needs)
+    (λ c. search needs)
+    (λ c. search needs)
     returns-2)

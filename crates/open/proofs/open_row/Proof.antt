@@ -5,18 +5,6 @@ use Rattle.open.proofs.Opening.{row-settled}
 use Rattle.open.proofs.open_row.Statement.{statement}
 use Rattle.open.proofs.open_row.Tie as tie
 
-row-property-requires : tie.Need-row-property-requires
-row-property-requires c κs = search needs
-
-row-landmark-requires : tie.Need-row-landmark-requires
-row-landmark-requires c κs = search needs
-
-mul-s : tie.Need-mul-s
-mul-s c = search needs
-
-shared-slice-read-s : tie.Need-shared-slice-read-s
-shared-slice-read-s c = search needs
-
 cast-s : tie.Need-cast-s
 cast-s c = omega (arith, c .shared-slice-known3 .given (c .before .row-landmark .result))
 
@@ -25,15 +13,6 @@ open-row-requires c κs =
     let i = c .before .before .before in
     let s = i .before .before .before .before .before in
     (s .pre .0 .1 .vertices (i .row-landmark .result) (omega (arith, i .row-landmark .ensures)), s .pre .0 .0 .few, s .pre .1 .1)
-
-run-unscheduled-requires : tie.Need-run-unscheduled-requires
-run-unscheduled-requires c κs = search needs
-
-any-requires : tie.Need-any-requires
-any-requires c κs = search needs
-
-same-length : tie.Need-same-length
-same-length c = search needs
 
 returns : tie.Need-returns
 returns c =
@@ -48,13 +27,13 @@ pub open-row-spec : {M : Type 1} → statement M
 open-row-spec =
     tie.close
     (tie.spec
-    row-property-requires
-    row-landmark-requires
-    mul-s
-    shared-slice-read-s
+    (λ c κs. search needs)
+    (λ c κs. search needs)
+    (λ c. search needs)
+    (λ c. search needs)
     cast-s
     open-row-requires
-    run-unscheduled-requires
-    any-requires
-    same-length
+    (λ c κs. search needs)
+    (λ c κs. search needs)
+    (λ c. search needs)
     returns)

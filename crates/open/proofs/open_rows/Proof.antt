@@ -35,12 +35,6 @@ within c =
     let s = begin l in
     row-ends (l .loop .r) (rowCount (s .args .landmarks .now)) (s .args .n) _ (omega (arith, c .loop-test .taken)) (omega (arith, s .pre .1, l .loop .inv .2))
 
-mul-rows : tie.Need-mul-rows Inv-loop μ-loop
-mul-rows c = search needs
-
-empty-requires : tie.Need-empty-requires Inv-loop μ-loop
-empty-requires c κs = search needs
-
 loop-holds : tie.Need-loop-holds Inv-loop μ-loop
 loop-holds c =
     let g = c .before .before .before .before .args in
@@ -54,12 +48,6 @@ add-end c = omega (arith, within c)
 
 mul-open-row : tie.Need-mul-open-row Inv-loop μ-loop
 mul-open-row c = omega (arith, within (c .before))
-
-sub-open-row : tie.Need-sub-open-row Inv-loop μ-loop
-sub-open-row c = omega arith
-
-part-open-row-start : tie.Need-part-open-row-start Inv-loop μ-loop
-part-open-row-start c = omega arith
 
 part-open-row-end : tie.Need-part-open-row-end Inv-loop μ-loop
 part-open-row-end c = omega (arith, within (c .before))
@@ -110,14 +98,14 @@ open-rows-spec =
     (tie.spec
     Inv-loop
     μ-loop
-    mul-rows
-    empty-requires
+    (λ c. search needs)
+    (λ c κs. search needs)
     loop-holds
     mul-start
     add-end
     mul-open-row
-    sub-open-row
-    part-open-row-start
+    (λ c. omega arith)
+    (λ c. omega arith)
     part-open-row-end
     open-row-requires
     add-r

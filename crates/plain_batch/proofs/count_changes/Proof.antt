@@ -5,15 +5,6 @@ use Rattle.plain_batch.proofs.Calling.{changes-length}
 use Rattle.plain_batch.proofs.count_changes.Statement.{statement}
 use Rattle.plain_batch.proofs.count_changes.Tie as tie
 
-lesser-requires : tie.Need-lesser-requires
-lesser-requires c κs = search needs
-
-lesser-requires-2 : tie.Need-lesser-requires-2
-lesser-requires-2 c κs = search needs
-
-lesser-requires-3 : tie.Need-lesser-requires-3
-lesser-requires-3 c κs = search needs
-
 returns : tie.Need-returns
 returns c =
     let a = c .before .before .before .before .before .before .before .args in
@@ -21,4 +12,4 @@ returns c =
 
 pub count-changes-spec : {M : Type 1} → statement M
 count-changes-spec =
-    tie.close (tie.spec lesser-requires lesser-requires-2 lesser-requires-3 returns)
+    tie.close (tie.spec (λ c κs. search needs) (λ c κs. search needs) (λ c κs. search needs) returns)

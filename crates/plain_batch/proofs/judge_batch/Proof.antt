@@ -9,11 +9,8 @@ returns : tie.Need-returns
 unfolding told
 returns c = faults-long _ _ _ _ (c .if1 .taken)
 
-judge-all-requires : tie.Need-judge-all-requires
-judge-all-requires c κs = search needs
-
 returns-2 : tie.Need-returns-2
 returns-2 c = faults-rest _ _ _ _ (c .before .if1 .left) (c .judge-all .ensures)
 
 pub judge-batch-spec : {M : Type 1} → statement M
-judge-batch-spec = tie.close (tie.spec returns judge-all-requires returns-2)
+judge-batch-spec = tie.close (tie.spec returns (λ c κs. search needs) returns-2)

@@ -9,15 +9,6 @@ use Rattle.plate_track.proofs.plate_track_choose.Tie as tie
 returns : tie.Need-returns
 returns c = spelled-short choiceWords _ _ _ (c .if1 .taken)
 
-choose-landmarks-requires : tie.Need-choose-landmarks-requires
-choose-landmarks-requires c κs = search needs
-
-spell-choice-requires : tie.Need-spell-choice-requires
-spell-choice-requires c κs = search needs
-
-same-length : tie.Need-same-length
-same-length c = search needs
-
 returns-2 : tie.Need-returns-2
 returns-2 c =
     let t = c .before .before in
@@ -27,4 +18,4 @@ returns-2 c =
 pub plate-track-choose-spec : {M : Type 1} → statement M
 plate-track-choose-spec =
     tie.close
-    (tie.spec returns choose-landmarks-requires spell-choice-requires same-length returns-2)
+    (tie.spec returns (λ c κs. search needs) (λ c κs. search needs) (λ c. search needs) returns-2)

@@ -8,21 +8,6 @@ use Rattle.plate_track.proofs.plate_track_open.Tie as tie
 returns : tie.Need-returns
 returns c = spelled-short openWords _ _ _ (c .if1 .taken)
 
-open-requires : tie.Need-open-requires
-open-requires c κs = search needs
-
-spell-open-requires : tie.Need-spell-open-requires
-spell-open-requires c κs = search needs
-
-same-length : tie.Need-same-length
-same-length c = search needs
-
-same-length-2 : tie.Need-same-length-2
-same-length-2 c = search needs
-
-same-length-3 : tie.Need-same-length-3
-same-length-3 c = search needs
-
 returns-2 : tie.Need-returns-2
 returns-2 c =
     let t = c .before .before in
@@ -34,9 +19,9 @@ plate-track-open-spec =
     tie.close
     (tie.spec
     returns
-    open-requires
-    spell-open-requires
-    same-length
-    same-length-2
-    same-length-3
+    (λ c κs. search needs)
+    (λ c κs. search needs)
+    (λ c. search needs)
+    (λ c. search needs)
+    (λ c. search needs)
     returns-2)

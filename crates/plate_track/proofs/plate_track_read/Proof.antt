@@ -8,24 +8,6 @@ use Rattle.plate_track.proofs.plate_track_read.Tie as tie
 returns : tie.Need-returns
 returns c = spelled-short sizeWords _ _ _ (c .if1 .taken)
 
-read-network-requires : tie.Need-read-network-requires
-read-network-requires c κs = search needs
-
-spell-read-requires : tie.Need-spell-read-requires
-spell-read-requires c κs = search needs
-
-same-length : tie.Need-same-length
-same-length c = search needs
-
-same-length-2 : tie.Need-same-length-2
-same-length-2 c = search needs
-
-same-length-3 : tie.Need-same-length-3
-same-length-3 c = search needs
-
-same-length-4 : tie.Need-same-length-4
-same-length-4 c = search needs
-
 returns-2 : tie.Need-returns-2
 returns-2 c =
     let t = c .before .before in
@@ -37,10 +19,10 @@ plate-track-read-spec =
     tie.close
     (tie.spec
     returns
-    read-network-requires
-    spell-read-requires
-    same-length
-    same-length-2
-    same-length-3
-    same-length-4
+    (λ c κs. search needs)
+    (λ c κs. search needs)
+    (λ c. search needs)
+    (λ c. search needs)
+    (λ c. search needs)
+    (λ c. search needs)
     returns-2)

@@ -8,18 +8,6 @@ use Rattle.plate_track.proofs.plate_track_read_sources.Tie as tie
 returns : tie.Need-returns
 returns c = spelled-short oneWord _ _ _ (c .if1 .taken)
 
-read-sources-requires : tie.Need-read-sources-requires
-read-sources-requires c κs = search needs
-
-spell-sources-requires : tie.Need-spell-sources-requires
-spell-sources-requires c κs = search needs
-
-same-length : tie.Need-same-length
-same-length c = search needs
-
-same-length-2 : tie.Need-same-length-2
-same-length-2 c = search needs
-
 returns-2 : tie.Need-returns-2
 returns-2 c =
     let t = c .before .before in
@@ -31,8 +19,8 @@ plate-track-read-sources-spec =
     tie.close
     (tie.spec
     returns
-    read-sources-requires
-    spell-sources-requires
-    same-length
-    same-length-2
+    (λ c κs. search needs)
+    (λ c κs. search needs)
+    (λ c. search needs)
+    (λ c. search needs)
     returns-2)

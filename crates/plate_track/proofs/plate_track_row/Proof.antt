@@ -27,18 +27,6 @@ shown c =
 returns : tie.Need-returns
 returns c = spelled-short oneWord _ _ _ (c .if1 .taken)
 
-row-number-requires : tie.Need-row-number-requires
-row-number-requires c κs = search needs
-
-enum-known-r : tie.Need-enum-known-r
-enum-known-r c = search needs
-
-slice-write-reply : tie.Need-slice-write-reply
-slice-write-reply c = search needs
-
-same-length : tie.Need-same-length
-same-length c = search needs
-
 returns-2 : tie.Need-returns-2
 returns-2 c =
     let o = c .before .before .before in
@@ -47,22 +35,10 @@ returns-2 c =
     (ap alone (start-refused _ _ _ _ _ _ _ (o .row-number .ensures) _ _ (c .before .r .given .1)))
     (refused-tells oneWord (s .args .reply .now) (o .before .if1 .left) _ _)
 
-enum-told : tie.Need-enum-told
-enum-told c = search needs
-
-index-of-requires : tie.Need-index-of-requires
-index-of-requires c κs = search needs
-
 row-start-requires : tie.Need-row-start-requires
 row-start-requires c κs =
     let s = shown (c .before) in
     (s .first, s .last, s .few, omega (arith, s .listed, c .index-of .ensures))
-
-slice-write-reply-2 : tie.Need-slice-write-reply-2
-slice-write-reply-2 c = search needs
-
-same-length-2 : tie.Need-same-length-2
-same-length-2 c = search needs
 
 returns-3 : tie.Need-returns-3
 returns-3 c =
@@ -80,14 +56,14 @@ plate-track-row-spec =
     tie.close
     (tie.spec
     returns
-    row-number-requires
-    enum-known-r
-    slice-write-reply
-    same-length
+    (λ c κs. search needs)
+    (λ c. search needs)
+    (λ c. search needs)
+    (λ c. search needs)
     returns-2
-    enum-told
-    index-of-requires
+    (λ c. search needs)
+    (λ c κs. search needs)
     row-start-requires
-    slice-write-reply-2
-    same-length-2
+    (λ c. search needs)
+    (λ c. search needs)
     returns-3)

@@ -10,15 +10,6 @@ use Rattle.plate_track.proofs.plate_track_settled.Tie as tie
 returns : tie.Need-returns
 returns c = spelled-short checkWords _ _ _ (c .if1 .taken)
 
-find-relaxable-requires : tie.Need-find-relaxable-requires
-find-relaxable-requires c κs = search needs
-
-spell-check-requires : tie.Need-spell-check-requires
-spell-check-requires c κs = search needs
-
-same-length : tie.Need-same-length
-same-length c = search needs
-
 returns-2 : tie.Need-returns-2
 returns-2 c =
     let t = c .before .before in
@@ -27,4 +18,4 @@ returns-2 c =
 
 pub plate-track-settled-spec : {M : Type 1} → statement M
 plate-track-settled-spec =
-    tie.close (tie.spec returns find-relaxable-requires spell-check-requires same-length returns-2)
+    tie.close (tie.spec returns (λ c κs. search needs) (λ c κs. search needs) (λ c. search needs) returns-2)

@@ -8,18 +8,6 @@ use Rattle.plate_track.proofs.plate_track_write.Tie as tie
 returns : tie.Need-returns
 returns c = spelled-short oneWord _ _ _ (c .if1 .taken)
 
-write-network-requires : tie.Need-write-network-requires
-write-network-requires c κs = search needs
-
-spell-write-requires : tie.Need-spell-write-requires
-spell-write-requires c κs = search needs
-
-same-length : tie.Need-same-length
-same-length c = search needs
-
-same-length-2 : tie.Need-same-length-2
-same-length-2 c = search needs
-
 returns-2 : tie.Need-returns-2
 returns-2 c =
     let t = c .before .before in
@@ -31,8 +19,8 @@ plate-track-write-spec =
     tie.close
     (tie.spec
     returns
-    write-network-requires
-    spell-write-requires
-    same-length
-    same-length-2
+    (λ c κs. search needs)
+    (λ c κs. search needs)
+    (λ c. search needs)
+    (λ c. search needs)
     returns-2)

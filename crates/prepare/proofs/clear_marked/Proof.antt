@@ -28,27 +28,12 @@ found-within c = let s = c .before .before .before .before .before .before in ma
 loop-holds : tie.Need-loop-holds Inv-loop μ-loop
 loop-holds c = give-start _ _ _ _ (c .before .pre .1)
 
-next-from-requires : tie.Need-next-from-requires Inv-loop μ-loop
-next-from-requires c κs = search needs
-
-enum-known-next : tie.Need-enum-known-next Inv-loop μ-loop
-enum-known-next c = search needs
-
-enum-told : tie.Need-enum-told Inv-loop μ-loop
-enum-told c = search needs
-
-same-length : tie.Need-same-length Inv-loop μ-loop
-same-length c = search needs
-
 returns : tie.Need-returns Inv-loop μ-loop
 returns c =
     let f = c .before .before in
     let l = f .before .before in
     let s = l .before .before in
     give-done _ _ _ _ (s .pre .1) (l .loop .inv) (λ k h j. next-none _ _ (sym (f .next-from .ensures .0) ∙ c .enum-told .given .1) k h)
-
-none-requires : tie.Need-none-requires Inv-loop μ-loop
-none-requires c κs = search needs
 
 mul-out : tie.Need-mul-out Inv-loop μ-loop
 mul-out c = let z = found-within (c .before .before) in search needs
@@ -69,9 +54,6 @@ loop-again c =
     let s = l .before .before in
     give-turn _ _ _ _ (s .pre .1) (l .loop .inv) (found-within k) (found k) (c .none .ensures)
 
-same-length-2 : tie.Need-same-length-2 Inv-loop μ-loop
-same-length-2 c = search needs
-
 returns-2 : tie.Need-returns-2 Inv-loop μ-loop
 returns-2 c =
     let l = c .before in
@@ -84,16 +66,16 @@ clear-marked-spec =
     Inv-loop
     μ-loop
     loop-holds
-    next-from-requires
-    enum-known-next
-    enum-told
-    same-length
+    (λ c κs. search needs)
+    (λ c. search needs)
+    (λ c. search needs)
+    (λ c. search needs)
     returns
-    none-requires
+    (λ c κs. search needs)
     mul-out
     slice-write-out
     add-i
     loop-less
     loop-again
-    same-length-2
+    (λ c. search needs)
     returns-2)

@@ -10,15 +10,6 @@ use borrow.Author.Needs.{needs}
 use Rattle.prepare.proofs.copy_cleared.Statement.{statement}
 use Rattle.prepare.proofs.copy_cleared.Tie as tie
 
-copy-requires : tie.Need-copy-requires
-copy-requires c κs = search needs
-
-clear-marked-requires : tie.Need-clear-marked-requires
-clear-marked-requires c κs = search needs
-
-same-length : tie.Need-same-length
-same-length c = search needs
-
 returns : tie.Need-returns
 returns c =
     let m = c .before .before in
@@ -29,4 +20,4 @@ returns c =
     ∙ ap (λ (l : List ℕ). start.cleared (property (a .p)) (bits (a .n) (a .marks .now)) l (a .n)) (y .copy .ensures ∙ paste-whole (a .out .now) (a .words .now) (a .n) (s .pre .2) (s .pre .1))
 
 pub copy-cleared-spec : {M : Type 1} → statement M
-copy-cleared-spec = tie.close (tie.spec copy-requires clear-marked-requires same-length returns)
+copy-cleared-spec = tie.close (tie.spec (λ c κs. search needs) (λ c κs. search needs) (λ c. search needs) returns)

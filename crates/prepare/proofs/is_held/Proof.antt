@@ -10,12 +10,6 @@ use Rattle.prepare.specs.Code.{holds}
 use Rattle.prepare.proofs.is_held.Statement.{statement}
 use Rattle.prepare.proofs.is_held.Tie as tie
 
-along-requires : tie.Need-along-requires
-along-requires c κs = search needs
-
-none-requires : tie.Need-none-requires
-none-requires c κs = search needs
-
 -- the ways through the test: a is the value along the edge, m the no-route word
 module _ (P : Property) (s v w h x a : ℕ) (along : a ≡ P .along v w) where
   way-last : (m : ℕ) → m ≡ P .none → a ≡ x → (h ≡ s → ⊥) → not (eqb x m) ≡ holds P s v w h x
@@ -46,4 +40,4 @@ returns-3 c =
     way-loose (property (a .p)) (a .s) (a .v) (a .w) (a .h) (a .x) _ (b .along .ensures) (c .if1 .left)
 
 pub is-held-spec : {M : Type 1} → statement M
-is-held-spec = tie.close (tie.spec along-requires none-requires returns returns-2 returns-3)
+is-held-spec = tie.close (tie.spec (λ c κs. search needs) (λ c κs. search needs) returns returns-2 returns-3)

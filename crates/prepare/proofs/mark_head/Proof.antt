@@ -14,9 +14,6 @@ use borrow.Author.Needs.{needs}
 use Rattle.prepare.proofs.mark_head.Statement.{statement}
 use Rattle.prepare.proofs.mark_head.Tie as tie
 
-contains-requires : tie.Need-contains-requires
-contains-requires c κs = search needs
-
 -- the head is marked already
 off : (c : tie.Then1) → let a = c .before .before .before .before .args in
     marksHead (property (a .p)) (a .s) (a .words .now) (waitingOf (a .marks .now)) (edge (a .t) (a .h) (a .w)) ≡ false
@@ -30,27 +27,6 @@ returns c =
     let a = s .args in
     let z = off c in
     (ap (λ b. cond b (set (waitingOf (a .marks .now)) (a .h) true) (waitingOf (a .marks .now))) (sym z), ap (λ b. cond b (set (waitingOf (a .todo .now)) (a .h) true) (waitingOf (a .todo .now))) (sym z))
-
-mul-is-held : tie.Need-mul-is-held
-mul-is-held c = search needs
-
-shared-slice-read-is-held : tie.Need-shared-slice-read-is-held
-shared-slice-read-is-held c = search needs
-
-mul-is-held-2 : tie.Need-mul-is-held-2
-mul-is-held-2 c = search needs
-
-shared-slice-read-is-held-2 : tie.Need-shared-slice-read-is-held-2
-shared-slice-read-is-held-2 c = search needs
-
-is-held-requires : tie.Need-is-held-requires
-is-held-requires c κs = search needs
-
-insert-requires : tie.Need-insert-requires
-insert-requires c κs = search needs
-
-insert-requires-2 : tie.Need-insert-requires-2
-insert-requires-2 c κs = search needs
 
 returns-2 : tie.Need-returns-2
 returns-2 c =
@@ -79,14 +55,14 @@ pub mark-head-spec : {M : Type 1} → statement M
 mark-head-spec =
     tie.close
     (tie.spec
-    contains-requires
+    (λ c κs. search needs)
     returns
-    mul-is-held
-    shared-slice-read-is-held
-    mul-is-held-2
-    shared-slice-read-is-held-2
-    is-held-requires
-    insert-requires
-    insert-requires-2
+    (λ c. search needs)
+    (λ c. search needs)
+    (λ c. search needs)
+    (λ c. search needs)
+    (λ c κs. search needs)
+    (λ c κs. search needs)
+    (λ c κs. search needs)
     returns-2
     returns-3)

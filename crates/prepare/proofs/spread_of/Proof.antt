@@ -33,15 +33,6 @@ found-within c = marks-within _ (c .before .before .before .before .loop .todo) 
 loop-holds : tie.Need-loop-holds Inv-loop μ-loop
 loop-holds c = ((λ es o. spreads-none), c .before .before .pre .2)
 
-next-from-requires : tie.Need-next-from-requires Inv-loop μ-loop
-next-from-requires c κs = search needs
-
-enum-known-next : tie.Need-enum-known-next Inv-loop μ-loop
-enum-known-next c = search needs
-
-enum-told : tie.Need-enum-told Inv-loop μ-loop
-enum-told c = search needs
-
 returns : tie.Need-returns Inv-loop μ-loop
 returns c =
     let f = c .before .before in
@@ -83,9 +74,9 @@ spread-of-spec =
     Inv-loop
     μ-loop
     loop-holds
-    next-from-requires
-    enum-known-next
-    enum-told
+    (λ c κs. search needs)
+    (λ c. search needs)
+    (λ c. search needs)
     returns
     remove-requires
     spread-from-requires

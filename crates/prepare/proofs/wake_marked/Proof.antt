@@ -30,15 +30,6 @@ found-within c = let s = c .before .before .before .before .before .before in ma
 loop-holds : tie.Need-loop-holds Inv-loop μ-loop
 loop-holds c = (raised-none _ _ (λ t q. let a = q .1 in omega arith), c .before .pre .2, omega arith)
 
-next-from-requires : tie.Need-next-from-requires Inv-loop μ-loop
-next-from-requires c κs = search needs
-
-enum-known-next : tie.Need-enum-known-next Inv-loop μ-loop
-enum-known-next c = search needs
-
-enum-told : tie.Need-enum-told Inv-loop μ-loop
-enum-told c = search needs
-
 returns : tie.Need-returns Inv-loop μ-loop
 returns c =
     let f = c .before .before in
@@ -81,9 +72,9 @@ wake-marked-spec =
     Inv-loop
     μ-loop
     loop-holds
-    next-from-requires
-    enum-known-next
-    enum-told
+    (λ c κs. search needs)
+    (λ c. search needs)
+    (λ c. search needs)
     returns
     wake-into-requires
     add-i

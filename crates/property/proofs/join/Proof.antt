@@ -5,21 +5,6 @@ use Rattle.property.proofs.Instances.{property-rest}
 use Rattle.property.proofs.join.Statement.{statement}
 use Rattle.property.proofs.join.Tie as tie
 
-sum-requires : tie.Need-sum-requires
-sum-requires c κs = search needs
-
-sum-requires-2 : tie.Need-sum-requires-2
-sum-requires-2 c κs = search needs
-
-lesser-requires : tie.Need-lesser-requires
-lesser-requires c κs = search needs
-
-greater-requires : tie.Need-greater-requires
-greater-requires c κs = search needs
-
-lesser-requires-2 : tie.Need-lesser-requires-2
-lesser-requires-2 c κs = search needs
-
 returns : tie.Need-returns
 unfolding property
 returns c = rw (c .before .match .keys1) (c .sum .ensures)
@@ -41,4 +26,4 @@ unfolding property
 returns-5 c = rw (property-rest _ (c .before .match .rest)) (c .lesser2 .ensures)
 
 pub join-spec : {M : Type 1} → statement M
-join-spec = tie.close (tie.spec sum-requires sum-requires-2 lesser-requires greater-requires lesser-requires-2 returns returns-2 returns-3 returns-4 returns-5)
+join-spec = tie.close (tie.spec (λ c κs. search needs) (λ c κs. search needs) (λ c κs. search needs) (λ c κs. search needs) (λ c κs. search needs) returns returns-2 returns-3 returns-4 returns-5)

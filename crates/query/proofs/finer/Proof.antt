@@ -4,9 +4,6 @@ use mathlib.Core.Path.{sym, _∙_}
 use Rattle.query.proofs.finer.Statement.{statement}
 use Rattle.query.proofs.finer.Tie as tie
 
-better-requires : tie.Need-better-requires
-better-requires c κs = search needs
-
 returns : tie.Need-returns
 returns c = rw (sym (c .before .better .ensures) ∙ c .if1 .taken)
 
@@ -14,4 +11,4 @@ returns-2 : tie.Need-returns-2
 returns-2 c = rw (sym (c .before .better .ensures) ∙ c .if1 .left)
 
 pub finer-spec : {M : Type 1} → statement M
-finer-spec = tie.close (tie.spec better-requires returns returns-2)
+finer-spec = tie.close (tie.spec (λ c κs. search needs) returns returns-2)

@@ -13,14 +13,8 @@ use Rattle.query.proofs.judge_outputs.Tie as tie
 flag : (c : tie.Joined1) → let a = c .before .args in c .if1 .refuse-if ≡ (ltb (a .starts) (a .n) || ltb (a .settled) (a .n))
 flag c = ⊎-elim (λ w. w .1 ∙ or-taken _ _ (lt-ltb _ _ (w .0 .taken))) (λ w. w .1 ∙ or-left _ _ (le-ltb _ _ (w .0 .left))) (c .if1 .came)
 
-cast-words : tie.Need-cast-words
-cast-words c = search needs
-
-refuse-if-requires : tie.Need-refuse-if-requires
-refuse-if-requires c κs = search needs
-
 returns : tie.Need-returns
 returns c = c .refuse-if .ensures ∙ ap (λ (b : Bool). refuseIf b 2 0) (flag (c .before))
 
 pub judge-outputs-spec : {M : Type 1} → statement M
-judge-outputs-spec = tie.close (tie.spec cast-words refuse-if-requires returns)
+judge-outputs-spec = tie.close (tie.spec (λ c. search needs) (λ c κs. search needs) returns)

@@ -7,41 +7,14 @@ use Rattle.query.proofs.AskingFaults.{faults-flat}
 use Rattle.query.proofs.judge_query.Statement.{statement}
 use Rattle.query.proofs.judge_query.Tie as tie
 
-judge-sizes-requires : tie.Need-judge-sizes-requires
-judge-sizes-requires c κs = search needs
-
-enum-told : tie.Need-enum-told
-enum-told c = search needs
-
-enum-told-2 : tie.Need-enum-told-2
-enum-told-2 c = search needs
-
 returns : tie.Need-returns
 returns c = then-refused _ _ _ _ _ (c .before .before .judge-sizes .ensures) (c .enum-told2 .given .1) ∙ faults-flat _ _ _ _ _ _
-
-judge-lists-requires : tie.Need-judge-lists-requires
-judge-lists-requires c κs = search needs
-
-enum-told-3 : tie.Need-enum-told-3
-enum-told-3 c = search needs
-
-enum-told-4 : tie.Need-enum-told-4
-enum-told-4 c = search needs
 
 returns-2 : tie.Need-returns-2
 returns-2 c =
     let l = c .before .before in
     let s = l .before in
     then-judged _ _ _ _ (s .before .before .judge-sizes .ensures) (s .enum-told .given .1) (then-refused _ _ _ _ _ (l .judge-lists .ensures) (c .enum-told4 .given .1)) ∙ faults-flat _ _ _ _ _ _
-
-judge-outputs-requires : tie.Need-judge-outputs-requires
-judge-outputs-requires c κs = search needs
-
-enum-told-5 : tie.Need-enum-told-5
-enum-told-5 c = search needs
-
-enum-told-6 : tie.Need-enum-told-6
-enum-told-6 c = search needs
 
 returns-3 : tie.Need-returns-3
 returns-3 c =
@@ -57,12 +30,6 @@ judge-network-requires c κs =
     let a = l .before .before .before .before .before .before .before .before .before .before .before .before .before .args in
     lengths-accept (a .tails .now) (a .heads .now) (a .weights .now) ((then-accept _ _ (fine-accept _ _ (l .before .before .judge-lists .ensures) (l .enum-told3 .given .1))) .0)
 
-enum-told-7 : tie.Need-enum-told-7
-enum-told-7 c = search needs
-
-enum-told-8 : tie.Need-enum-told-8
-enum-told-8 c = search needs
-
 returns-4 : tie.Need-returns-4
 returns-4 c =
     let m = c .before .before in
@@ -72,9 +39,6 @@ returns-4 c =
     then-judged _ _ _ _ (s .before .before .judge-sizes .ensures) (s .enum-told .given .1)
     (then-judged _ _ _ _ (l .before .before .judge-lists .ensures) (l .enum-told3 .given .1)
     (then-judged _ _ _ _ (o .before .before .judge-outputs .ensures) (o .enum-told5 .given .1) (then-refused _ _ _ _ _ (m .judge-network .ensures) (c .enum-told8 .given .1)))) ∙ faults-flat _ _ _ _ _ _
-
-judge-request-requires : tie.Need-judge-request-requires
-judge-request-requires c κs = search needs
 
 returns-5 : tie.Need-returns-5
 returns-5 c =
@@ -91,21 +55,21 @@ pub judge-query-spec : {M : Type 1} → statement M
 judge-query-spec =
     tie.close
     (tie.spec
-    judge-sizes-requires
-    enum-told
-    enum-told-2
+    (λ c κs. search needs)
+    (λ c. search needs)
+    (λ c. search needs)
     returns
-    judge-lists-requires
-    enum-told-3
-    enum-told-4
+    (λ c κs. search needs)
+    (λ c. search needs)
+    (λ c. search needs)
     returns-2
-    judge-outputs-requires
-    enum-told-5
-    enum-told-6
+    (λ c κs. search needs)
+    (λ c. search needs)
+    (λ c. search needs)
     returns-3
     judge-network-requires
-    enum-told-7
-    enum-told-8
+    (λ c. search needs)
+    (λ c. search needs)
     returns-4
-    judge-request-requires
+    (λ c κs. search needs)
     returns-5)

@@ -10,9 +10,6 @@ use Rattle.property.specs.Property.{isProperty}
 use Rattle.query.proofs.judge_request.Statement.{statement}
 use Rattle.query.proofs.judge_request.Tie as tie
 
-is-property-requires : tie.Need-is-property-requires
-is-property-requires c κs = search needs
-
 returns : tie.Need-returns
 returns c =
     let a = c .before .before .before .args in
@@ -25,9 +22,6 @@ returns-2 c =
     if-judged (not (isProperty (a .property))) 5 0 _ _ (ap not (sym (i .is-property .ensures)) ∙ c .before .if1 .left)
     (if-refused (not (ltb (a .source) (a .n))) 6 0 _ (ap not (le-ltb (a .source) (a .n) (omega arith))))
 
-judge-schedule-requires : tie.Need-judge-schedule-requires
-judge-schedule-requires c κs = search needs
-
 returns-3 : tie.Need-returns-3
 returns-3 c =
     let i = c .before .before .before in
@@ -38,4 +32,4 @@ returns-3 c =
 pub judge-request-spec : {M : Type 1} → statement M
 judge-request-spec =
     tie.close
-    (tie.spec is-property-requires returns returns-2 judge-schedule-requires returns-3)
+    (tie.spec (λ c κs. search needs) returns returns-2 (λ c κs. search needs) returns-3)

@@ -4,20 +4,8 @@ use Rattle.graph.proofs.Judging.{then-refused, then-judged}
 use Rattle.query.proofs.judge_sizes.Statement.{statement}
 use Rattle.query.proofs.judge_sizes.Tie as tie
 
-judge-size-requires : tie.Need-judge-size-requires
-judge-size-requires c κs = search needs
-
-enum-told : tie.Need-enum-told
-enum-told c = search needs
-
-enum-told-2 : tie.Need-enum-told-2
-enum-told-2 c = search needs
-
 returns : tie.Need-returns
 returns c = then-refused _ _ _ _ _ (c .before .before .judge-size .ensures) (c .enum-told2 .given .1)
-
-refuse-if-requires : tie.Need-refuse-if-requires
-refuse-if-requires c κs = search needs
 
 returns-2 : tie.Need-returns-2
 returns-2 c = then-judged _ _ _ _ (c .before .before .before .judge-size .ensures) (c .before .enum-told .given .1) (c .refuse-if .ensures)
@@ -25,4 +13,4 @@ returns-2 c = then-judged _ _ _ _ (c .before .before .before .judge-size .ensure
 pub judge-sizes-spec : {M : Type 1} → statement M
 judge-sizes-spec =
     tie.close
-    (tie.spec judge-size-requires enum-told enum-told-2 returns refuse-if-requires returns-2)
+    (tie.spec (λ c κs. search needs) (λ c. search needs) (λ c. search needs) returns (λ c κs. search needs) returns-2)

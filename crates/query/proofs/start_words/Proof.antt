@@ -41,9 +41,6 @@ loop-holds c =
       omega arith,
     )
 
-row-start-requires : tie.Need-row-start-requires Inv-loop μ-loop
-row-start-requires c κs = search needs
-
 -- the row lies in both lists
 inside : (c : tie.After-row-start Inv-loop μ-loop) → let a = start (c .before .before) .args in (c .row-start .result + a .n ≤ length (a .backward .now)) × (c .row-start .result + a .n ≤ length (a .forward .now))
 inside c =
@@ -115,7 +112,7 @@ start-words-spec =
     (λ c κs. search needs)
     loop-holds
     (λ c. search needs)
-    row-start-requires
+    (λ c κs. search needs)
     add-join-row
     mul-join-row
     shared-slice-read-join-row

@@ -27,23 +27,8 @@ within c =
     let f = c .lesser2 .ensures in
     (omega arith, omega arith, omega arith, omega arith, omega arith)
 
-count-changes-requires : tie.Need-count-changes-requires
-count-changes-requires c κs = search needs
-
-lesser-requires : tie.Need-lesser-requires
-lesser-requires c κs = search needs
-
-lesser-requires-2 : tie.Need-lesser-requires-2
-lesser-requires-2 c κs = search needs
-
 mul-batch-lists : tie.Need-mul-batch-lists
 mul-batch-lists c = let z = within (c .before .before .before .before .before) in search needs
-
-sub-batch-lists : tie.Need-sub-batch-lists
-sub-batch-lists c = search needs
-
-part-batch-lists-start : tie.Need-part-batch-lists-start
-part-batch-lists-start c = search needs
 
 part-batch-lists-end : tie.Need-part-batch-lists-end
 part-batch-lists-end c = within (c .before .before .before .before .before) .1
@@ -51,23 +36,11 @@ part-batch-lists-end c = within (c .before .before .before .before .before) .1
 mul-batch-lists-2 : tie.Need-mul-batch-lists-2
 mul-batch-lists-2 c = let z = within (c .before .before .before .before .before .before) in search needs
 
-sub-batch-lists-2 : tie.Need-sub-batch-lists-2
-sub-batch-lists-2 c = search needs
-
-part-batch-lists-start-2 : tie.Need-part-batch-lists-start-2
-part-batch-lists-start-2 c = search needs
-
 part-batch-lists-end-2 : tie.Need-part-batch-lists-end-2
 part-batch-lists-end-2 c = within (c .before .before .before .before .before .before) .2
 
 mul-batch-lists-3 : tie.Need-mul-batch-lists-3
 mul-batch-lists-3 c = let z = within (c .before .before .before .before .before .before .before) in search needs
-
-sub-batch-lists-3 : tie.Need-sub-batch-lists-3
-sub-batch-lists-3 c = search needs
-
-part-batch-lists-start-3 : tie.Need-part-batch-lists-start-3
-part-batch-lists-start-3 c = search needs
 
 part-batch-lists-end-3 : tie.Need-part-batch-lists-end-3
 part-batch-lists-end-3 c = within (c .before .before .before .before .before .before .before) .3
@@ -75,32 +48,8 @@ part-batch-lists-end-3 c = within (c .before .before .before .before .before .be
 mul-batch-lists-4 : tie.Need-mul-batch-lists-4
 mul-batch-lists-4 c = let z = within (c .before .before .before .before .before .before .before .before) in search needs
 
-sub-batch-lists-4 : tie.Need-sub-batch-lists-4
-sub-batch-lists-4 c = search needs
-
-part-batch-lists-start-4 : tie.Need-part-batch-lists-start-4
-part-batch-lists-start-4 c = search needs
-
 part-batch-lists-end-4 : tie.Need-part-batch-lists-end-4
 part-batch-lists-end-4 c = within (c .before .before .before .before .before .before .before .before) .4
-
-batch-lists-requires : tie.Need-batch-lists-requires
-batch-lists-requires c κs = search needs
-
-same-length : tie.Need-same-length
-same-length c = search needs
-
-same-length-2 : tie.Need-same-length-2
-same-length-2 c = search needs
-
-same-length-3 : tie.Need-same-length-3
-same-length-3 c = search needs
-
-same-length-4 : tie.Need-same-length-4
-same-length-4 c = search needs
-
-same-length-5 : tie.Need-same-length-5
-same-length-5 c = search needs
 
 returns : tie.Need-returns
 returns c =
@@ -118,29 +67,29 @@ pub apply-part-spec : {M : Type 1} → statement M
 apply-part-spec =
     tie.close
     (tie.spec
-    count-changes-requires
-    lesser-requires
-    lesser-requires-2
+    (λ c κs. search needs)
+    (λ c κs. search needs)
+    (λ c κs. search needs)
     mul-batch-lists
-    sub-batch-lists
-    part-batch-lists-start
+    (λ c. search needs)
+    (λ c. search needs)
     part-batch-lists-end
     mul-batch-lists-2
-    sub-batch-lists-2
-    part-batch-lists-start-2
+    (λ c. search needs)
+    (λ c. search needs)
     part-batch-lists-end-2
     mul-batch-lists-3
-    sub-batch-lists-3
-    part-batch-lists-start-3
+    (λ c. search needs)
+    (λ c. search needs)
     part-batch-lists-end-3
     mul-batch-lists-4
-    sub-batch-lists-4
-    part-batch-lists-start-4
+    (λ c. search needs)
+    (λ c. search needs)
     part-batch-lists-end-4
-    batch-lists-requires
-    same-length
-    same-length-2
-    same-length-3
-    same-length-4
-    same-length-5
+    (λ c κs. search needs)
+    (λ c. search needs)
+    (λ c. search needs)
+    (λ c. search needs)
+    (λ c. search needs)
+    (λ c. search needs)
     returns)

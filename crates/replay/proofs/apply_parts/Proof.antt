@@ -34,31 +34,16 @@ loop-holds c = (refl, omega arith, omega arith, refl, refl, refl, refl, refl)
 mul-to : tie.Need-mul-to Inv-loop μ-loop
 mul-to c = search needs
 
-shared-slice-read-to : tie.Need-shared-slice-read-to Inv-loop μ-loop
-shared-slice-read-to c = search needs
-
 cast-to : tie.Need-cast-to Inv-loop μ-loop
 cast-to c = omega (arith, c .shared-slice-known7 .given (c .before .before .loop .i))
-
-apply-part-requires : tie.Need-apply-part-requires Inv-loop μ-loop
-apply-part-requires c κs = search needs
-
-enum-known-applied : tie.Need-enum-known-applied Inv-loop μ-loop
-enum-known-applied c = search needs
 
 add-accepted : tie.Need-add-accepted Inv-loop μ-loop
 add-accepted c =
     let t = c .before .before .before .before .before .before .before .before .before .before .before .before .before .before .before .before .before .before .before .before in
     omega (arith, mul-to t, t .before .loop .inv .1)
 
-enum-told : tie.Need-enum-told Inv-loop μ-loop
-enum-told c = search needs
-
 add-i : tie.Need-add-i Inv-loop μ-loop
 add-i c = omega (arith, mul-to (c .before .before .before .before .before .before .before .before .before .before .before .before .before .before .before .before .before .before))
-
-loop-less : tie.Need-loop-less Inv-loop μ-loop
-loop-less c = search needs
 
 loop-again : tie.Need-loop-again Inv-loop μ-loop
 loop-again c =
@@ -112,14 +97,14 @@ apply-parts-spec =
     μ-loop
     loop-holds
     mul-to
-    shared-slice-read-to
+    (λ c. search needs)
     cast-to
-    apply-part-requires
-    enum-known-applied
+    (λ c κs. search needs)
+    (λ c. search needs)
     add-accepted
-    enum-told
+    (λ c. search needs)
     add-i
-    loop-less
+    (λ c. search needs)
     loop-again
     same-length
     same-length-2

@@ -36,9 +36,6 @@ lies c =
     let d = c .before .loop .inv .0 .size in
     (e, omega arith, omega arith)
 
-mul-size : tie.Need-mul-size Inv-loop μ-loop
-mul-size c = search needs
-
 loop-holds : tie.Need-loop-holds Inv-loop μ-loop
 loop-holds c = let s = c .before .before .before .before .before .before .before in (counting-start _ _ _ (s .pre .2), (λ es fs d. rows-start _ _ _ _ _ _ _))
 
@@ -51,23 +48,11 @@ add-end c = let z = lies c in let g = start (c .before) .good in omega arith
 mul-batch-row : tie.Need-mul-batch-row Inv-loop μ-loop
 mul-batch-row c = let z = lies c in let g = start (c .before) .good in omega arith
 
-sub-batch-row : tie.Need-sub-batch-row Inv-loop μ-loop
-sub-batch-row c = omega arith
-
-part-batch-row-start : tie.Need-part-batch-row-start Inv-loop μ-loop
-part-batch-row-start c = omega arith
-
 part-batch-row-end : tie.Need-part-batch-row-end Inv-loop μ-loop
 part-batch-row-end c = lies c .1
 
 mul-batch-row-2 : tie.Need-mul-batch-row-2 Inv-loop μ-loop
 mul-batch-row-2 c = let z = lies (c .before) in let g = start (c .before .before) .good in omega arith
-
-sub-batch-row-2 : tie.Need-sub-batch-row-2 Inv-loop μ-loop
-sub-batch-row-2 c = omega arith
-
-part-batch-row-start-2 : tie.Need-part-batch-row-start-2 Inv-loop μ-loop
-part-batch-row-start-2 c = omega arith
 
 part-batch-row-end-2 : tie.Need-part-batch-row-end-2 Inv-loop μ-loop
 part-batch-row-end-2 c = lies (c .before) .2
@@ -128,17 +113,17 @@ batch-rows-spec =
     (tie.spec
     Inv-loop
     μ-loop
-    mul-size
+    (λ c. search needs)
     loop-holds
     mul-start
     add-end
     mul-batch-row
-    sub-batch-row
-    part-batch-row-start
+    (λ c. omega arith)
+    (λ c. omega arith)
     part-batch-row-end
     mul-batch-row-2
-    sub-batch-row-2
-    part-batch-row-start-2
+    (λ c. omega arith)
+    (λ c. omega arith)
     part-batch-row-end-2
     batch-row-requires
     add-affected

@@ -6,27 +6,6 @@ use Rattle.run.proofs.Starts.{opened-state, opened-sized}
 use Rattle.run.proofs.open_row.Statement.{statement}
 use Rattle.run.proofs.open_row.Tie as tie
 
-none-requires : tie.Need-none-requires
-none-requires c κs = search needs
-
-fill-requires : tie.Need-fill-requires
-fill-requires c κs = search needs
-
-start-requires : tie.Need-start-requires
-start-requires c κs = search needs
-
-mul-words : tie.Need-mul-words
-mul-words c = search needs
-
-slice-write-words : tie.Need-slice-write-words
-slice-write-words c = search needs
-
-start-at-requires : tie.Need-start-at-requires
-start-at-requires c κs = search needs
-
-same-length : tie.Need-same-length
-same-length c = search needs
-
 returns : tie.Need-returns
 returns c =
     let v = c .before .before in
@@ -45,11 +24,11 @@ pub open-row-spec : {M : Type 1} → statement M
 open-row-spec =
     tie.close
     (tie.spec
-    none-requires
-    fill-requires
-    start-requires
-    mul-words
-    slice-write-words
-    start-at-requires
-    same-length
+    (λ c κs. search needs)
+    (λ c κs. search needs)
+    (λ c κs. search needs)
+    (λ c. search needs)
+    (λ c. search needs)
+    (λ c κs. search needs)
+    (λ c. search needs)
     returns)

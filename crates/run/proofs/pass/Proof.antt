@@ -33,12 +33,6 @@ loop-holds c =
     let s = c .before .before .before in
     ((λ es o. refl), omega arith, ran-none (s .pre .0 .sized) (s .args .tally) 0 0 0)
 
-mul-u : tie.Need-mul-u Inv-loop μ-loop
-mul-u c = search needs
-
-shared-slice-read-u : tie.Need-shared-slice-read-u Inv-loop μ-loop
-shared-slice-read-u c = search needs
-
 cast-u : tie.Need-cast-u Inv-loop μ-loop
 cast-u c = omega (arith, c .shared-slice-known3 .given (c .before .before .loop .entry))
 
@@ -53,12 +47,6 @@ take-requires c κs =
       record { index = f .index; sized = r .sized; low = record { taken = omega (arith, v .few); rounds = omega arith; stores = omega (arith, v .few) } },
     )
 
-add-entry : tie.Need-add-entry Inv-loop μ-loop
-add-entry c = search needs
-
-loop-less : tie.Need-loop-less Inv-loop μ-loop
-loop-less c = search needs
-
 loop-again : tie.Need-loop-again Inv-loop μ-loop
 loop-again c =
     let r = c .before .before in
@@ -72,9 +60,6 @@ loop-again c =
       omega arith,
       ran-then (at .inv .2) (r .take .ensures .1) (omega arith) (omega arith) (omega arith),
     )
-
-same-length : tie.Need-same-length Inv-loop μ-loop
-same-length c = search needs
 
 returns : tie.Need-returns Inv-loop μ-loop
 returns c =
@@ -92,12 +77,12 @@ pass-spec =
     Inv-loop
     μ-loop
     loop-holds
-    mul-u
-    shared-slice-read-u
+    (λ c. search needs)
+    (λ c. search needs)
     cast-u
     take-requires
-    add-entry
-    loop-less
+    (λ c. search needs)
+    (λ c. search needs)
     loop-again
-    same-length
+    (λ c. search needs)
     returns)

@@ -7,30 +7,6 @@ use Rattle.run.proofs.States.{ran-none, ran-store, relax-stores, relax-
 use Rattle.run.proofs.relax.Statement.{statement}
 use Rattle.run.proofs.relax.Tie as tie
 
-mul-better : tie.Need-mul-better
-mul-better c = search needs
-
-slice-read-better : tie.Need-slice-read-better
-slice-read-better c = search needs
-
-better-requires : tie.Need-better-requires
-better-requires c κs = search needs
-
-mul-words : tie.Need-mul-words
-mul-words c = search needs
-
-slice-write-words : tie.Need-slice-write-words
-slice-write-words c = search needs
-
-insert-requires : tie.Need-insert-requires
-insert-requires c κs = search needs
-
-add-t17 : tie.Need-add-t17
-add-t17 c = search needs
-
-same-length : tie.Need-same-length
-same-length c = search needs
-
 returns : tie.Need-returns
 returns c =
     let i = c .before in
@@ -60,13 +36,13 @@ pub relax-spec : {M : Type 1} → statement M
 relax-spec =
     tie.close
     (tie.spec
-    mul-better
-    slice-read-better
-    better-requires
-    mul-words
-    slice-write-words
-    insert-requires
-    add-t17
-    same-length
+    (λ c. search needs)
+    (λ c. search needs)
+    (λ c κs. search needs)
+    (λ c. search needs)
+    (λ c. search needs)
+    (λ c κs. search needs)
+    (λ c. search needs)
+    (λ c. search needs)
     returns
     returns-2)

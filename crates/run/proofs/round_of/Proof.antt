@@ -37,25 +37,10 @@ found c = next-first _ _ _ (sym (c .before .before .next-from .ensures .0) ∙ c
 found-within : (c : tie.After-next Inv-loop μ-loop) → c .next .given .0 .0 < c .before .before .before .before .before .before .before .before .before .args .n
 found-within c = marks-within _ (c .before .before .before .before .before .loop .waiting) _ (c .before .before .before .before .before .loop .inv .2 .sized .waiting) (found c .waits)
 
-add-t11 : tie.Need-add-t11 Inv-loop μ-loop
-add-t11 c = search needs
-
 loop-holds : tie.Need-loop-holds Inv-loop μ-loop
 loop-holds c =
     let s = c .before .before .before in
     ((λ es o. rw sub-zero), omega arith, ran-none (s .pre .sized) _ 0 0 0)
-
-next-from-requires : tie.Need-next-from-requires Inv-loop μ-loop
-next-from-requires c κs = search needs
-
-enum-known-next : tie.Need-enum-known-next Inv-loop μ-loop
-enum-known-next c = search needs
-
-enum-told : tie.Need-enum-told Inv-loop μ-loop
-enum-told c = search needs
-
-same-length : tie.Need-same-length Inv-loop μ-loop
-same-length c = search needs
 
 returns : tie.Need-returns Inv-loop μ-loop
 returns c =
@@ -103,9 +88,6 @@ loop-again c =
       ran-then (at .inv .2) (r .handle .ensures .1) (omega arith) (omega arith) (omega (arith, f .from)),
     )
 
-same-length-2 : tie.Need-same-length-2 Inv-loop μ-loop
-same-length-2 c = search needs
-
 returns-2 : tie.Need-returns-2 Inv-loop μ-loop
 returns-2 c =
     let l = c .before in
@@ -124,16 +106,16 @@ round-of-spec =
     (tie.spec
     Inv-loop
     μ-loop
-    add-t11
+    (λ c. search needs)
     loop-holds
-    next-from-requires
-    enum-known-next
-    enum-told
-    same-length
+    (λ c κs. search needs)
+    (λ c. search needs)
+    (λ c. search needs)
+    (λ c. search needs)
     returns
     handle-requires
     add-i
     loop-less
     loop-again
-    same-length-2
+    (λ c. search needs)
     returns-2)

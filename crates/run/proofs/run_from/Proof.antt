@@ -14,12 +14,6 @@ pass-requires c κs =
     let l = s .pre .0 .low in
     (record { index = s .pre .0 .index; sized = s .pre .0 .sized; low = record { taken = omega arith; rounds = omega arith; stores = omega arith } }, s .pre .1)
 
-settle-requires : tie.Need-settle-requires
-settle-requires c κs = search needs
-
-same-length : tie.Need-same-length
-same-length c = search needs
-
 returns : tie.Need-returns
 returns c =
     let d = c .before .before in
@@ -28,4 +22,4 @@ returns c =
     (λ es o. d .settle .ensures .0 es o ∙ ap (settle (property (a .p)) es (a .n) (a .n)) (e .pass .ensures .0 es o), ran-then (e .pass .ensures .1) (d .settle .ensures .1) (omega arith) (omega arith) (omega arith))
 
 pub run-from-spec : {M : Type 1} → statement M
-run-from-spec = tie.close (tie.spec pass-requires settle-requires same-length returns)
+run-from-spec = tie.close (tie.spec pass-requires (λ c κs. search needs) (λ c. search needs) returns)

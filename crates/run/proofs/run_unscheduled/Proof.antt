@@ -6,18 +6,9 @@ use Rattle.run.proofs.States.{ran-within}
 use Rattle.run.proofs.run_unscheduled.Statement.{statement}
 use Rattle.run.proofs.run_unscheduled.Tie as tie
 
-slice-aggregate-run-counted : tie.Need-slice-aggregate-run-counted
-slice-aggregate-run-counted c = search needs
-
-run-counted-requires : tie.Need-run-counted-requires
-run-counted-requires c κs = search needs
-
-same-length : tie.Need-same-length
-same-length c = search needs
-
 returns : tie.Need-returns
 unfolding pass
 returns c = let r = c .before .before .run-counted .ensures in (r .0, ran-within (r .1) (omega arith) (omega arith) (omega arith))
 
 pub run-unscheduled-spec : {M : Type 1} → statement M
-run-unscheduled-spec = tie.close (tie.spec slice-aggregate-run-counted run-counted-requires same-length returns)
+run-unscheduled-spec = tie.close (tie.spec (λ c. search needs) (λ c κs. search needs) (λ c. search needs) returns)

@@ -32,12 +32,6 @@ loop-holds c =
     let s = c .before .before in
     ((λ es o. rw sub-zero), omega arith, ran-none (s .pre .sized) (s .args .tally) 0 0 0)
 
-any-requires : tie.Need-any-requires Inv-loop μ-loop
-any-requires c κs = search needs
-
-same-length : tie.Need-same-length Inv-loop μ-loop
-same-length c = search needs
-
 returns : tie.Need-returns Inv-loop μ-loop
 returns c =
     let l = c .before .before .before .before in
@@ -57,12 +51,6 @@ round-requires c κs =
     let r = l .loop .inv .2 in
     record { index = s .pre .index; sized = r .sized; low = record { taken = omega arith; rounds = omega arith; stores = omega arith } }
 
-add-k : tie.Need-add-k Inv-loop μ-loop
-add-k c = search needs
-
-loop-less : tie.Need-loop-less Inv-loop μ-loop
-loop-less c = search needs
-
 loop-again : tie.Need-loop-again Inv-loop μ-loop
 loop-again c =
     let r = c .before .before in
@@ -79,9 +67,6 @@ loop-again c =
       omega arith,
       ran-then (at .inv .2) (r .round .ensures .1) (omega arith) (omega arith) (omega arith),
     )
-
-same-length-2 : tie.Need-same-length-2 Inv-loop μ-loop
-same-length-2 c = search needs
 
 returns-2 : tie.Need-returns-2 Inv-loop μ-loop
 returns-2 c =
@@ -100,12 +85,12 @@ settle-spec =
     Inv-loop
     μ-loop
     loop-holds
-    any-requires
-    same-length
+    (λ c κs. search needs)
+    (λ c. search needs)
     returns
     round-requires
-    add-k
-    loop-less
+    (λ c. search needs)
+    (λ c. search needs)
     loop-again
-    same-length-2
+    (λ c. search needs)
     returns-2)

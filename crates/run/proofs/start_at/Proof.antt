@@ -4,12 +4,6 @@ use Rattle.run.proofs.Starts.{started-bits, started-marks}
 use Rattle.run.proofs.start_at.Statement.{statement}
 use Rattle.run.proofs.start_at.Tie as tie
 
-empty-requires : tie.Need-empty-requires
-empty-requires c κs = search needs
-
-insert-requires : tie.Need-insert-requires
-insert-requires c κs = search needs
-
 returns : tie.Need-returns
 returns c =
     let e = c .before .before in
@@ -20,4 +14,4 @@ returns c =
     )
 
 pub start-at-spec : {M : Type 1} → statement M
-start-at-spec = tie.close (tie.spec empty-requires insert-requires returns)
+start-at-spec = tie.close (tie.spec (λ c κs. search needs) (λ c κs. search needs) returns)

@@ -8,20 +8,11 @@ use Rattle.run.proofs.States.{ran-none, take-waiting, take-idle, ran-ta
 use Rattle.run.proofs.take.Statement.{statement}
 use Rattle.run.proofs.take.Tie as tie
 
-contains-requires : tie.Need-contains-requires
-contains-requires c κs = search needs
-
-add-t12 : tie.Need-add-t12
-add-t12 c = search needs
-
 handle-requires : tie.Need-handle-requires
 handle-requires c κs =
     let s = c .before .before .before .before .before .before .before .before in
     let f = s .pre .1 in
     (s .pre .0, record { index = f .index; sized = f .sized; low = record { taken = omega arith; rounds = omega arith; stores = omega arith } })
-
-same-length : tie.Need-same-length
-same-length c = search needs
 
 returns : tie.Need-returns
 returns c =
@@ -47,4 +38,4 @@ returns-2 c =
 
 pub take-spec : {M : Type 1} → statement M
 take-spec =
-    tie.close (tie.spec contains-requires add-t12 handle-requires same-length returns returns-2)
+    tie.close (tie.spec (λ c κs. search needs) (λ c. search needs) handle-requires (λ c. search needs) returns returns-2)

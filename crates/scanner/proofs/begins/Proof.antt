@@ -22,24 +22,12 @@ start l = l .before .before .before
 loop-holds : tie.Need-loop-holds Inv-loop μ-loop
 loop-holds c = (refl, omega arith)
 
-shared-slice-read-holds : tie.Need-shared-slice-read-holds Inv-loop μ-loop
-shared-slice-read-holds c = omega arith
-
-holds-requires : tie.Need-holds-requires Inv-loop μ-loop
-holds-requires c κs = search needs
-
 returns : tie.Need-returns Inv-loop μ-loop
 returns c =
     let h = c .before in
     let l = h .before .before .before in
     let a = start l .args in
     sym (mark-other (a .mark .now) (a .line .now) (l .loop .i) (omega arith) (sym (h .holds .ensures) ∙ not-true _ (c .if1 .taken))) ∙ l .loop .inv .0
-
-add-i : tie.Need-add-i Inv-loop μ-loop
-add-i c = omega arith
-
-loop-less : tie.Need-loop-less Inv-loop μ-loop
-loop-less c = omega arith
 
 loop-again : tie.Need-loop-again Inv-loop μ-loop
 loop-again c =
@@ -61,10 +49,10 @@ begins-spec =
     Inv-loop
     μ-loop
     loop-holds
-    shared-slice-read-holds
-    holds-requires
+    (λ c. omega arith)
+    (λ c κs. search needs)
     returns
-    add-i
-    loop-less
+    (λ c. omega arith)
+    (λ c. omega arith)
     loop-again
     returns-2)

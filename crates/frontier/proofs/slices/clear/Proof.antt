@@ -19,25 +19,10 @@ abbrev μ-loop : tie.MeasureT-loop
 loop-holds : tie.Need-loop-holds Inv-loop μ-loop
 loop-holds c = (fill-none _ 0, omega arith, omega arith)
 
-mul-ws : tie.Need-mul-ws Inv-loop μ-loop
-mul-ws c = search needs
-
-slice-write-ws : tie.Need-slice-write-ws Inv-loop μ-loop
-slice-write-ws c = search needs
-
-add-k : tie.Need-add-k Inv-loop μ-loop
-add-k c = search needs
-
-loop-less : tie.Need-loop-less Inv-loop μ-loop
-loop-less c = search needs
-
 loop-again : tie.Need-loop-again Inv-loop μ-loop
 loop-again c =
     let at = c .before .loop in
     (ap (λ (l : List ℕ). set l (at .k) 0) (at .inv .0) ∙ fill-more (at .k) 0 (c .before .before .args .ws .now) (omega arith), omega arith, simp length-set (at .inv .2))
-
-same-length : tie.Need-same-length Inv-loop μ-loop
-same-length c = search needs
 
 returns : tie.Need-returns Inv-loop μ-loop
 returns c = waiting-cleared (c .before .loop .ws) (c .before .before .args .ws .now) (c .before .loop .k) (c .before .loop .inv .0) (omega arith)
@@ -49,10 +34,10 @@ clear-spec =
     Inv-loop
     μ-loop
     loop-holds
-    mul-ws
-    slice-write-ws
-    add-k
-    loop-less
+    (λ c. search needs)
+    (λ c. search needs)
+    (λ c. search needs)
+    (λ c. search needs)
     loop-again
-    same-length
+    (λ c. search needs)
     returns)

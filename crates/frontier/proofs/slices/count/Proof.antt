@@ -21,12 +21,6 @@ abbrev μ-loop : tie.MeasureT-loop
 loop-holds : tie.Need-loop-holds Inv-loop μ-loop
 loop-holds c = sym (zero-add (countOf (waitingOf (c .args .ws .now))))
 
-mul-n : tie.Need-mul-n Inv-loop μ-loop
-mul-n c = search needs
-
-shared-slice-read-n : tie.Need-shared-slice-read-n Inv-loop μ-loop
-shared-slice-read-n c = search needs
-
 -- what this turn counts
 step : (c : tie.After-shared-slice-known Inv-loop μ-loop)
     → countOf (waitingOf (drop (c .before .before .loop .k) (c .before .before .before .args .ws .now)))
@@ -42,12 +36,6 @@ cast-n c = omega (arith, step c, count-words-le (c .before .before .before .args
 add-n : tie.Need-add-n Inv-loop μ-loop
 add-n c = omega (arith, step c, count-words-le (c .before .before .before .args .ws .now))
 
-add-k : tie.Need-add-k Inv-loop μ-loop
-add-k c = search needs
-
-loop-less : tie.Need-loop-less Inv-loop μ-loop
-loop-less c = search needs
-
 loop-again : tie.Need-loop-again Inv-loop μ-loop
 loop-again c = omega (arith, step c)
 
@@ -61,11 +49,11 @@ count-spec =
     Inv-loop
     μ-loop
     loop-holds
-    mul-n
-    shared-slice-read-n
+    (λ c. search needs)
+    (λ c. search needs)
     cast-n
     add-n
-    add-k
-    loop-less
+    (λ c. search needs)
+    (λ c. search needs)
     loop-again
     returns)

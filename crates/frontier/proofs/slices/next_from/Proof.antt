@@ -27,9 +27,6 @@ Inv-loop ws i k₀ mask₀ k mask = Turn ws i k mask
 abbrev μ-loop : tie.MeasureT-loop
 μ-loop ws i k₀ mask₀ k mask = length ws - k
 
-shl-mask : tie.Need-shl-mask Inv-loop μ-loop
-shl-mask c = search needs
-
 loop-holds : tie.Need-loop-holds Inv-loop μ-loop
 loop-holds c =
     let i = c .args .i in record {
@@ -38,15 +35,6 @@ loop-holds c =
       masks = high-mask 64 (i % 64) (omega arith);
       next = ap (nextFrom (waitingOf (c .args .ws .now))) (sym (div-add-mod' i 64));
     }
-
-mul-w : tie.Need-mul-w Inv-loop μ-loop
-mul-w c = search needs
-
-shared-slice-read-w : tie.Need-shared-slice-read-w Inv-loop μ-loop
-shared-slice-read-w c = search needs
-
-mul-t12 : tie.Need-mul-t12 Inv-loop μ-loop
-mul-t12 c = search needs
 
 -- the word that is not 0
 abbrev masked : tie.Then1 Inv-loop μ-loop → ℕ
@@ -65,12 +53,6 @@ returns c =
     let inv = at .inv in
     sym (inv .next ∙ next-here (c .before .before .before .before .args .ws .now) (at .k) (inv .bit) (at .mask) (inv .small) (inv .masks)
     (c .before .before .loop-test .taken) (c .before .shared-slice-known .given (at .k) .fits) (c .if1 .taken))
-
-add-k : tie.Need-add-k Inv-loop μ-loop
-add-k c = search needs
-
-loop-less : tie.Need-loop-less Inv-loop μ-loop
-loop-less c = search needs
 
 loop-again : tie.Need-loop-again Inv-loop μ-loop
 loop-again c =
@@ -95,15 +77,15 @@ next-from-spec =
     (tie.spec
     Inv-loop
     μ-loop
-    shl-mask
+    (λ c. search needs)
     loop-holds
-    mul-w
-    shared-slice-read-w
-    mul-t12
+    (λ c. search needs)
+    (λ c. search needs)
+    (λ c. search needs)
     cast-t14
     add-t15
     returns
-    add-k
-    loop-less
+    (λ c. search needs)
+    (λ c. search needs)
     loop-again
     returns-2)

@@ -22,32 +22,17 @@ near c = c .before .before .pre .1 .0 (c .before .loop .k) (c .loop-test .taken)
 loop-holds : tie.Need-loop-holds Inv-loop μ-loop
 loop-holds c = (ends-none (c .args .keys .now) (c .args .ends .now) (c .pre .1 .1), omega arith, refl)
 
-mul-u : tie.Need-mul-u Inv-loop μ-loop
-mul-u c = search needs
-
-shared-slice-read-u : tie.Need-shared-slice-read-u Inv-loop μ-loop
-shared-slice-read-u c = search needs
-
 cast-u : tie.Need-cast-u Inv-loop μ-loop
 cast-u c = let x = near (c .before) in omega arith
 
 add-u : tie.Need-add-u Inv-loop μ-loop
 add-u c = let x = near (c .before) in omega arith
 
-add-k : tie.Need-add-k Inv-loop μ-loop
-add-k c = search needs
-
-cast-ends : tie.Need-cast-ends Inv-loop μ-loop
-cast-ends c = search needs
-
 mul-ends : tie.Need-mul-ends Inv-loop μ-loop
 mul-ends c = let x = near (c .before) in omega arith
 
 slice-write-ends : tie.Need-slice-write-ends Inv-loop μ-loop
 slice-write-ends c = let x = near (c .before) in omega arith
-
-loop-less : tie.Need-loop-less Inv-loop μ-loop
-loop-less c = search needs
 
 loop-again : tie.Need-loop-again Inv-loop μ-loop
 loop-again c =
@@ -59,9 +44,6 @@ loop-again c =
       simp length-set (l .loop .inv .2),
     )
 
-same-length : tie.Need-same-length Inv-loop μ-loop
-same-length c = search needs
-
 returns : tie.Need-returns Inv-loop μ-loop
 returns c = let l = c .before in ends-done (l .before .args .count) (l .loop .k) (l .before .args .keys .now) (l .loop .ends) (l .loop .inv .1) (c .loop-test .left) (l .loop .inv .0)
 
@@ -72,15 +54,15 @@ store-ends-spec =
     Inv-loop
     μ-loop
     loop-holds
-    mul-u
-    shared-slice-read-u
+    (λ c. search needs)
+    (λ c. search needs)
     cast-u
     add-u
-    add-k
-    cast-ends
+    (λ c. search needs)
+    (λ c. search needs)
     mul-ends
     slice-write-ends
-    loop-less
+    (λ c. search needs)
     loop-again
-    same-length
+    (λ c. search needs)
     returns)

@@ -30,9 +30,6 @@ three c =
 four : (n t h w : ℕ) → (Three n t h && isWeight w) ≡ isEdge n (edge t h w)
 four n t h w = and-nest (ltb t n) (ltb h n) (not (eqb t h)) (isWeight w)
 
-is-weight-requires : tie.Need-is-weight-requires
-is-weight-requires c κs = search needs
-
 returns : tie.Need-returns
 returns c =
     let e = three (c .before .before) in
@@ -46,4 +43,4 @@ returns-2 c =
     e ∙ (and-left _ (isWeight (a .w)) (sym e ∙ c .if3 .left) ∙ four (a .n) (a .t) (a .h) (a .w))
 
 pub is-edge-spec : {M : Type 1} → statement M
-is-edge-spec = tie.close (tie.spec is-weight-requires returns returns-2)
+is-edge-spec = tie.close (tie.spec (λ c κs. search needs) returns returns-2)

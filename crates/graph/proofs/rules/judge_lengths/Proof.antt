@@ -21,9 +21,6 @@ three c =
     let e = two (c .before) in
     ⊎-elim (λ w. w .1 ∙ (e ∙ or-taken _ _ (sym e ∙ w .0 .taken))) (λ w. w .1 ∙ or-left _ _ (sym e ∙ w .0 .left)) (c .if2 .came)
 
-refuse-if-requires : tie.Need-refuse-if-requires
-refuse-if-requires c κs = search needs
-
 returns : tie.Need-returns
 returns c =
     let a = c .before .before .before .before .before .before .args in
@@ -31,4 +28,4 @@ returns c =
     c .refuse-if .ensures ∙ ap (λ (b : Bool). refuseIf b 2 0) e
 
 pub judge-lengths-spec : {M : Type 1} → statement M
-judge-lengths-spec = tie.close (tie.spec refuse-if-requires returns)
+judge-lengths-spec = tie.close (tie.spec (λ c κs. search needs) returns)

@@ -27,18 +27,6 @@ returns c =
     let s = c .before .before .before .before in
     rules-none _ _ _ _ (s .pre) (s .args .n) (c .if1 .taken)
 
-shared-slice-read-is-edge : tie.Need-shared-slice-read-is-edge Inv-loop μ-loop
-shared-slice-read-is-edge c = search needs
-
-shared-slice-read-is-edge-2 : tie.Need-shared-slice-read-is-edge-2 Inv-loop μ-loop
-shared-slice-read-is-edge-2 c = search needs
-
-shared-slice-read-is-edge-3 : tie.Need-shared-slice-read-is-edge-3 Inv-loop μ-loop
-shared-slice-read-is-edge-3 c = search needs
-
-is-edge-requires : tie.Need-is-edge-requires Inv-loop μ-loop
-is-edge-requires c κs = search needs
-
 returns-2 : tie.Need-returns-2 Inv-loop μ-loop
 returns-2 c =
     let s = c .before .before .before .before .before .before .before .before .before in
@@ -51,20 +39,11 @@ loop-holds c =
     let e = c .before .is-edge .ensures in
     (rules-first _ _ _ _ (s .pre) (s .args .n) (omega arith) (sym e ∙ not-false _ (c .if2 .left)), omega arith, omega arith)
 
-follows-requires : tie.Need-follows-requires Inv-loop μ-loop
-follows-requires c κs = search needs
-
 returns-3 : tie.Need-returns-3 Inv-loop μ-loop
 returns-3 c =
     let f = c .before in
     let l = f .before .before in
     follow-broken _ _ _ _ (start l .pre) (start l .args .n) (l .loop .k) (l .loop .inv .0) (omega arith) (sym (f .follows .ensures) ∙ not-true _ (c .if3 .taken))
-
-add-k : tie.Need-add-k Inv-loop μ-loop
-add-k c = search needs
-
-loop-less : tie.Need-loop-less Inv-loop μ-loop
-loop-less c = search needs
 
 loop-again : tie.Need-loop-again Inv-loop μ-loop
 loop-again c =
@@ -84,15 +63,15 @@ judge-rules-spec =
     Inv-loop
     μ-loop
     returns
-    shared-slice-read-is-edge
-    shared-slice-read-is-edge-2
-    shared-slice-read-is-edge-3
-    is-edge-requires
+    (λ c. search needs)
+    (λ c. search needs)
+    (λ c. search needs)
+    (λ c κs. search needs)
     returns-2
     loop-holds
-    follows-requires
+    (λ c κs. search needs)
     returns-3
-    add-k
-    loop-less
+    (λ c. search needs)
+    (λ c. search needs)
     loop-again
     returns-4)

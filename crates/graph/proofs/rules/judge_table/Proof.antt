@@ -7,13 +7,10 @@ use Rattle.graph.proofs.rules.judge_table.Tie as tie
 returns : tie.Need-returns
 returns c = let a = c .before .before .before .before .args in table-crowded (a .n) (a .count) (a .tails .now) (a .heads .now) (a .weights .now) (c .if1 .taken)
 
-judge-records-requires : tie.Need-judge-records-requires
-judge-records-requires c κs = search needs
-
 returns-2 : tie.Need-returns-2
 returns-2 c =
     let a = c .before .before .before .before .before .args in
     table-judged (a .n) (a .count) (a .tails .now) (a .heads .now) (a .weights .now) (c .before .if1 .left) (c .judge-records .ensures)
 
 pub judge-table-spec : {M : Type 1} → statement M
-judge-table-spec = tie.close (tie.spec returns judge-records-requires returns-2)
+judge-table-spec = tie.close (tie.spec returns (λ c κs. search needs) returns-2)

@@ -33,32 +33,11 @@ lies c =
     let e = c .row-start .ensures ∙ ap (λ (i : ℕ). rowAt i (a .property) * a .n) (c .before .index-of .ensures) in
     record { at = e; forward = omega (arith, e, s .forward); backward = omega (arith, e, s .backward) }
 
-row-number-requires : tie.Need-row-number-requires
-row-number-requires c κs = search needs
-
-enum-told : tie.Need-enum-told
-enum-told c = search needs
-
-enum-told-2 : tie.Need-enum-told-2
-enum-told-2 c = search needs
-
-sub-result : tie.Need-sub-result
-sub-result c = search needs
-
-part-result-start : tie.Need-part-result-start
-part-result-start c = search needs
-
-part-result-end : tie.Need-part-result-end
-part-result-end c = search needs
-
 returns : tie.Need-returns
 returns c =
     let e = c .before .before .before .row-number .ensures in
     let q = c .before .enum-told2 .given .1 in
     (row-refused _ _ _ _ _ _ _ _ e _ _ q, part-refused _ _ _ _ _ _ _ _ e _ _ q _ _ _)
-
-index-of-requires : tie.Need-index-of-requires
-index-of-requires c κs = search needs
 
 row-start-requires : tie.Need-row-start-requires
 row-start-requires c κs =
@@ -70,12 +49,6 @@ add-end c = omega (arith, lies c)
 
 mul-result : tie.Need-mul-result
 mul-result c = omega (arith, lies (c .before))
-
-sub-result-2 : tie.Need-sub-result-2
-sub-result-2 c = search needs
-
-part-result-start-2 : tie.Need-part-result-start-2
-part-result-start-2 c = search needs
 
 part-result-end-2 : tie.Need-part-result-end-2
 part-result-end-2 c = lies (c .before) .forward
@@ -90,12 +63,6 @@ returns-2 c =
 
 mul-result-2 : tie.Need-mul-result-2
 mul-result-2 c = omega (arith, lies (c .before))
-
-sub-result-3 : tie.Need-sub-result-3
-sub-result-3 c = search needs
-
-part-result-start-3 : tie.Need-part-result-start-3
-part-result-start-3 c = search needs
 
 part-result-end-3 : tie.Need-part-result-end-3
 part-result-end-3 c = lies (c .before) .backward
@@ -112,23 +79,23 @@ pub row-spec : {M : Type 1} → statement M
 row-spec =
     tie.close
     (tie.spec
-    row-number-requires
-    enum-told
-    enum-told-2
-    sub-result
-    part-result-start
-    part-result-end
+    (λ c κs. search needs)
+    (λ c. search needs)
+    (λ c. search needs)
+    (λ c. search needs)
+    (λ c. search needs)
+    (λ c. search needs)
     returns
-    index-of-requires
+    (λ c κs. search needs)
     row-start-requires
     add-end
     mul-result
-    sub-result-2
-    part-result-start-2
+    (λ c. search needs)
+    (λ c. search needs)
     part-result-end-2
     returns-2
     mul-result-2
-    sub-result-3
-    part-result-start-3
+    (λ c. search needs)
+    (λ c. search needs)
     part-result-end-3
     returns-3)

@@ -41,59 +41,23 @@ flag c =
     let e = ap not (c .before .is-property .ensures) in
     ⊎-elim (λ w. w .1 ∙ (e ∙ or-taken _ _ (sym e ∙ w .0 .taken))) (λ w. w .1 ∙ or-left _ _ (sym e ∙ w .0 .left)) (c .if2 .came)
 
-judge-size-requires : tie.Need-judge-size-requires
-judge-size-requires c κs = search needs
-
-enum-told : tie.Need-enum-told
-enum-told c = search needs
-
-enum-told-2 : tie.Need-enum-told-2
-enum-told-2 c = search needs
-
 returns : tie.Need-returns
 returns c = number-told _ _ _ _ _ _ _ _ (then-refused _ _ _ _ _ (c .before .before .judge-size .ensures) (c .enum-told2 .given .1))
-
-judge-rows-requires : tie.Need-judge-rows-requires
-judge-rows-requires c κs = search needs
-
-enum-told-3 : tie.Need-enum-told-3
-enum-told-3 c = search needs
-
-enum-told-4 : tie.Need-enum-told-4
-enum-told-4 c = search needs
 
 returns-2 : tie.Need-returns-2
 returns-2 c =
     let r = c .before .before in
     number-told _ _ _ _ _ _ _ _ (sized (r .before) _ _ (then-refused _ _ _ _ _ (r .judge-rows .ensures) (c .enum-told4 .given .1)))
 
-judge-landmarks-requires : tie.Need-judge-landmarks-requires
-judge-landmarks-requires c κs = search needs
-
-enum-told-5 : tie.Need-enum-told-5
-enum-told-5 c = search needs
-
-enum-told-6 : tie.Need-enum-told-6
-enum-told-6 c = search needs
-
 returns-3 : tie.Need-returns-3
 returns-3 c =
     let l = c .before .before in
     number-told _ _ _ _ _ _ _ _ (spaced (l .before) _ _ (then-refused _ _ _ _ _ (l .judge-landmarks .ensures) (c .enum-told6 .given .1)))
 
-is-in-requires : tie.Need-is-in-requires
-is-in-requires c κs = search needs
-
 returns-4 : tie.Need-returns-4
 returns-4 c =
     let i = c .before in
     number-told _ _ _ _ _ _ _ _ (listed (i .before) _ _ (if-refused _ _ _ _ (sym (ap not (i .is-in .ensures)) ∙ c .if1 .taken)))
-
-is-property-requires : tie.Need-is-property-requires
-is-property-requires c κs = search needs
-
-refuse-if-requires : tie.Need-refuse-if-requires
-refuse-if-requires c κs = search needs
 
 returns-5 : tie.Need-returns-5
 returns-5 c =
@@ -107,20 +71,20 @@ pub row-number-spec : {M : Type 1} → statement M
 row-number-spec =
     tie.close
     (tie.spec
-    judge-size-requires
-    enum-told
-    enum-told-2
+    (λ c κs. search needs)
+    (λ c. search needs)
+    (λ c. search needs)
     returns
-    judge-rows-requires
-    enum-told-3
-    enum-told-4
+    (λ c κs. search needs)
+    (λ c. search needs)
+    (λ c. search needs)
     returns-2
-    judge-landmarks-requires
-    enum-told-5
-    enum-told-6
+    (λ c κs. search needs)
+    (λ c. search needs)
+    (λ c. search needs)
     returns-3
-    is-in-requires
+    (λ c κs. search needs)
     returns-4
-    is-property-requires
-    refuse-if-requires
+    (λ c κs. search needs)
+    (λ c κs. search needs)
     returns-5)

@@ -6,18 +6,9 @@ use Rattle.inspect.proofs.Checking.{checking-refused, checking-accepted
 use Rattle.inspect.proofs.settled.find_relaxable.Statement.{statement}
 use Rattle.inspect.proofs.settled.find_relaxable.Tie as tie
 
-judge-all-requires : tie.Need-judge-all-requires
-judge-all-requires c κs = search needs
-
-enum-known-verdict : tie.Need-enum-known-verdict
-enum-known-verdict c = search needs
-
 returns : tie.Need-returns
 unfolding settledCall
 returns c = checking-refused _ _ _ _ _ (c .before .before .before .judge-all .ensures) (c .before .verdict .given .1)
-
-enum-told : tie.Need-enum-told
-enum-told c = search needs
 
 first-spot-requires : tie.Need-first-spot-requires
 first-spot-requires c κs = fine-accept _ _ (c .before .before .judge-all .ensures) (c .enum-told .given .1)
@@ -27,4 +18,4 @@ unfolding settledCall
 returns-2 c = checking-accepted _ _ _ (c .before .before .before .judge-all .ensures) (c .before .enum-told .given .1) (c .first-spot .ensures)
 
 pub find-relaxable-spec : {M : Type 1} → statement M
-find-relaxable-spec = tie.close (tie.spec judge-all-requires enum-known-verdict returns enum-told first-spot-requires returns-2)
+find-relaxable-spec = tie.close (tie.spec (λ c κs. search needs) (λ c. search needs) returns (λ c. search needs) first-spot-requires returns-2)

@@ -96,12 +96,6 @@ is-spot-requires c κs =
       (a .ends (c .before .loop2 .j) j, (row-ends _ _ _ _ k (a .forward), row-ends _ _ _ _ k (a .backward))),
     )
 
-add-j : tie.Need-add-j Inv-loop2 μ-loop2 Inv-loop μ-loop Inv-sides μ-sides
-add-j c = search needs
-
-loop2-less : tie.Need-loop2-less Inv-loop2 μ-loop2 Inv-loop μ-loop Inv-sides μ-sides
-loop2-less c = search needs
-
 loop2-again : tie.Need-loop2-again Inv-loop2 μ-loop2 Inv-loop μ-loop Inv-sides μ-sides
 loop2-again c =
     let b = c .before in
@@ -114,24 +108,12 @@ loop2-again c =
       l .loop2 .inv .2,
     )
 
-add-r : tie.Need-add-r Inv-loop2 μ-loop2 Inv-loop μ-loop Inv-sides μ-sides
-add-r c = search needs
-
-loop-less : tie.Need-loop-less Inv-loop2 μ-loop2 Inv-loop μ-loop Inv-sides μ-sides
-loop-less c = search needs
-
 loop-again : tie.Need-loop-again Inv-loop2 μ-loop2 Inv-loop μ-loop Inv-sides μ-sides
 loop-again c =
     let l = c .before in
     let s = start (l .before .before .before .before) in
     let a = accepted s in
     (records-none _ _ _ _ (room-less (a .count) (a .room)) _ _ _ _ (l .loop2 .j) _ (l .loop2 .inv .0) (c .loop2-test .left), omega arith, l .loop2 .inv .2)
-
-add-side : tie.Need-add-side Inv-loop2 μ-loop2 Inv-loop μ-loop Inv-sides μ-sides
-add-side c = search needs
-
-sides-less : tie.Need-sides-less Inv-loop2 μ-loop2 Inv-loop μ-loop Inv-sides μ-sides
-sides-less c = search needs
 
 sides-again : tie.Need-sides-again Inv-loop2 μ-loop2 Inv-loop μ-loop Inv-sides μ-sides
 sides-again c =
@@ -168,14 +150,14 @@ first-spot-spec =
     loop-holds
     loop2-holds
     is-spot-requires
-    add-j
-    loop2-less
+    (λ c. search needs)
+    (λ c. search needs)
     loop2-again
-    add-r
-    loop-less
+    (λ c. search needs)
+    (λ c. search needs)
     loop-again
-    add-side
-    sides-less
+    (λ c. search needs)
+    (λ c. search needs)
     sides-again
     returns
     returns-2)

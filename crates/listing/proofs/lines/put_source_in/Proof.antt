@@ -15,12 +15,6 @@ begin c = c .before .before .before .before .before .before .before .before .bef
 abbrev net : tie.Start → Network
 net s = let a = s .args in network (a .tails .now) (a .heads .now) (a .weights .now) (a .forward .now) (a .backward .now) (a .count)
 
-settle-row-requires : tie.Need-settle-row-requires
-settle-row-requires c κs = search needs
-
-settle-row-requires-2 : tie.Need-settle-row-requires-2
-settle-row-requires-2 c κs = search needs
-
 settle-row-requires-3 : tie.Need-settle-row-requires-3
 settle-row-requires-3 c κs =
     let s = c .before .before .before .before .before .before .before .before .before .before .before .before .before .before .before .before .before .before .before .before .before in
@@ -60,21 +54,6 @@ same-length c =
     let r1 = c .before .before .before .before .before .before .before .before .before .before .before .before .before .before .before .before .before .before .before .before .before .before .before .before .before .before .before in
     r1 .settle-row .kept .1 .1 .1 .1 .1 .1 .1 .1 .1 .1 .0
 
-same-length-2 : tie.Need-same-length-2
-same-length-2 c = search needs
-
-same-length-3 : tie.Need-same-length-3
-same-length-3 c = search needs
-
-same-length-4 : tie.Need-same-length-4
-same-length-4 c = search needs
-
-same-length-5 : tie.Need-same-length-5
-same-length-5 c = search needs
-
-same-length-6 : tie.Need-same-length-6
-same-length-6 c = search needs
-
 returns : tie.Need-returns
 returns c =
     let v = c .before .before in
@@ -103,16 +82,16 @@ pub put-source-in-spec : {M : Type 1} → statement M
 put-source-in-spec =
     tie.close
     (tie.spec
-    settle-row-requires
-    settle-row-requires-2
+    (λ c κs. search needs)
+    (λ c κs. search needs)
     settle-row-requires-3
     settle-row-requires-4
     settle-row-requires-5
     put-vertices-requires
     same-length
-    same-length-2
-    same-length-3
-    same-length-4
-    same-length-5
-    same-length-6
+    (λ c. search needs)
+    (λ c. search needs)
+    (λ c. search needs)
+    (λ c. search needs)
+    (λ c. search needs)
     returns)

@@ -40,12 +40,6 @@ put-vertex-requires c κs =
       pending-fits (l .loop .inv .0) (rowsLine (a .source) (l .loop .t) rs) (rowsLines (a .source) (range (l .loop .t + 1) (a .n - (l .loop .t + 1))) rs) (lines-more (a .source) (l .loop .t) (a .n) rs (omega arith)),
     )
 
-add-t : tie.Need-add-t Inv-loop μ-loop
-add-t c = search needs
-
-loop-less : tie.Need-loop-less Inv-loop μ-loop
-loop-less c = search needs
-
 loop-again : tie.Need-loop-again Inv-loop μ-loop
 loop-again c =
     let p = c .before .before in
@@ -76,8 +70,8 @@ put-vertices-spec =
     μ-loop
     loop-holds
     put-vertex-requires
-    add-t
-    loop-less
+    (λ c. search needs)
+    (λ c. search needs)
     loop-again
     same-length
     returns)

@@ -11,31 +11,10 @@ use Rattle.graph.proofs.Lists.{take-replicate}
 use Rattle.listing.proofs.lines.settle_row.Statement.{statement}
 use Rattle.listing.proofs.lines.settle_row.Tie as tie
 
-fill-requires : tie.Need-fill-requires
-fill-requires c κs = search needs
-
-sub-query : tie.Need-sub-query
-sub-query c = search needs
-
-part-query-start : tie.Need-part-query-start
-part-query-start c = search needs
-
-part-query-end : tie.Need-part-query-end
-part-query-end c = search needs
-
-array-borrow-prefix-starts : tie.Need-array-borrow-prefix-starts
-array-borrow-prefix-starts c = search needs
-
 slice-aggregate-query : tie.Need-slice-aggregate-query
 slice-aggregate-query c =
     let s = c .before .before .before .before .before .before .before .before .before .before .before .before .before in
     sym (length-take-le (s .args .n) (replicate maxVertices 0) (s .pre .0))
-
-query-requires : tie.Need-query-requires
-query-requires c κs = search needs
-
-same-length : tie.Need-same-length
-same-length c = search needs
 
 returns : tie.Need-returns
 returns c =
@@ -50,12 +29,12 @@ pub settle-row-spec : {M : Type 1} → statement M
 settle-row-spec =
     tie.close
     (tie.spec
-    fill-requires
-    sub-query
-    part-query-start
-    part-query-end
-    array-borrow-prefix-starts
+    (λ c κs. search needs)
+    (λ c. search needs)
+    (λ c. search needs)
+    (λ c. search needs)
+    (λ c. search needs)
     slice-aggregate-query
-    query-requires
-    same-length
+    (λ c κs. search needs)
+    (λ c. search needs)
     returns)

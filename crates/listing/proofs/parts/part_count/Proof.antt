@@ -7,21 +7,12 @@ use Rattle.listing.proofs.Pieces.{parts-refused, fine-accepts, parts-co
 use Rattle.listing.proofs.parts.part_count.Statement.{statement}
 use Rattle.listing.proofs.parts.part_count.Tie as tie
 
-enum-told : tie.Need-enum-told
-enum-told c = search needs
-
-enum-told-2 : tie.Need-enum-told-2
-enum-told-2 c = search needs
-
 returns : tie.Need-returns
 returns c =
     let p = c .before .before .args .prepared in (
       omega arith,
       λ gr ss ts hs ws xs f b i h. sym (ap length (parts-refused gr ss p ts hs ws xs f b h _ _ (c .enum-told2 .given .1))),
     )
-
-add-result : tie.Need-add-result
-add-result c = search needs
 
 returns-2 : tie.Need-returns-2
 returns-2 c =
@@ -32,4 +23,4 @@ returns-2 c =
     )
 
 pub part-count-spec : {M : Type 1} → statement M
-part-count-spec = tie.close (tie.spec enum-told enum-told-2 returns add-result returns-2)
+part-count-spec = tie.close (tie.spec (λ c. search needs) (λ c. search needs) returns (λ c. search needs) returns-2)

@@ -19,12 +19,6 @@ cells s = s .args .prepared .choice .count * properties * s .args .prepared .n
 most : (s : tie.Start) → cells s ≤ rowWords
 most s = let h = s .pre .1 .bounded in rows-most (s .args .prepared .choice .count) (s .args .prepared .n) (h .landmarks) (h .vertices)
 
-mul-k : tie.Need-mul-k
-mul-k c = search needs
-
-cast-k : tie.Need-cast-k
-cast-k c = search needs
-
 mul-k-2 : tie.Need-mul-k-2
 mul-k-2 c = omega (arith, most (c .before .before .before .before .before .before .before .before .before))
 
@@ -47,18 +41,6 @@ slice-aggregate-put-source-3 c =
     let s = c .before .before .before .before .before .before .before .before .before .before .before .before in
     sym (length-take-le (cells s) (s .args .backward .now) (omega (arith, most s, s .pre .1 .bounded .rows .backward)))
 
-mul-put-source : tie.Need-mul-put-source
-mul-put-source c = search needs
-
-shared-slice-read-put-source : tie.Need-shared-slice-read-put-source
-shared-slice-read-put-source c = search needs
-
-put-source-requires : tie.Need-put-source-requires
-put-source-requires c κs = search needs
-
-same-length : tie.Need-same-length
-same-length c = search needs
-
 returns : tie.Need-returns
 returns c =
     let p = c .before .before in
@@ -74,15 +56,15 @@ pub put-lines-spec : {M : Type 1} → statement M
 put-lines-spec =
     tie.close
     (tie.spec
-    mul-k
-    cast-k
+    (λ c. search needs)
+    (λ c. search needs)
     mul-k-2
     array-share-prefix-vertices
     slice-aggregate-put-source
     slice-aggregate-put-source-2
     slice-aggregate-put-source-3
-    mul-put-source
-    shared-slice-read-put-source
-    put-source-requires
-    same-length
+    (λ c. search needs)
+    (λ c. search needs)
+    (λ c κs. search needs)
+    (λ c. search needs)
     returns)

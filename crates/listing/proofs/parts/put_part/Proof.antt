@@ -8,15 +8,6 @@ use Rattle.listing.proofs.Pieces.{parts-refused, fine-accepts, parts-ac
 use Rattle.listing.proofs.parts.put_part.Statement.{statement}
 use Rattle.listing.proofs.parts.put_part.Tie as tie
 
-enum-known-verdict : tie.Need-enum-known-verdict
-enum-known-verdict c = search needs
-
-put-refused-requires : tie.Need-put-refused-requires
-put-refused-requires c κs = search needs
-
-same-length : tie.Need-same-length
-same-length c = search needs
-
 returns : tie.Need-returns
 returns c =
     let r = c .before .before in
@@ -25,15 +16,6 @@ returns c =
       λ gr ss h l. rw (piece-only (parts gr ss) _ (a .i) (parts-refused gr ss (a .prepared) (a .tails .now) (a .heads .now) (a .weights .now) (a .sources .now) (a .forward .now) (a .backward .now) h _ _ (v .verdict .given .1)) l) (r .put-refused .ensures .0),
       r .put-refused .ensures .1,
     )
-
-enum-told : tie.Need-enum-told
-enum-told c = search needs
-
-put-header-requires : tie.Need-put-header-requires
-put-header-requires c κs = search needs
-
-same-length-2 : tie.Need-same-length-2
-same-length-2 c = search needs
 
 returns-2 : tie.Need-returns-2
 returns-2 c =
@@ -44,15 +26,6 @@ returns-2 c =
       λ gr ss h l. rw (piece-first (parts gr ss) _ _ (a .i) (parts-accepted gr ss (a .prepared) (a .tails .now) (a .heads .now) (a .weights .now) (a .sources .now) (a .forward .now) (a .backward .now) h (fine-accepts gr ss (a .prepared) (a .tails .now) (a .heads .now) (a .weights .now) (a .sources .now) (a .forward .now) (a .backward .now) h (e .enum-told .given .1))) (omega arith)) (r .put-header .ensures .0),
       r .put-header .ensures .1,
     )
-
-sub-put-lines : tie.Need-sub-put-lines
-sub-put-lines c = search needs
-
-put-lines-requires : tie.Need-put-lines-requires
-put-lines-requires c κs = search needs
-
-same-length-3 : tie.Need-same-length-3
-same-length-3 c = search needs
 
 returns-3 : tie.Need-returns-3
 returns-3 c =
@@ -69,15 +42,15 @@ pub put-part-spec : {M : Type 1} → statement M
 put-part-spec =
     tie.close
     (tie.spec
-    enum-known-verdict
-    put-refused-requires
-    same-length
+    (λ c. search needs)
+    (λ c κs. search needs)
+    (λ c. search needs)
     returns
-    enum-told
-    put-header-requires
-    same-length-2
+    (λ c. search needs)
+    (λ c κs. search needs)
+    (λ c. search needs)
     returns-2
-    sub-put-lines
-    put-lines-requires
-    same-length-3
+    (λ c. search needs)
+    (λ c κs. search needs)
+    (λ c. search needs)
     returns-3)

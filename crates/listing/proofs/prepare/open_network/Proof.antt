@@ -40,23 +40,11 @@ ahead f = let s = begin (f .before .before .before .before) in omega (arith, mos
 back : (f : tie.After-fill2) → cells (f .before .before .before .before .before .before .before .before) ≤ length (f .fill2 .last .0)
 back f = let s = begin (f .before .before .before .before .before .before .before .before) in omega (arith, most (f .before .before .before .before .before .before .before .before), f .fill2 .kept .0, s .pre .1 .backward)
 
-cast-choose-landmarks : tie.Need-cast-choose-landmarks
-cast-choose-landmarks c = search needs
-
-choose-landmarks-requires : tie.Need-choose-landmarks-requires
-choose-landmarks-requires c κs = search needs
-
 mul-k : tie.Need-mul-k
 mul-k c = let h = few (c .before .before) in omega (arith, h .0)
 
 mul-k-2 : tie.Need-mul-k-2
 mul-k-2 c = omega (arith, most (c .before .before))
-
-fill-requires : tie.Need-fill-requires
-fill-requires c κs = search needs
-
-fill-requires-2 : tie.Need-fill-requires-2
-fill-requires-2 c κs = search needs
 
 array-share-prefix-vertices : tie.Need-array-share-prefix-vertices
 array-share-prefix-vertices c = let h = few (c .before .before .before .before .before .before .before .before .before .before) in omega (arith, h .0, h .1)
@@ -83,15 +71,6 @@ slice-aggregate-open-3 c =
     let f = c .before .before .before .before .before in
     sym (length-take-le (cells (f .before .before .before .before .before .before .before .before)) (f .fill2 .last .0) (back f))
 
-open-requires : tie.Need-open-requires
-open-requires c κs = search needs
-
-same-length : tie.Need-same-length
-same-length c = search needs
-
-same-length-2 : tie.Need-same-length-2
-same-length-2 c = search needs
-
 returns : tie.Need-returns
 returns c =
     let o = c .before .before .before .before in
@@ -115,19 +94,19 @@ pub open-network-spec : {M : Type 1} → statement M
 open-network-spec =
     tie.close
     (tie.spec
-    cast-choose-landmarks
-    choose-landmarks-requires
+    (λ c. search needs)
+    (λ c κs. search needs)
     mul-k
     mul-k-2
-    fill-requires
-    fill-requires-2
+    (λ c κs. search needs)
+    (λ c κs. search needs)
     array-share-prefix-vertices
     slice-aggregate-open
     slice-relend-prefix-open
     slice-aggregate-open-2
     slice-relend-prefix-open-2
     slice-aggregate-open-3
-    open-requires
-    same-length
-    same-length-2
+    (λ c κs. search needs)
+    (λ c. search needs)
+    (λ c. search needs)
     returns)

@@ -26,49 +26,16 @@ known f = let g = f .before .before .before .before .before .before .before .bef
 few : (f : tie.After-first2) → f .first2 .given .0 .0 ≤ maxVertices
 few f = size-accept _ (known f .2 .good .vertices) .1
 
-read-graph-requires : tie.Need-read-graph-requires
-read-graph-requires c κs = search needs
-
-enum-known-first : tie.Need-enum-known-first
-enum-known-first c = search needs
-
-refused-requires : tie.Need-refused-requires
-refused-requires c κs = search needs
-
-enum-known-first-2 : tie.Need-enum-known-first-2
-enum-known-first-2 c = search needs
-
 read-list-requires : tie.Need-read-list-requires
 read-list-requires c κs =
     let f = c .before .before in
     (known f .2 .good .vertices, omega (arith, begin (f .before .before .before .before .before .before .before .before) .pre .1 .0))
-
-enum-known-second : tie.Need-enum-known-second
-enum-known-second c = search needs
-
-refused-requires-2 : tie.Need-refused-requires-2
-refused-requires-2 c κs = search needs
-
-enum-known-second-2 : tie.Need-enum-known-second-2
-enum-known-second-2 c = search needs
 
 open-network-requires : tie.Need-open-network-requires
 open-network-requires c κs =
     let f = c .before .before .before .before .before .before .before .before .before .before .before .before .before in
     let s = begin (f .before .before .before .before .before .before .before .before) in
     (few f, s .pre .1 .1)
-
-cast-t40 : tie.Need-cast-t40
-cast-t40 c = search needs
-
-same-length : tie.Need-same-length
-same-length c = search needs
-
-same-length-2 : tie.Need-same-length-2
-same-length-2 c = search needs
-
-same-length-3 : tie.Need-same-length-3
-same-length-3 c = search needs
 
 returns : tie.Need-returns
 returns c =
@@ -82,18 +49,6 @@ returns c =
           (files-first (a .gr .now) (a .ss .now) _ _ (graph-refused (a .gr .now) _ _ _ _ (g .read-graph .ensures) _ _ (f .first .given .1))) (e .verdict),
     )
 
-same-length-4 : tie.Need-same-length-4
-same-length-4 c = search needs
-
-same-length-5 : tie.Need-same-length-5
-same-length-5 c = search needs
-
-same-length-6 : tie.Need-same-length-6
-same-length-6 c = search needs
-
-same-length-7 : tie.Need-same-length-7
-same-length-7 c = search needs
-
 returns-2 : tie.Need-returns-2
 returns-2 c =
     let l = c .before .before .before .before .before .before in
@@ -106,24 +61,6 @@ returns-2 c =
       shown-refused (a .gr .now) (a .ss .now) (c .refused2 .result) _ _ _ _ _ _ _ _
           (files-second (a .gr .now) (a .ss .now) _ _ (k .0) (k .1) (sources-refused (f .first2 .given .0 .0) (a .ss .now) _ _ (l .read-list .ensures) _ _ (c .before .before .second .given .1))) (e .verdict),
     )
-
-same-length-8 : tie.Need-same-length-8
-same-length-8 c = search needs
-
-same-length-9 : tie.Need-same-length-9
-same-length-9 c = search needs
-
-same-length-10 : tie.Need-same-length-10
-same-length-10 c = search needs
-
-same-length-11 : tie.Need-same-length-11
-same-length-11 c = search needs
-
-same-length-12 : tie.Need-same-length-12
-same-length-12 c = search needs
-
-same-length-13 : tie.Need-same-length-13
-same-length-13 c = search needs
 
 returns-3 : tie.Need-returns-3
 returns-3 c =
@@ -158,29 +95,29 @@ pub prepare-spec : {M : Type 1} → statement M
 prepare-spec =
     tie.close
     (tie.spec
-    read-graph-requires
-    enum-known-first
-    refused-requires
-    enum-known-first-2
+    (λ c κs. search needs)
+    (λ c. search needs)
+    (λ c κs. search needs)
+    (λ c. search needs)
     read-list-requires
-    enum-known-second
-    refused-requires-2
-    enum-known-second-2
+    (λ c. search needs)
+    (λ c κs. search needs)
+    (λ c. search needs)
     open-network-requires
-    cast-t40
-    same-length
-    same-length-2
-    same-length-3
+    (λ c. search needs)
+    (λ c. search needs)
+    (λ c. search needs)
+    (λ c. search needs)
     returns
-    same-length-4
-    same-length-5
-    same-length-6
-    same-length-7
+    (λ c. search needs)
+    (λ c. search needs)
+    (λ c. search needs)
+    (λ c. search needs)
     returns-2
-    same-length-8
-    same-length-9
-    same-length-10
-    same-length-11
-    same-length-12
-    same-length-13
+    (λ c. search needs)
+    (λ c. search needs)
+    (λ c. search needs)
+    (λ c. search needs)
+    (λ c. search needs)
+    (λ c. search needs)
     returns-3)

@@ -11,27 +11,6 @@ use Rattle.listing.proofs.prepare.read_graph.Tie as tie
 returns : tie.Need-returns
 returns c = graph-long (c .before .before .before .before .before .args .gr .now) (omega arith)
 
-fill-requires : tie.Need-fill-requires
-fill-requires c κs = search needs
-
-fill-requires-2 : tie.Need-fill-requires-2
-fill-requires-2 c κs = search needs
-
-fill-requires-3 : tie.Need-fill-requires-3
-fill-requires-3 c κs = search needs
-
-read-network-requires : tie.Need-read-network-requires
-read-network-requires c κs = search needs
-
-same-length : tie.Need-same-length
-same-length c = search needs
-
-same-length-2 : tie.Need-same-length-2
-same-length-2 c = search needs
-
-same-length-3 : tie.Need-same-length-3
-same-length-3 c = search needs
-
 returns-2 : tie.Need-returns-2
 returns-2 c =
     let r = c .before .before .before .before .before .before in
@@ -47,11 +26,11 @@ read-graph-spec =
     tie.close
     (tie.spec
     returns
-    fill-requires
-    fill-requires-2
-    fill-requires-3
-    read-network-requires
-    same-length
-    same-length-2
-    same-length-3
+    (λ c κs. search needs)
+    (λ c κs. search needs)
+    (λ c κs. search needs)
+    (λ c κs. search needs)
+    (λ c. search needs)
+    (λ c. search needs)
+    (λ c. search needs)
     returns-2)

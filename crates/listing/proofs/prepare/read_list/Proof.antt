@@ -8,12 +8,6 @@ use Rattle.listing.proofs.prepare.read_list.Tie as tie
 returns : tie.Need-returns
 returns c = sources-long (c .before .before .before .args .n) (c .before .before .before .args .ss .now) (omega arith)
 
-read-sources-requires : tie.Need-read-sources-requires
-read-sources-requires c κs = search needs
-
-same-length : tie.Need-same-length
-same-length c = search needs
-
 returns-2 : tie.Need-returns-2
 returns-2 c =
     let r = c .before .before in
@@ -21,4 +15,4 @@ returns-2 c =
     sources-read (s .args .n) (s .args .ss .now) (s .args .list .now) _ (s .pre .0) (s .pre .1) (omega arith) _ (r .read-sources .ensures)
 
 pub read-list-spec : {M : Type 1} → statement M
-read-list-spec = tie.close (tie.spec returns read-sources-requires same-length returns-2)
+read-list-spec = tie.close (tie.spec returns (λ c κs. search needs) (λ c. search needs) returns-2)

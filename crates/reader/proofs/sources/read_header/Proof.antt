@@ -9,15 +9,6 @@ use Rattle.reader.proofs.SourcesItems.{header-read}
 use Rattle.reader.proofs.sources.read_header.Statement.{statement}
 use Rattle.reader.proofs.sources.read_header.Tie as tie
 
-read-one-requires : tie.Need-read-one-requires
-read-one-requires c κs = search needs
-
-enum-known-k : tie.Need-enum-known-k
-enum-known-k c = search needs
-
-enum-told : tie.Need-enum-told
-enum-told c = search needs
-
 returns : tie.Need-returns
 unfolding capSources
 returns c = ap capSources (fields-lost headerFrom _ (ap oneOf (sym (c .enum-told .given .1)) ∙ c .before .before .read-one .ensures))
@@ -28,4 +19,4 @@ returns-2 c =
     header-read _ (k .k .given .0 .0) (ap oneOf (sym (k .k .given .1)) ∙ k .before .before .read-one .ensures)
 
 pub read-header-spec : {M : Type 1} → statement M
-read-header-spec = tie.close (tie.spec read-one-requires enum-known-k enum-told returns returns-2)
+read-header-spec = tie.close (tie.spec (λ c κs. search needs) (λ c. search needs) (λ c. search needs) returns returns-2)

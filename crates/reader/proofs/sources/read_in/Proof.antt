@@ -30,20 +30,11 @@ readOn k = k .before .before .before .before
 count : (k : tie.After-count) → let t = readOn k in (k .count .given .0 .0 ≤ maxSources) × (maxSources ≤ length (t .read-text .last .1 .1 .0))
 count k = text-whole _ (k .count .given .1) (readOn k .read-text .ensures .1)
 
-judge-size-requires : tie.Need-judge-size-requires
-judge-size-requires c κs = search needs
-
-enum-known-size : tie.Need-enum-known-size
-enum-known-size c = search needs
-
 returns : tie.Need-returns
 unfolding told
 returns c =
     let j = c .before .before .before in
     call-size _ _ (start j .args .sources .now) (ap told (sym (c .before .size .given .1)) ∙ j .judge-size .ensures)
-
-enum-told : tie.Need-enum-told
-enum-told c = search needs
 
 returns-2 : tie.Need-returns-2
 returns-2 c =
@@ -55,12 +46,6 @@ read-text-requires : tie.Need-read-text-requires
 read-text-requires c κs =
     let e = c .before .before in
     (size-accept _ (sym (fine e)) .1, start (e .before .before) .pre)
-
-enum-known-line : tie.Need-enum-known-line
-enum-known-line c = search needs
-
-enum-known-count : tie.Need-enum-known-count
-enum-known-count c = search needs
 
 copy-requires : tie.Need-copy-requires
 copy-requires c κs =
@@ -103,14 +88,14 @@ pub read-in-spec : {M : Type 1} → statement M
 read-in-spec =
     tie.close
     (tie.spec
-    judge-size-requires
-    enum-known-size
+    (λ c κs. search needs)
+    (λ c. search needs)
     returns
-    enum-told
+    (λ c. search needs)
     returns-2
     read-text-requires
-    enum-known-line
-    enum-known-count
+    (λ c. search needs)
+    (λ c. search needs)
     copy-requires
     cast-t21
     same-length

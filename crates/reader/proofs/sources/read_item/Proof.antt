@@ -8,29 +8,11 @@ use Rattle.reader.proofs.SourcesItems.{item-header, item-source, item-n
 use Rattle.reader.proofs.sources.read_item.Statement.{statement}
 use Rattle.reader.proofs.sources.read_item.Tie as tie
 
-slice-aggregate-begins : tie.Need-slice-aggregate-begins
-slice-aggregate-begins c = search needs
-
-begins-requires : tie.Need-begins-requires
-begins-requires c κs = search needs
-
-read-header-requires : tie.Need-read-header-requires
-read-header-requires c κs = search needs
-
 returns : tie.Need-returns
 returns c =
     let b = c .before .before in
     let l = b .before .before .before .args .line .now in
     c .read-header .ensures ∙ ap capSources (item-header l (ap (λ x. begun x headerMark l) (sym (c .before .if1 .taken)) ∙ b .begins .ensures))
-
-slice-aggregate-begins-2 : tie.Need-slice-aggregate-begins-2
-slice-aggregate-begins-2 c = search needs
-
-begins-requires-2 : tie.Need-begins-requires-2
-begins-requires-2 c κs = search needs
-
-read-source-requires : tie.Need-read-source-requires
-read-source-requires c κs = search needs
 
 returns-2 : tie.Need-returns-2
 returns-2 c =
@@ -56,12 +38,12 @@ pub read-item-spec : {M : Type 1} → statement M
 read-item-spec =
     tie.close
     (tie.spec
-    slice-aggregate-begins
-    begins-requires
-    read-header-requires
+    (λ c. search needs)
+    (λ c κs. search needs)
+    (λ c κs. search needs)
     returns
-    slice-aggregate-begins-2
-    begins-requires-2
-    read-source-requires
+    (λ c. search needs)
+    (λ c κs. search needs)
+    (λ c κs. search needs)
     returns-2
     returns-3)

@@ -18,24 +18,12 @@ use Rattle.reader.proofs.sources.read_source.Tie as tie
 number : (k : tie.After-v) → sourceFrom (k .v .given .0 .0 ∷ []) ≡ capSources (bind (fields 1 (drop 1 (k .before .before .before .before .args .line .now))) sourceFrom)
 number k = source-read _ (k .v .given .0 .0) (ap oneOf (sym (k .v .given .1)) ∙ k .before .before .read-one .ensures)
 
-read-one-requires : tie.Need-read-one-requires
-read-one-requires c κs = search needs
-
-enum-known-v : tie.Need-enum-known-v
-enum-known-v c = search needs
-
-enum-told : tie.Need-enum-told
-enum-told c = search needs
-
 returns : tie.Need-returns
 unfolding capSources
 returns c = ap capSources (fields-lost sourceFrom _ (ap oneOf (sym (c .enum-told .given .1)) ∙ c .before .before .read-one .ensures))
 
 returns-2 : tie.Need-returns-2
 returns-2 c = source-zero _ (c .if1 .taken) ∙ number (c .before .before)
-
-sub-t5 : tie.Need-sub-t5
-sub-t5 c = search needs
 
 returns-3 : tie.Need-returns-3
 returns-3 c =
@@ -45,4 +33,4 @@ returns-3 c =
 pub read-source-spec : {M : Type 1} → statement M
 read-source-spec =
     tie.close
-    (tie.spec read-one-requires enum-known-v enum-told returns returns-2 sub-t5 returns-3)
+    (tie.spec (λ c κs. search needs) (λ c. search needs) (λ c. search needs) returns returns-2 (λ c. search needs) returns-3)

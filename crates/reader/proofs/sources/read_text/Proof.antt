@@ -48,18 +48,6 @@ loop-holds c =
     let s = c .before .before in
     (refl, record { room = s .pre .1; inside = tt }, omega arith, omega arith, refl)
 
-line-feed-requires : tie.Need-line-feed-requires Inv-loop μ-loop
-line-feed-requires c κs = search needs
-
-enum-known-end : tie.Need-enum-known-end Inv-loop μ-loop
-enum-known-end c = search needs
-
-enum-told : tie.Need-enum-told Inv-loop μ-loop
-enum-told c = search needs
-
-add-t12 : tie.Need-add-t12 Inv-loop μ-loop
-add-t12 c = omega arith
-
 same-length : tie.Need-same-length Inv-loop μ-loop
 same-length c = c .before .before .before .before .loop .inv .4
 
@@ -84,12 +72,6 @@ take-line-requires : tie.Need-take-line-requires Inv-loop μ-loop
 take-line-requires c κs =
     let l = turn (c .before .before .before) in
     (start l .pre .0, l .loop .inv .1)
-
-enum-known-next : tie.Need-enum-known-next Inv-loop μ-loop
-enum-known-next c = search needs
-
-enum-told-2 : tie.Need-enum-told-2 Inv-loop μ-loop
-enum-told-2 c = search needs
 
 add-t19 : tie.Need-add-t19 Inv-loop μ-loop
 add-t19 c =
@@ -159,18 +141,18 @@ read-text-spec =
     Inv-loop
     μ-loop
     loop-holds
-    line-feed-requires
-    enum-known-end
-    enum-told
-    add-t12
+    (λ c κs. search needs)
+    (λ c. search needs)
+    (λ c. search needs)
+    (λ c. omega arith)
     same-length
     returns
     sub-take-line
     part-take-line-start
     part-take-line-end
     take-line-requires
-    enum-known-next
-    enum-told-2
+    (λ c. search needs)
+    (λ c. search needs)
     add-t19
     same-length-2
     returns-2

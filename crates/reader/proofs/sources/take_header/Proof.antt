@@ -6,12 +6,6 @@ use Rattle.reader.proofs.SourcesSteps.{header-late, header-stop, header
 use Rattle.reader.proofs.sources.take_header.Statement.{statement}
 use Rattle.reader.proofs.sources.take_header.Tie as tie
 
-enum-told : tie.Need-enum-told
-enum-told c = search needs
-
-enum-told-2 : tie.Need-enum-told-2
-enum-told-2 c = search needs
-
 returns : tie.Need-returns
 unfolding stepOf
 returns c = (λ n xs. header-late xs _ n _ (c .enum-told2 .given .1), λ xs r. tt)
@@ -25,4 +19,4 @@ unfolding stepOf
 returns-3 c = (λ n xs. header-next xs _ n _ (c .before .enum-told .given .1) (c .if1 .left), λ xs r. record { room = r; inside = (c .if1 .left, omega arith) })
 
 pub take-header-spec : {M : Type 1} → statement M
-take-header-spec = tie.close (tie.spec enum-told enum-told-2 returns returns-2 returns-3)
+take-header-spec = tie.close (tie.spec (λ c. search needs) (λ c. search needs) returns returns-2 returns-3)

@@ -7,21 +7,6 @@ use Rattle.reader.specs.SourcesCode.{itemSaid, stateOf, stepOf}
 use Rattle.reader.proofs.sources.take_item.Statement.{statement}
 use Rattle.reader.proofs.sources.take_item.Tie as tie
 
-enum-known-said : tie.Need-enum-known-said
-enum-known-said c = search needs
-
-take-header-requires : tie.Need-take-header-requires
-take-header-requires c κs = search needs
-
-enum-known-said-2 : tie.Need-enum-known-said-2
-enum-known-said-2 c = search needs
-
-take-source-requires : tie.Need-take-source-requires
-take-source-requires c κs = search needs
-
-enum-told : tie.Need-enum-told
-enum-told c = search needs
-
 returns : tie.Need-returns
 unfolding bind
 returns c =
@@ -53,11 +38,11 @@ pub take-item-spec : {M : Type 1} → statement M
 take-item-spec =
     tie.close
     (tie.spec
-    enum-known-said
-    take-header-requires
-    enum-known-said-2
-    take-source-requires
-    enum-told
+    (λ c. search needs)
+    (λ c κs. search needs)
+    (λ c. search needs)
+    (λ c κs. search needs)
+    (λ c. search needs)
     returns
     same-length
     returns-2

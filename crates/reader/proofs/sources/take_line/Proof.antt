@@ -14,12 +14,6 @@ use Rattle.reader.proofs.sources.take_line.Tie as tie
 abbrev start : tie.After-holds → tie.Start
 start h = h .before .before .before
 
-holds-requires : tie.Need-holds-requires
-holds-requires c κs = search needs
-
-is-comment-requires : tie.Need-is-comment-requires
-is-comment-requires c κs = search needs
-
 returns : tie.Need-returns
 unfolding stepOf
 returns c =
@@ -46,12 +40,6 @@ returns-2 c =
       tt,
     )
 
-read-item-requires : tie.Need-read-item-requires
-read-item-requires c κs = search needs
-
-take-item-requires : tie.Need-take-item-requires
-take-item-requires c κs = search needs
-
 same-length : tie.Need-same-length
 same-length c = c .before .before .take-item .kept .1 .1 .1 .0
 
@@ -74,11 +62,11 @@ pub take-line-spec : {M : Type 1} → statement M
 take-line-spec =
     tie.close
     (tie.spec
-    holds-requires
-    is-comment-requires
+    (λ c κs. search needs)
+    (λ c κs. search needs)
     returns
     returns-2
-    read-item-requires
-    take-item-requires
+    (λ c κs. search needs)
+    (λ c κs. search needs)
     same-length
     returns-3)

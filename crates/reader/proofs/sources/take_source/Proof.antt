@@ -19,18 +19,9 @@ inside c =
     let r = start k .pre .room in
     omega arith
 
-enum-known-state : tie.Need-enum-known-state
-enum-known-state c = search needs
-
-enum-told : tie.Need-enum-told
-enum-told c = search needs
-
 returns : tie.Need-returns
 unfolding stepOf
 returns c = (source-early _ _ _ _ (c .enum-told .given .1), tt)
-
-cast-if1 : tie.Need-cast-if1
-cast-if1 c = search needs
 
 returns-2 : tie.Need-returns-2
 unfolding stepOf
@@ -46,17 +37,8 @@ returns-3 c =
     let m : a .n ≤ a .v = omega arith in
     (source-broken _ _ _ _ _ _ (k .state .given .1) (start k .pre) (c .before .if1 .left) m, tt)
 
-mul-list : tie.Need-mul-list
-mul-list c = search needs
-
 slice-write-list : tie.Need-slice-write-list
 slice-write-list c = inside (c .before)
-
-add-t7 : tie.Need-add-t7
-add-t7 c = search needs
-
-same-length : tie.Need-same-length
-same-length c = search needs
 
 returns-4 : tie.Need-returns-4
 unfolding stepOf
@@ -73,14 +55,14 @@ pub take-source-spec : {M : Type 1} → statement M
 take-source-spec =
     tie.close
     (tie.spec
-    enum-known-state
-    enum-told
+    (λ c. search needs)
+    (λ c. search needs)
     returns
-    cast-if1
+    (λ c. search needs)
     returns-2
     returns-3
-    mul-list
+    (λ c. search needs)
     slice-write-list
-    add-t7
-    same-length
+    (λ c. search needs)
+    (λ c. search needs)
     returns-4)

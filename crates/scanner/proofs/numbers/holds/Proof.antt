@@ -11,13 +11,10 @@ returns c =
     let a = c .before .args in
     sym (starts-end (a .c) (a .s .now) (a .at) (c .if1 .taken))
 
-shared-slice-read-result : tie.Need-shared-slice-read-result
-shared-slice-read-result c = search needs
-
 returns-2 : tie.Need-returns-2
 returns-2 c =
     let a = c .before .before .args in
     sym (starts-at (a .c) (a .s .now) (a .at) (omega arith))
 
 pub holds-spec : {M : Type 1} → statement M
-holds-spec = tie.close (tie.spec returns shared-slice-read-result returns-2)
+holds-spec = tie.close (tie.spec returns (λ c. search needs) returns-2)

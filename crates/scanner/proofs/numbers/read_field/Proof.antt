@@ -8,9 +8,6 @@ use borrow.Author.Needs.{needs}
 use Rattle.scanner.proofs.numbers.read_field.Statement.{statement}
 use Rattle.scanner.proofs.numbers.read_field.Tie as tie
 
-holds-requires : tie.Need-holds-requires
-holds-requires c κs = search needs
-
 returns : tie.Need-returns
 returns c =
     let a = c .before .before .before .args in
@@ -33,4 +30,4 @@ returns-2 c =
     (c .read-number .ensures .0 ∙ ap capNumber (sym e), c .read-number .ensures .1)
 
 pub read-field-spec : {M : Type 1} → statement M
-read-field-spec = tie.close (tie.spec holds-requires returns add-read-number read-number-requires returns-2)
+read-field-spec = tie.close (tie.spec (λ c κs. search needs) returns add-read-number read-number-requires returns-2)

@@ -18,20 +18,11 @@ returns c =
     let a = c .before .before .args in
     (sym (ap capNumber (number-end (a .s .now) (a .at) (c .if1 .taken))), omega arith)
 
-shared-slice-read-b : tie.Need-shared-slice-read-b
-shared-slice-read-b c = search needs
-
-add-t9 : tie.Need-add-t9
-add-t9 c = search needs
-
 returns-2 : tie.Need-returns-2
 unfolding capNumber
 returns-2 c =
     let a = c .before .before .before .before .args in
     (sym (ap capNumber (number-zero (a .s .now) (a .at) (omega arith) (c .if2 .taken))), omega arith)
-
-is-digit-requires : tie.Need-is-digit-requires
-is-digit-requires c κs = search needs
 
 returns-3 : tie.Need-returns-3
 unfolding capNumber
@@ -39,9 +30,6 @@ returns-3 c =
     let a = c .before .before .before .before .before .before .args in
     let e = sym (c .before .is-digit .ensures) ∙ not-true _ (c .if3 .taken) in
     (sym (ap capNumber (number-bad (a .s .now) (a .at) (omega arith) (c .before .before .if2 .left) e)), omega arith)
-
-add-scan : tie.Need-add-scan
-add-scan c = search needs
 
 cast-scan : tie.Need-cast-scan
 cast-scan c = omega (arith, c .before .before .before .shared-slice-known2 .given (c .before .before .before .before .before .before .args .at))
@@ -66,12 +54,12 @@ read-number-spec =
     tie.close
     (tie.spec
     returns
-    shared-slice-read-b
-    add-t9
+    (λ c. search needs)
+    (λ c. search needs)
     returns-2
-    is-digit-requires
+    (λ c κs. search needs)
     returns-3
-    add-scan
+    (λ c. search needs)
     cast-scan
     sub-scan
     scan-requires

@@ -6,15 +6,6 @@ use Rattle.scanner.proofs.Fields.{put, fields-none, fields-more, fields
 use Rattle.scanner.proofs.numbers.read_one.Statement.{statement}
 use Rattle.scanner.proofs.numbers.read_one.Tie as tie
 
-read-field-requires : tie.Need-read-field-requires
-read-field-requires c κs = search needs
-
-enum-known-a : tie.Need-enum-known-a
-enum-known-a c = search needs
-
-enum-told : tie.Need-enum-told
-enum-told c = search needs
-
 returns : tie.Need-returns
 returns c =
     let f = c .before .before in
@@ -45,4 +36,4 @@ returns-3 c =
 
 pub read-one-spec : {M : Type 1} → statement M
 read-one-spec =
-    tie.close (tie.spec read-field-requires enum-known-a enum-told returns returns-2 returns-3)
+    tie.close (tie.spec (λ c κs. search needs) (λ c. search needs) (λ c. search needs) returns returns-2 returns-3)

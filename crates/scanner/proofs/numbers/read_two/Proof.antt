@@ -6,29 +6,11 @@ use Rattle.scanner.proofs.Fields.{put, fields-none, fields-more}
 use Rattle.scanner.proofs.numbers.read_two.Statement.{statement}
 use Rattle.scanner.proofs.numbers.read_two.Tie as tie
 
-read-field-requires : tie.Need-read-field-requires
-read-field-requires c κs = search needs
-
-enum-known-a : tie.Need-enum-known-a
-enum-known-a c = search needs
-
-enum-told : tie.Need-enum-told
-enum-told c = search needs
-
 returns : tie.Need-returns
 returns c =
     let f = c .before .before in
     let a = f .before .before .args in
     sym (fields-none 1 (a .s .now) (a .at) (ap (parsed (a .s .now)) (sym (c .enum-told .given .1)) ∙ f .read-field .ensures .0))
-
-read-one-requires : tie.Need-read-one-requires
-read-one-requires c κs = search needs
-
-enum-known-b : tie.Need-enum-known-b
-enum-known-b c = search needs
-
-enum-told-2 : tie.Need-enum-told-2
-enum-told-2 c = search needs
 
 returns-2 : tie.Need-returns-2
 unfolding put
@@ -59,12 +41,12 @@ pub read-two-spec : {M : Type 1} → statement M
 read-two-spec =
     tie.close
     (tie.spec
-    read-field-requires
-    enum-known-a
-    enum-told
+    (λ c κs. search needs)
+    (λ c. search needs)
+    (λ c. search needs)
     returns
-    read-one-requires
-    enum-known-b
-    enum-told-2
+    (λ c κs. search needs)
+    (λ c. search needs)
+    (λ c. search needs)
     returns-2
     returns-3)

@@ -9,21 +9,6 @@ use Rattle.spelling.proofs.Telling.{setAll-over, setAll-within, refused
 use Rattle.spelling.proofs.spell.spell_check.Statement.{statement}
 use Rattle.spelling.proofs.spell.spell_check.Tie as tie
 
-enum-told : tie.Need-enum-told
-enum-told c = search needs
-
-slice-write-reply : tie.Need-slice-write-reply
-slice-write-reply c = search needs
-
-enum-known-r : tie.Need-enum-known-r
-enum-known-r c = search needs
-
-slice-write-reply-2 : tie.Need-slice-write-reply-2
-slice-write-reply-2 c = search needs
-
-cast-reply : tie.Need-cast-reply
-cast-reply c = search needs
-
 slice-write-reply-3 : tie.Need-slice-write-reply-3
 slice-write-reply-3 c = setAll-within (0 ∷ []) (c .before .before .before .args .reply .now) 1 (omega arith)
 
@@ -33,23 +18,11 @@ slice-write-reply-4 c = setAll-within (0 ∷ c .before .r .given .0 .0 ∷ []) (
 slice-write-reply-5 : tie.Need-slice-write-reply-5
 slice-write-reply-5 c = setAll-within (0 ∷ c .before .r .given .0 .0 ∷ c .before .r .given .0 .1 .0 ∷ []) (c .before .before .before .args .reply .now) 3 (omega arith)
 
-enum-known-r-2 : tie.Need-enum-known-r-2
-enum-known-r-2 c = search needs
-
-slice-write-reply-6 : tie.Need-slice-write-reply-6
-slice-write-reply-6 c = search needs
-
-same-length : tie.Need-same-length
-same-length c = search needs
-
 returns : tie.Need-returns
 unfolding checking checkWords
 returns c =
     let s = c .before .before in
     rw (c .enum-told .given .1) (accepted-tells checkWords (s .args .reply .now) (omega arith) settled (setAll-over (1 ∷ []) (s .args .reply .now) (omega arith)))
-
-same-length-2 : tie.Need-same-length-2
-same-length-2 c = search needs
 
 returns-2 : tie.Need-returns-2
 unfolding checking checkWords
@@ -57,9 +30,6 @@ returns-2 c =
     let s = c .before .before .before in
     let g = c .before .r .given .0 in
     rw (c .before .r .given .1) (accepted-tells checkWords (s .args .reply .now) (omega arith) (found (g .0) (g .1 .0) (g .1 .1 .0)) (setAll-over (0 ∷ g .0 ∷ g .1 .0 ∷ g .1 .1 .0 ∷ []) (s .args .reply .now) (omega arith)))
-
-same-length-3 : tie.Need-same-length-3
-same-length-3 c = search needs
 
 returns-3 : tie.Need-returns-3
 unfolding checking
@@ -71,19 +41,19 @@ pub spell-check-spec : {M : Type 1} → statement M
 spell-check-spec =
     tie.close
     (tie.spec
-    enum-told
-    slice-write-reply
-    enum-known-r
-    slice-write-reply-2
-    cast-reply
+    (λ c. search needs)
+    (λ c. search needs)
+    (λ c. search needs)
+    (λ c. search needs)
+    (λ c. search needs)
     slice-write-reply-3
     slice-write-reply-4
     slice-write-reply-5
-    enum-known-r-2
-    slice-write-reply-6
-    same-length
+    (λ c. search needs)
+    (λ c. search needs)
+    (λ c. search needs)
     returns
-    same-length-2
+    (λ c. search needs)
     returns-2
-    same-length-3
+    (λ c. search needs)
     returns-3)

@@ -8,23 +8,11 @@ use Rattle.spelling.proofs.Telling.{refused-tells, accepted-tells}
 use Rattle.spelling.proofs.spell.spell_open.Statement.{statement}
 use Rattle.spelling.proofs.spell.spell_open.Tie as tie
 
-enum-told : tie.Need-enum-told
-enum-told c = search needs
-
-enum-known-r : tie.Need-enum-known-r
-enum-known-r c = search needs
-
-slice-write-reply : tie.Need-slice-write-reply
-slice-write-reply c = search needs
-
 returns : tie.Need-returns
 unfolding opening
 returns c =
     let s = c .before .before in
     rw (c .enum-told .given .1) (accepted-tells openWords (s .args .reply .now) (omega arith) tt refl)
-
-same-length : tie.Need-same-length
-same-length c = search needs
 
 returns-2 : tie.Need-returns-2
 unfolding opening
@@ -34,4 +22,4 @@ returns-2 c =
 
 pub spell-open-spec : {M : Type 1} → statement M
 spell-open-spec =
-    tie.close (tie.spec enum-told enum-known-r slice-write-reply returns same-length returns-2)
+    tie.close (tie.spec (λ c. search needs) (λ c. search needs) (λ c. search needs) returns (λ c. search needs) returns-2)

@@ -9,26 +9,11 @@ use Rattle.spelling.proofs.Telling.{setAll-over, setAll-within, refused
 use Rattle.spelling.proofs.spell.spell_query.Statement.{statement}
 use Rattle.spelling.proofs.spell.spell_query.Tie as tie
 
-enum-known-r : tie.Need-enum-known-r
-enum-known-r c = search needs
-
-slice-write-reply : tie.Need-slice-write-reply
-slice-write-reply c = search needs
-
 slice-write-reply-2 : tie.Need-slice-write-reply-2
 slice-write-reply-2 c = setAll-within (c .before .r .given .0 .0 .taken ∷ []) (c .before .before .before .args .reply .now) 1 (omega arith)
 
 slice-write-reply-3 : tie.Need-slice-write-reply-3
 slice-write-reply-3 c = setAll-within (c .before .r .given .0 .0 .taken ∷ c .before .r .given .0 .0 .rounds ∷ []) (c .before .before .before .args .reply .now) 2 (omega arith)
-
-enum-known-r-2 : tie.Need-enum-known-r-2
-enum-known-r-2 c = search needs
-
-slice-write-reply-4 : tie.Need-slice-write-reply-4
-slice-write-reply-4 c = search needs
-
-same-length : tie.Need-same-length
-same-length c = search needs
 
 returns : tie.Need-returns
 unfolding answering
@@ -36,9 +21,6 @@ returns c =
     let s = c .before .before .before in
     let t = c .before .r .given .0 .0 in
     rw (c .before .r .given .1) (accepted-tells tallyWords (s .args .reply .now) (omega arith) (counts t) (setAll-over (t .taken ∷ t .rounds ∷ t .stores ∷ []) (s .args .reply .now) (omega arith)))
-
-same-length-2 : tie.Need-same-length-2
-same-length-2 c = search needs
 
 returns-2 : tie.Need-returns-2
 unfolding answering
@@ -50,13 +32,13 @@ pub spell-query-spec : {M : Type 1} → statement M
 spell-query-spec =
     tie.close
     (tie.spec
-    enum-known-r
-    slice-write-reply
+    (λ c. search needs)
+    (λ c. search needs)
     slice-write-reply-2
     slice-write-reply-3
-    enum-known-r-2
-    slice-write-reply-4
-    same-length
+    (λ c. search needs)
+    (λ c. search needs)
+    (λ c. search needs)
     returns
-    same-length-2
+    (λ c. search needs)
     returns-2)

@@ -8,29 +8,8 @@ use Rattle.spelling.proofs.Telling.{setAll-over, setAll-within, refused
 use Rattle.spelling.proofs.spell.spell_read.Statement.{statement}
 use Rattle.spelling.proofs.spell.spell_read.Tie as tie
 
-enum-known-r : tie.Need-enum-known-r
-enum-known-r c = search needs
-
-cast-reply : tie.Need-cast-reply
-cast-reply c = search needs
-
-slice-write-reply : tie.Need-slice-write-reply
-slice-write-reply c = search needs
-
-cast-reply-2 : tie.Need-cast-reply-2
-cast-reply-2 c = search needs
-
 slice-write-reply-2 : tie.Need-slice-write-reply-2
 slice-write-reply-2 c = setAll-within (c .before .r .given .0 .0 ∷ []) (c .before .before .before .args .reply .now) 1 (omega arith)
-
-enum-known-r-2 : tie.Need-enum-known-r-2
-enum-known-r-2 c = search needs
-
-slice-write-reply-3 : tie.Need-slice-write-reply-3
-slice-write-reply-3 c = search needs
-
-same-length : tie.Need-same-length
-same-length c = search needs
 
 returns : tie.Need-returns
 unfolding reading
@@ -38,9 +17,6 @@ returns c =
     let s = c .before .before .before in
     let t = c .before .r .given .0 in
     rw (c .before .r .given .1) (accepted-tells sizeWords (s .args .reply .now) (omega arith) (record { vertices = t .0; count = t .1 .0 }) (setAll-over (t .0 ∷ t .1 .0 ∷ []) (s .args .reply .now) (omega arith)))
-
-same-length-2 : tie.Need-same-length-2
-same-length-2 c = search needs
 
 returns-2 : tie.Need-returns-2
 unfolding reading
@@ -52,14 +28,14 @@ pub spell-read-spec : {M : Type 1} → statement M
 spell-read-spec =
     tie.close
     (tie.spec
-    enum-known-r
-    cast-reply
-    slice-write-reply
-    cast-reply-2
+    (λ c. search needs)
+    (λ c. search needs)
+    (λ c. search needs)
+    (λ c. search needs)
     slice-write-reply-2
-    enum-known-r-2
-    slice-write-reply-3
-    same-length
+    (λ c. search needs)
+    (λ c. search needs)
+    (λ c. search needs)
     returns
-    same-length-2
+    (λ c. search needs)
     returns-2)

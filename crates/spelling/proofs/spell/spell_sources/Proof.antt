@@ -8,33 +8,12 @@ use Rattle.spelling.proofs.Telling.{setAll-over, refused-tells, accepte
 use Rattle.spelling.proofs.spell.spell_sources.Statement.{statement}
 use Rattle.spelling.proofs.spell.spell_sources.Tie as tie
 
-enum-known-r : tie.Need-enum-known-r
-enum-known-r c = search needs
-
-cast-reply : tie.Need-cast-reply
-cast-reply c = search needs
-
-slice-write-reply : tie.Need-slice-write-reply
-slice-write-reply c = search needs
-
-enum-known-r-2 : tie.Need-enum-known-r-2
-enum-known-r-2 c = search needs
-
-slice-write-reply-2 : tie.Need-slice-write-reply-2
-slice-write-reply-2 c = search needs
-
-same-length : tie.Need-same-length
-same-length c = search needs
-
 returns : tie.Need-returns
 unfolding reading
 returns c =
     let s = c .before .before .before in
     let t = c .before .r .given .0 .0 in
     rw (c .before .r .given .1) (accepted-tells oneWord (s .args .reply .now) (omega arith) t (setAll-over (t ∷ []) (s .args .reply .now) (omega arith)))
-
-same-length-2 : tie.Need-same-length-2
-same-length-2 c = search needs
 
 returns-2 : tie.Need-returns-2
 unfolding reading
@@ -46,12 +25,12 @@ pub spell-sources-spec : {M : Type 1} → statement M
 spell-sources-spec =
     tie.close
     (tie.spec
-    enum-known-r
-    cast-reply
-    slice-write-reply
-    enum-known-r-2
-    slice-write-reply-2
-    same-length
+    (λ c. search needs)
+    (λ c. search needs)
+    (λ c. search needs)
+    (λ c. search needs)
+    (λ c. search needs)
+    (λ c. search needs)
     returns
-    same-length-2
+    (λ c. search needs)
     returns-2)

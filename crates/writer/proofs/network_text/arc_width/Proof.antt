@@ -11,18 +11,6 @@ use Rattle.writer.proofs.Text.{arc-fields, line-length}
 use Rattle.writer.proofs.network_text.arc_width.Statement.{statement}
 use Rattle.writer.proofs.network_text.arc_width.Tie as tie
 
-add-t7 : tie.Need-add-t7
-add-t7 c = search needs
-
-add-t9 : tie.Need-add-t9
-add-t9 c = search needs
-
-slice-aggregate-fields-width : tie.Need-slice-aggregate-fields-width
-slice-aggregate-fields-width c = search needs
-
-fields-width-requires : tie.Need-fields-width-requires
-fields-width-requires c κs = search needs
-
 add-result : tie.Need-add-result
 add-result c = omega (arith, c .fields-width .ensures .1)
 
@@ -34,4 +22,4 @@ returns c =
 pub arc-width-spec : {M : Type 1} → statement M
 arc-width-spec =
     tie.close
-    (tie.spec add-t7 add-t9 slice-aggregate-fields-width fields-width-requires add-result returns)
+    (tie.spec (λ c. search needs) (λ c. search needs) (λ c. search needs) (λ c κs. search needs) add-result returns)

@@ -20,35 +20,8 @@ abbrev μ-loop : tie.MeasureT-loop
 loop-holds : tie.Need-loop-holds Inv-loop μ-loop
 loop-holds c = (omega arith, omega arith, omega arith)
 
-mul-arc-width : tie.Need-mul-arc-width Inv-loop μ-loop
-mul-arc-width c = search needs
-
-shared-slice-read-arc-width : tie.Need-shared-slice-read-arc-width Inv-loop μ-loop
-shared-slice-read-arc-width c = omega arith
-
-mul-arc-width-2 : tie.Need-mul-arc-width-2 Inv-loop μ-loop
-mul-arc-width-2 c = search needs
-
-shared-slice-read-arc-width-2 : tie.Need-shared-slice-read-arc-width-2 Inv-loop μ-loop
-shared-slice-read-arc-width-2 c = omega arith
-
-mul-arc-width-3 : tie.Need-mul-arc-width-3 Inv-loop μ-loop
-mul-arc-width-3 c = search needs
-
-shared-slice-read-arc-width-3 : tie.Need-shared-slice-read-arc-width-3 Inv-loop μ-loop
-shared-slice-read-arc-width-3 c = omega arith
-
-arc-width-requires : tie.Need-arc-width-requires Inv-loop μ-loop
-arc-width-requires c κs = search needs
-
 add-sum : tie.Need-add-sum Inv-loop μ-loop
 add-sum c = omega (arith, c .arc-width .ensures .1)
-
-add-k : tie.Need-add-k Inv-loop μ-loop
-add-k c = search needs
-
-loop-less : tie.Need-loop-less Inv-loop μ-loop
-loop-less c = search needs
 
 loop-again : tie.Need-loop-again Inv-loop μ-loop
 loop-again c =
@@ -73,15 +46,15 @@ arcs-width-spec =
     Inv-loop
     μ-loop
     loop-holds
-    mul-arc-width
-    shared-slice-read-arc-width
-    mul-arc-width-2
-    shared-slice-read-arc-width-2
-    mul-arc-width-3
-    shared-slice-read-arc-width-3
-    arc-width-requires
+    (λ c. search needs)
+    (λ c. omega arith)
+    (λ c. search needs)
+    (λ c. omega arith)
+    (λ c. search needs)
+    (λ c. omega arith)
+    (λ c κs. search needs)
     add-sum
-    add-k
-    loop-less
+    (λ c. search needs)
+    (λ c. search needs)
     loop-again
     returns)

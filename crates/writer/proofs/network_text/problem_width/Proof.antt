@@ -10,12 +10,6 @@ use Rattle.writer.proofs.Text.{problem-fields, line-length}
 use Rattle.writer.proofs.network_text.problem_width.Statement.{statement}
 use Rattle.writer.proofs.network_text.problem_width.Tie as tie
 
-slice-aggregate-fields-width : tie.Need-slice-aggregate-fields-width
-slice-aggregate-fields-width c = search needs
-
-fields-width-requires : tie.Need-fields-width-requires
-fields-width-requires c κs = search needs
-
 add-result : tie.Need-add-result
 add-result c = omega (arith, c .fields-width .ensures .1)
 
@@ -26,4 +20,4 @@ returns c =
 
 pub problem-width-spec : {M : Type 1} → statement M
 problem-width-spec =
-    tie.close (tie.spec slice-aggregate-fields-width fields-width-requires add-result returns)
+    tie.close (tie.spec (λ c. search needs) (λ c κs. search needs) add-result returns)

@@ -21,24 +21,6 @@ abbrev μ-loop : tie.MeasureT-loop
 loop-holds : tie.Need-loop-holds Inv-loop μ-loop
 loop-holds c = (pending-start (c .before .before .before .before .pre .1), omega arith)
 
-mul-put-arc : tie.Need-mul-put-arc Inv-loop μ-loop
-mul-put-arc c = search needs
-
-shared-slice-read-put-arc : tie.Need-shared-slice-read-put-arc Inv-loop μ-loop
-shared-slice-read-put-arc c = search needs
-
-mul-put-arc-2 : tie.Need-mul-put-arc-2 Inv-loop μ-loop
-mul-put-arc-2 c = search needs
-
-shared-slice-read-put-arc-2 : tie.Need-shared-slice-read-put-arc-2 Inv-loop μ-loop
-shared-slice-read-put-arc-2 c = search needs
-
-mul-put-arc-3 : tie.Need-mul-put-arc-3 Inv-loop μ-loop
-mul-put-arc-3 c = search needs
-
-shared-slice-read-put-arc-3 : tie.Need-shared-slice-read-put-arc-3 Inv-loop μ-loop
-shared-slice-read-put-arc-3 c = search needs
-
 put-arc-requires : tie.Need-put-arc-requires Inv-loop μ-loop
 put-arc-requires c κs =
     let l = c .before .before .before .before .before in
@@ -47,12 +29,6 @@ put-arc-requires c κs =
     pending-fits (l .loop .inv .0) (arcLine (edgeAt (a .tails .now) (a .heads .now) (a .weights .now) (l .loop .k)))
     (arcsOf (drop (l .loop .k + 1) (edges (a .tails .now) (a .heads .now) (a .weights .now) (a .count))))
     (arcs-more (a .tails .now) (a .heads .now) (a .weights .now) (a .count) (s .pre .0) (l .loop .k) (omega arith))
-
-add-k : tie.Need-add-k Inv-loop μ-loop
-add-k c = search needs
-
-loop-less : tie.Need-loop-less Inv-loop μ-loop
-loop-less c = search needs
 
 loop-again : tie.Need-loop-again Inv-loop μ-loop
 loop-again c =
@@ -83,15 +59,15 @@ put-arcs-spec =
     Inv-loop
     μ-loop
     loop-holds
-    mul-put-arc
-    shared-slice-read-put-arc
-    mul-put-arc-2
-    shared-slice-read-put-arc-2
-    mul-put-arc-3
-    shared-slice-read-put-arc-3
+    (λ c. search needs)
+    (λ c. search needs)
+    (λ c. search needs)
+    (λ c. search needs)
+    (λ c. search needs)
+    (λ c. search needs)
     put-arc-requires
-    add-k
-    loop-less
+    (λ c. search needs)
+    (λ c. search needs)
     loop-again
     same-length
     returns)

@@ -62,23 +62,11 @@ after-problem c =
     let s = begin (i .before .before .before .before .before) in
     pending-turn (pending-start (room i)) (problemLine (s .args .n) (s .args .count)) (arcs s) (lines (i .before .before .before)) (c .put-problem .ensures)
 
-judge-write-requires : tie.Need-judge-write-requires
-judge-write-requires c κs = search needs
-
-enum-known-judged : tie.Need-enum-known-judged
-enum-known-judged c = search needs
-
 returns : tie.Need-returns
 returns c =
     let j = c .before .before .before in
     let a = begin j .args in
     write-refused (a .n) (table (begin j)) (a .count) (a .text .now) _ _ _ (j .judge-write .ensures) (c .before .judged .given .1)
-
-enum-told : tie.Need-enum-told
-enum-told c = search needs
-
-problem-width-requires : tie.Need-problem-width-requires
-problem-width-requires c κs = search needs
 
 arcs-width-requires : tie.Need-arcs-width-requires
 arcs-width-requires c κs =
@@ -106,9 +94,6 @@ put-arcs-requires c κs =
     let p = c .before .before .before in
     (writable (p .before .before .before .before .before) .room, after-problem p .fits)
 
-same-length : tie.Need-same-length
-same-length c = search needs
-
 returns-3 : tie.Need-returns-3
 returns-3 c =
     let b = c .before .before in
@@ -124,15 +109,15 @@ pub write-network-spec : {M : Type 1} → statement M
 write-network-spec =
     tie.close
     (tie.spec
-    judge-write-requires
-    enum-known-judged
+    (λ c κs. search needs)
+    (λ c. search needs)
     returns
-    enum-told
-    problem-width-requires
+    (λ c. search needs)
+    (λ c κs. search needs)
     arcs-width-requires
     add-length
     returns-2
     put-problem-requires
     put-arcs-requires
-    same-length
+    (λ c. search needs)
     returns-3)

@@ -18,9 +18,6 @@ put-byte-requires c κs =
     let s = f .before .before .before .before in
     pending-turn (pending-start (s .pre)) (fieldsOf (s .args .values .now)) (10 ∷ []) refl (f .put-fields .ensures) .fits
 
-same-length : tie.Need-same-length
-same-length c = search needs
-
 returns : tie.Need-returns
 returns c =
     let b = c .before .before in
@@ -29,4 +26,4 @@ returns c =
     pending-last (pending-turn (pending-start (s .pre)) (fieldsOf (s .args .values .now)) (10 ∷ []) refl (f .put-fields .ensures)) (b .put-byte .ensures)
 
 pub end-line-spec : {M : Type 1} → statement M
-end-line-spec = tie.close (tie.spec put-fields-requires put-byte-requires same-length returns)
+end-line-spec = tie.close (tie.spec put-fields-requires put-byte-requires (λ c. search needs) returns)

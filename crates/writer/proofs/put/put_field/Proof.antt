@@ -6,15 +6,6 @@ use Rattle.writer.proofs.Laid.{pending-start, pending-turn, pending-las
 use Rattle.writer.proofs.put.put_field.Statement.{statement}
 use Rattle.writer.proofs.put.put_field.Tie as tie
 
-put-byte-requires : tie.Need-put-byte-requires
-put-byte-requires c κs = search needs
-
-put-number-requires : tie.Need-put-number-requires
-put-number-requires c κs = search needs
-
-same-length : tie.Need-same-length
-same-length c = search needs
-
 returns : tie.Need-returns
 returns c =
     let n = c .before .before in
@@ -23,4 +14,4 @@ returns c =
     pending-last (pending-turn (pending-start (s .pre)) (32 ∷ []) _ refl (b .put-byte .ensures)) (n .put-number .ensures)
 
 pub put-field-spec : {M : Type 1} → statement M
-put-field-spec = tie.close (tie.spec put-byte-requires put-number-requires same-length returns)
+put-field-spec = tie.close (tie.spec (λ c κs. search needs) (λ c κs. search needs) (λ c. search needs) returns)

@@ -32,13 +32,10 @@ put-word-requires c κs =
 end-line-requires : tie.Need-end-line-requires
 end-line-requires c κs = after-first (c .before .before .before) .fits
 
-same-length : tie.Need-same-length
-same-length c = search needs
-
 returns : tie.Need-returns
 returns c =
     let e = c .before .before in
     pending-last (after-first (e .before .before .before .before)) (e .end-line .ensures)
 
 pub put-line-spec : {M : Type 1} → statement M
-put-line-spec = tie.close (tie.spec put-word-requires end-line-requires same-length returns)
+put-line-spec = tie.close (tie.spec put-word-requires end-line-requires (λ c. search needs) returns)

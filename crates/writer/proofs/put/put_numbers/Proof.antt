@@ -33,13 +33,10 @@ put-number-requires c κs =
 end-line-requires : tie.Need-end-line-requires
 end-line-requires c κs = after-first (c .before .before .before) .fits
 
-same-length : tie.Need-same-length
-same-length c = search needs
-
 returns : tie.Need-returns
 returns c =
     let e = c .before .before in
     pending-last (after-first (e .before .before .before .before)) (e .end-line .ensures)
 
 pub put-numbers-spec : {M : Type 1} → statement M
-put-numbers-spec = tie.close (tie.spec put-number-requires end-line-requires same-length returns)
+put-numbers-spec = tie.close (tie.spec put-number-requires end-line-requires (λ c. search needs) returns)

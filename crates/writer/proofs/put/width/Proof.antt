@@ -17,12 +17,6 @@ abbrev μ-loop : tie.MeasureT-loop
 loop-holds : tie.Need-loop-holds Inv-loop μ-loop
 loop-holds c = (refl, omega arith)
 
-add-n : tie.Need-add-n Inv-loop μ-loop
-add-n c = omega arith
-
-loop-less : tie.Need-loop-less Inv-loop μ-loop
-loop-less c = omega arith
-
 loop-again : tie.Need-loop-again Inv-loop μ-loop
 loop-again c =
     let l = c .before in
@@ -36,4 +30,4 @@ returns c =
     omega (arith, width-small (l .loop .w) b)
 
 pub width-spec : {M : Type 1} → statement M
-width-spec = tie.close (tie.spec Inv-loop μ-loop loop-holds add-n loop-less loop-again returns)
+width-spec = tie.close (tie.spec Inv-loop μ-loop loop-holds (λ c. omega arith) (λ c. omega arith) loop-again returns)
