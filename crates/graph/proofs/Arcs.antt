@@ -9,7 +9,7 @@ use lib.ListN.{length, getD, set, take, length-set}
 use lib.Seq.{getD-set-same, getD-set-other}
 use native.Mathlib.Decide.{ℕ-discrete}
 use Rattle.graph.specs.Arc.{arcHeads, arcWeights, arc, arcHead, arcWeight}
-use Rattle.graph.specs.Edge.{Edge, edge, edges, range}
+use Rattle.graph.specs.Edge.{Edge, edge, leaving, edges, range}
 use Rattle.graph.specs.Code.{Room, Firsts}
 use Rattle.graph.specs.Own as split
 use Rattle.graph.specs.Index.{part, Fit, Own, Indexes, ReversedArcs}
@@ -75,6 +75,17 @@ module _ (n m : ℕ) (fs hs ws is : List ℕ) (f : split.Fit n m fs hs ws) (size
 
   pub packed : (es : List Edge) → split.Own n fs hs ws es → Indexes n is es
   packed es o = record { fit = packed-fit; own = packed-own es o }
+
+-- ---- how many
+
+part-length : (is : List ℕ) (u j k : ℕ) → length (part is u j k) ≡ k
+unfolding part
+part-length is u j zero = refl
+part-length is u j (suc k) = ap suc (part-length is u (suc j) k)
+
+-- what lies between a vertex's first place and the next one's is as many as leave it
+pub own-length : (n : ℕ) (is : List ℕ) (es : List Edge) (u : ℕ) → u < n → Own n is es → getD is (u + 1) 0 - getD is u 0 ≡ length (leaving u es)
+own-length n is es u l o = sym (part-length is u (getD is u 0) (getD is (u + 1) 0 - getD is u 0)) ∙ ap length (o u l)
 
 -- ---- the reversed table
 

@@ -6,8 +6,8 @@ use Prim.Native.Nat.{ℕ, zero, suc, _+_, _-_, _<_, _≤_}
 use native.Mathlib.Nat.{add-zero, zero-add}
 use native.Mathlib.Decide.{ℕ-discrete}
 use native.Mathlib.Omega.{arith}
-use lib.ListN.{getD, set, length, take, drop, replicate, length-map, length-drop, List·getD-append}
-use lib.Seq.{getD-set-same, getD-set-other, getD-take, length-take-le, drop-set-lt, drop-set-add, take-set-le, take-suc-set, paste}
+use lib.ListN.{getD, set, length, take, drop, replicate, length-map, length-drop}
+use lib.Seq.{getD-set-same, getD-set-other, drop-set-lt, drop-set-add, take-set-le, take-suc-set}
 use Rattle.graph.specs.Edge.{range}
 
 -- ---- ranges and tables over them
@@ -125,10 +125,7 @@ module _ {A : Type 0} (l : List A) (j m p : ℕ) (a : A) where
       let k : m < length (drop j l) = omega (arith, length-drop j l) in
       rw (e, drop-set-add j l m a) (take-suc-set (drop j l) m a k)
 
--- ---- zeros, and the words that a copy to the front brings
+-- ---- zeros
 
 pub zeros-at : (l : List ℕ) (n : ℕ) → l ≡ replicate n 0 → (u : ℕ) → getD l u 0 ≡ 0
 zeros-at l n e u = rw e (replicate-at n u 0)
-
-pub paste-at : (d s e : List ℕ) (n : ℕ) → e ≡ paste d 0 s n → n ≤ length s → (u : ℕ) → u < n → getD e u 0 ≡ getD s u 0
-paste-at d s e n p h u l = let k = length-take-le n s h in rw p (List·getD-append (take n s) (drop (0 + n) d) 0 u (omega arith) ∙ getD-take n s u 0 l)

@@ -234,14 +234,3 @@ module _ (n m : ℕ) (ts hs ws rts rhs rws fs : List ℕ) (r : Room m ts hs ws) 
     within = λ u l. let b = firsts-end n (take m hs) fs f u l in let t = length-take-le m hs (r .heads) in omega arith;
     inside = λ k l. within n (edges ts hs ws m) (rules-accept n (edges ts hs ws m) a) .tails (edge (getD rhs k 0) (getD rts k 0) (getD rws k 0)) (in-reversed k l);
   }
-
--- ---- how many
-
-part-length : (hs ws : List ℕ) (u j k : ℕ) → length (part hs ws u j k) ≡ k
-unfolding part
-part-length hs ws u j zero = refl
-part-length hs ws u j (suc k) = ap suc (part-length hs ws u (suc j) k)
-
--- what lies between a vertex's first edge and the next one's is as many as leave it
-pub own-length : (n : ℕ) (fs hs ws : List ℕ) (es : List Edge) (u : ℕ) → u < n → Own n fs hs ws es → getD fs (u + 1) 0 - getD fs u 0 ≡ length (leaving u es)
-own-length n fs hs ws es u l o = sym (part-length hs ws u (getD fs u 0) (getD fs (u + 1) 0 - getD fs u 0)) ∙ ap length (o u l)

@@ -1,4 +1,4 @@
-// The edge table: its rules, look-up, one edge more or less, the first edge of each tail, and the reversed table.
+// The edge table: its rules, look-up, one edge more or less, and its index and that of the reversed table.
 pub mod arc;
 pub mod edit;
 pub mod ends;
