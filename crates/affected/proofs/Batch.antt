@@ -1,15 +1,6 @@
 -- Batches: from best words of the old edges, the prepared row keeps the invariant of runs on the new edges, so its words are best once
 -- nothing waits; and a vertex that is not affected has no worse a word than before. Assumes nothing.
-use mathlib.Core.Path.{_≡_, refl, sym, _∙_}
-use mathlib.Core.Logic.{_⊎_, inl, inr}
-use mathlib.Core.Bool.{Bool, true, false, _&&_, _||_, cond, true≢false}
-use mathlib.Core.List.{List, List·Memᴰ}
-use Prim.Native.Nat.{ℕ, _≤_, _<_}
-use native.Mathlib.Decide.{decLt}
-use native.Mathlib.Omega.{arith}
-use lib.ListN.{List·getD-eq-default}
-use lib.Dec.{eqb}
-use borrow.Author.Tests.{eq-eqb}
+use Rattle.property.proofs.Basics.{_≡_, refl, sym, _∙_, _⊎_, inl, inr, Bool, true, false, _&&_, _||_, cond, true≢false, List, List·Memᴰ, ℕ, _≤_, _<_, decLt, arith, List·getD-eq-default, eqb, eq-eqb}
 use Rattle.property.specs.Property.{Property}
 use Rattle.property.specs.Laws.{Laws}
 use Rattle.frontier.specs.Waiting.{anyOf}

@@ -1,8 +1,5 @@
 -- Affected vertices of small networks, computed: document 01, "Near the edges, and a small deck". Assumes nothing.
-use mathlib.Core.Path.{_≡_, refl}
-use mathlib.Core.Bool.{Bool, true, false}
-use mathlib.Core.List.{List, [], _∷_, map}
-use Prim.Native.Nat.{ℕ}
+use Rattle.property.proofs.Basics.{_≡_, refl, Bool, true, false, List, [], _∷_, map, ℕ}
 use Rattle.property.specs.Property.{M, sssp, sswp, ssr}
 use Rattle.graph.specs.Edge.{Edge, edge, reverse, exists}
 use Rattle.graph.specs.Table.{insert, delete}

@@ -1,8 +1,5 @@
 -- The rounds of a batch start from words of 32 bits, whatever words the row held. Assumes nothing.
-use mathlib.Core.Path.{_≡_}
-use mathlib.Core.Bool.{cond}
-use mathlib.Core.List.{List}
-use Prim.Native.Nat.{ℕ, _≤_, _<_}
+use Rattle.property.proofs.Basics.{_≡_, cond, List, ℕ, _≤_, _<_}
 use Rattle.property.specs.Property.{M, Property}
 use Rattle.property.specs.Laws.{Laws}
 use Rattle.graph.specs.Edge.{Edge}

@@ -1,9 +1,5 @@
 -- What a batch leaves in the lent lists, from what its rows came to. Assumes nothing.
-use mathlib.Core.Path.{_≡_, sym, _∙_}
-use mathlib.Core.Bool.{true, false}
-use mathlib.Core.List.{List, map}
-use Prim.Native.Nat.{ℕ}
-use lib.ListN.{length}
+use Rattle.property.proofs.Basics.{_≡_, sym, _∙_, true, false, List, map, ℕ, length}
 use Rattle.graph.specs.Refusal.{refuseIf, accepted, replied, choose, over}
 use Rattle.graph.specs.Edge.{Edge, reverse, edges}
 use Rattle.graph.specs.Index.{Own}

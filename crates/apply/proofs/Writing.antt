@@ -1,10 +1,6 @@
 -- A table that is written over another. Assumes nothing.
-use mathlib.Core.Path.{_≡_, sym, ap, _∙_}
-use mathlib.Core.List.{List, _++_, append-assoc}
-use Prim.Native.Nat.{ℕ, _+_, _-_, _≤_}
-use native.Mathlib.Omega.{arith}
-use lib.ListN.{length, take, drop, replicate, length-append, length-replicate}
-use lib.Seq.{paste, length-paste, take-at, drop-at, drop-drop, length-take-le}
+use Rattle.property.proofs.Basics.{_≡_, sym, ap, _∙_, List, _++_, append-assoc, ℕ, _+_, _-_, _≤_, arith, length, take, drop, replicate, length-append, length-replicate, paste, take-at, drop-at, drop-drop, length-take-le}
+use lib.Seq.{length-paste}
 use borrow.Rule.Slice.PartMut.{midOf, putMid, mid-len}
 use Rattle.graph.specs.Limits.{maxEdges}
 use Rattle.graph.specs.Refusal.{over}

@@ -1,14 +1,6 @@
 -- The words of change records in four lists of 1,024, one after the other: what is put there is read there. Assumes nothing.
-use mathlib.Core.Path.{_≡_, refl, sym, ap, subst, _∙_}
-use mathlib.Core.Logic.{_≢_}
-use mathlib.Core.List.{List, [], _∷_, map}
-use Prim.Native.Nat.{ℕ, zero, suc, _+_, _-_, _*_, _<_, _≤_, min}
+use Rattle.property.proofs.Basics.{_≡_, refl, sym, ap, subst, _∙_, _≢_, List, [], _∷_, map, ℕ, zero, suc, _+_, _-_, _*_, _<_, _≤_, min, add-one, arith, decLt, length, getD, set, take, drop, length-set, length-drop, List·getD-map, length-map, getD-set-same, getD-set-other, getD-take, getD-drop, length-take-le}
 use native.Mathlib.Nat.{add-sub-cancel-left}
-use native.Mathlib.Numerals.{add-one}
-use native.Mathlib.Omega.{arith}
-use native.Mathlib.Decide.{decLt}
-use lib.ListN.{length, getD, set, take, drop, length-set, length-drop, List·getD-map, length-map}
-use lib.Seq.{getD-set-same, getD-set-other, getD-take, getD-drop, length-take-le}
 use Rattle.graph.specs.Limits.{maxBatch}
 use Rattle.network.specs.Change as spec
 use Rattle.items.specs.Code.{change, changes}

@@ -1,16 +1,6 @@
 -- Refusals 1 to 4 of a network as the code judges them, and what an accepted network tells. Assumes nothing.
-use mathlib.Core.Path.{_≡_, sym, _∙_}
-use mathlib.Core.Bool.{Bool, true, false, not}
-use mathlib.Core.List.{List}
-use Prim.Native.Nat.{ℕ, _+_, _*_, _/_, _<_, _≤_}
-use native.Mathlib.Nat.{mul-assoc, mul-zero, div-lt-iff-lt-mul}
-use native.Mathlib.Decide.{decLt}
-use native.Mathlib.Numerals.{add-one}
-use native.Mathlib.Omega.{arith}
-use lib.ListN.{length, getD, drop, drop-of-length-le}
-use lib.Seq.{drop-cons}
-use lib.Dec.{eqb, ltb}
-use borrow.Author.Tests.{eq-eqb, ne-eqb, lt-ltb, le-ltb, ltb-false, not-false}
+use Rattle.property.proofs.Basics.{_≡_, sym, _∙_, Bool, true, false, not, List, ℕ, _+_, _*_, _/_, _<_, _≤_, div-lt-iff-lt-mul, decLt, add-one, arith, length, getD, drop, drop-of-length-le, drop-cons, eqb, ltb, eq-eqb, ne-eqb, lt-ltb, le-ltb, ltb-false, not-false}
+use native.Mathlib.Nat.{mul-assoc, mul-zero}
 use Rattle.graph.specs.Edge.{exists}
 use Rattle.graph.specs.Refusal.{accept}
 use Rattle.graph.specs.Limits.{maxVertices, maxEdges, maxLandmarks}

@@ -1,11 +1,5 @@
 -- Where a row lies in a list of rows, and its words. Assumes nothing.
-use mathlib.Core.Path.{_≡_, sym, _∙_}
-use mathlib.Core.List.{List}
-use Prim.Native.Nat.{ℕ, _+_, _*_, _<_, _≤_}
-use native.Mathlib.Nat.{mul-le-mul, mul-le-mul-right, suc-mul}
-use native.Mathlib.Omega.{arith}
-use lib.ListN.{length, getD, drop}
-use lib.Seq.{getD-take, getD-drop}
+use Rattle.property.proofs.Basics.{_≡_, sym, _∙_, List, ℕ, _+_, _*_, _<_, _≤_, mul-le-mul, mul-le-mul-right, suc-mul, arith, length, getD, drop, getD-take, getD-drop}
 use mir.Syntax.{w64}
 use mir.Val.{Fits}
 use mir.Facts.{fits-le, fits-lit}

@@ -1,13 +1,6 @@
 -- An edge by its three words, from a look-up of its pair in a table that keeps the rules. Assumes nothing.
-use mathlib.Core.Path.{_≡_, refl, sym, ap, _∙_}
-use mathlib.Core.Bool.{Bool, true, false, _&&_, _||_, cond}
+use Rattle.property.proofs.Basics.{_≡_, refl, sym, ap, _∙_, Bool, true, false, _&&_, _||_, cond, List, [], _∷_, ℕ, suc, _-_, _<_, sub-zero, arith, getD, eqb}
 use mathlib.Core.Bool as bool
-use mathlib.Core.List.{List, [], _∷_}
-use Prim.Native.Nat.{ℕ, suc, _-_, _<_}
-use native.Mathlib.Nat.{sub-zero}
-use native.Mathlib.Omega.{arith}
-use lib.ListN.{getD}
-use lib.Dec.{eqb}
 use Rattle.graph.specs.declared.Found.the-variants.{At}
 use Rattle.graph.specs.declared.Found.the-variants as found
 use Rattle.graph.specs.Refusal.{accept}

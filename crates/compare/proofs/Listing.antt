@@ -1,11 +1,5 @@
 -- Edges that precede a pair, and where a pair stands in a table. Assumes nothing.
-use mathlib.Core.Path.{_≡_, refl, ap, _∙_}
-use mathlib.Core.Bool.{Bool, true, false, cond}
-use mathlib.Core.List.{List}
-use Prim.Native.Nat.{ℕ, _+_, _≤_, _<_}
-use native.Mathlib.Decide.{ℕ-discrete}
-use native.Mathlib.Omega.{arith}
-use lib.ListN.{getD}
+use Rattle.property.proofs.Basics.{_≡_, refl, ap, _∙_, Bool, true, false, cond, List, ℕ, _+_, _≤_, _<_, ℕ-discrete, arith, getD}
 use Rattle.graph.specs.Refusal.{accept}
 use Rattle.graph.specs.Edge.{edge, precedes, edges}
 use Rattle.graph.specs.Table.{isEdge, tableOrder, rules}

@@ -1,13 +1,5 @@
 -- Backward rows: the list of changes with tails and heads changed over is that of the reversed edges. Assumes nothing.
-use mathlib.Core.Path.{_≡_, refl, sym, ap, _∙_}
-use mathlib.Core.Bool.{not, _||_}
-use mathlib.Core.List.{List, [], _∷_, map}
-use Prim.Native.Nat.{ℕ, _+_, _*_, _/_, _≤_, _<_}
-use native.Mathlib.Decide.{ℕ-discrete, decLt}
-use native.Mathlib.Omega.{arith}
-use lib.ListN.{length, getD, set, length-set}
-use lib.Seq.{getD-set-same, getD-set-other}
-use lib.Dec.{eqb}
+use Rattle.property.proofs.Basics.{_≡_, refl, sym, ap, _∙_, not, _||_, List, [], _∷_, map, ℕ, _+_, _*_, _/_, _≤_, _<_, ℕ-discrete, decLt, arith, length, getD, set, length-set, getD-set-same, getD-set-other, eqb}
 use Rattle.graph.specs.Arc.{arcHeads, arc, arcHead, arcWeight}
 use Rattle.graph.proofs.Arcs.{head-arc, weight-arc}
 use Rattle.graph.specs.Edge.{Edge, reverse, same, exists, among}

@@ -1,6 +1,5 @@
 -- Tests put together by `&&`, beyond those of the crate graph. Assumes nothing.
-use mathlib.Core.Path.{_≡_, refl}
-use mathlib.Core.Bool.{Bool, true, false, _&&_}
+use Rattle.property.proofs.Basics.{_≡_, refl, Bool, true, false, _&&_}
 
 pub and-off : (a b : Bool) → b ≡ false → (a && b) ≡ false
 and-off true b h = h

@@ -7,17 +7,7 @@
 -- Both tables are sorted by pair. At each step the edge that comes first is gone past: if it comes before the other table's edge at hand, it
 -- stands nowhere in the other table, since all before that one precede it and all from there on come after it. If both are of one pair, both
 -- are gone past, and they differ where their weights do.
-use mathlib.Core.Path.{_≡_, refl, sym, ap, _∙_}
-use mathlib.Core.Logic.{_⊎_, ⊎-elim}
-use mathlib.Core.Bool.{Bool, true, false, not, _&&_, cond, true≢false, false≢true}
-use mathlib.Core.List.{List, List·Memᴰ}
-use Prim.Native.Nat.{ℕ, _+_, _*_, _/_, _≤_, _<_}
-use native.Mathlib.Decide.{ℕ-discrete, decLt}
-use native.Mathlib.Omega.{arith}
-use lib.ListN.{length, getD, set, take, length-set}
-use lib.Seq.{getD-set-same, getD-set-other, length-take-le, getD-take}
-use lib.Dec.{eqb, ltb}
-use borrow.Author.Tests.{ltb-true, ltb-false, lt-ltb, eqb-true, eqb-false, eq-eqb, ne-eqb, not-true, not-false}
+use Rattle.property.proofs.Basics.{_≡_, refl, sym, ap, _∙_, _⊎_, ⊎-elim, Bool, true, false, not, _&&_, cond, true≢false, false≢true, List, List·Memᴰ, ℕ, _+_, _*_, _/_, _≤_, _<_, ℕ-discrete, decLt, arith, length, getD, set, take, length-set, getD-set-same, getD-set-other, length-take-le, getD-take, eqb, ltb, ltb-true, ltb-false, lt-ltb, eqb-true, eqb-false, eq-eqb, ne-eqb, not-true, not-false}
 use Rattle.graph.specs.Limits.{maxVertices, maxEdges, maxWeight}
 use Rattle.graph.specs.Refusal.{accept}
 use Rattle.graph.specs.Arc.{arcHeads, arc, arcHead, arcWeight}

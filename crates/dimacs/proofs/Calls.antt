@@ -1,14 +1,5 @@
 -- The claims of specs/Calls.antt, one theorem each. Assumes nothing.
-use mathlib.Core.Path.{_≡_, refl, sym, ap, subst, _∙_}
-use mathlib.Core.Logic.{_↔_, _⊎_, inl, inr}
-use mathlib.Core.Bool.{Bool, true, false}
-use mathlib.Core.List.{List}
-use Prim.Native.Nat.{ℕ, _≤_, _<_}
-use native.Mathlib.Omega.{arith}
-use lib.Dec.{ltb}
-use lib.ListN.{length, take, drop}
-use lib.Seq.{take-at, drop-at}
-use borrow.Author.Tests.{lt-ltb, le-ltb, ltb-false}
+use Rattle.property.proofs.Basics.{_≡_, refl, sym, ap, subst, _∙_, _↔_, _⊎_, inl, inr, Bool, true, false, List, ℕ, _≤_, _<_, arith, ltb, length, take, drop, take-at, drop-at, lt-ltb, le-ltb, ltb-false}
 use Rattle.graph.specs.Limits.{maxEdges}
 use Rattle.graph.specs.Refusal.{Verdict, accept, refuse, _▷_, refuseIf, accepted, refused, replied, verdictOf, Outcome, choose, over}
 use Rattle.graph.specs.Edge.{Edge}

@@ -1,12 +1,7 @@
 -- Code stops counting a number at a cap c while it goes on eating its digits. No reader can tell: neither what follows the
 -- number nor any limit below the cap. Assumes nothing.
-use mathlib.Core.Path.{_≡_, refl, sym, ap, _∙_}
-use mathlib.Core.Bool.{Bool, true, false, and-false}
-use mathlib.Core.List.{List, [], _∷_}
-use Prim.Native.Nat.{ℕ, _+_, _-_, _*_, _≤_, _<_, min}
-use native.Mathlib.Omega.{arith}
-use lib.Dec.{leb, ltb}
-use borrow.Author.Tests.{ltb-true, leb-true}
+use Rattle.property.proofs.Basics.{_≡_, refl, sym, ap, _∙_, Bool, true, false, List, [], _∷_, ℕ, _+_, _-_, _*_, _≤_, _<_, min, arith, leb, ltb, ltb-true, leb-true}
+use mathlib.Core.Bool.{and-false}
 use Rattle.graph.specs.Limits.{maxVertices, maxEdges, maxWeight}
 use Rattle.graph.specs.Edge.{Edge, edge}
 use Rattle.graph.proofs.Order.{edge-facts}

@@ -1,14 +1,7 @@
 -- How many edges a table of n vertices can hold: n × (n − 1). A table with fewer lacks a pair. Assumes nothing.
-use mathlib.Core.Path.{_≡_, refl, sym, ap, _∙_}
-use mathlib.Core.Logic.{_⊎_, inl, inr}
-use mathlib.Core.Bool.{Bool, true, false, _||_, cond, or-true, true≢false}
-use mathlib.Core.List.{List, [], _∷_, _++_, map}
-use Prim.Native.Nat.{ℕ, zero, suc, _+_, _-_, _*_, _/_, _%_, _≤_, _<_}
-use native.Mathlib.Nat.{mul-le-mul-right, div-add-mod', div-lt-iff-lt-mul, mod-lt}
-use native.Mathlib.Omega.{arith}
-use lib.Dec.{ltb, eqb}
-use lib.ListN.{length, length-append, length-map}
-use borrow.Author.Tests.{lt-ltb, ltb-true, ltb-false, eqb-true, eqb-false, eq-eqb, ne-eqb}
+use Rattle.property.proofs.Basics.{_≡_, refl, sym, ap, _∙_, _⊎_, inl, inr, Bool, true, false, _||_, cond, true≢false, List, [], _∷_, _++_, map, ℕ, zero, suc, _+_, _-_, _*_, _/_, _%_, _≤_, _<_, mul-le-mul-right, div-add-mod', div-lt-iff-lt-mul, arith, ltb, eqb, length, length-append, length-map, lt-ltb, ltb-true, ltb-false, eqb-true, eqb-false, eq-eqb, ne-eqb}
+use mathlib.Core.Bool.{or-true}
+use native.Mathlib.Nat.{mod-lt}
 use Rattle.property.proofs.Tests.{is-false, by-test}
 use Rattle.graph.specs.Edge.{Edge, edge, alike, exists, present}
 use Rattle.graph.specs.Table.{isEdge}

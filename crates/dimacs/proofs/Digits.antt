@@ -1,13 +1,6 @@
 -- Printing and reading numbers: each undoes the other. Assumes nothing.
-use mathlib.Core.Path.{_≡_, refl, ap, _∙_}
-use mathlib.Core.Bool.{Bool, true, false, not}
-use mathlib.Core.List.{List, [], _∷_, _++_, append-assoc}
-use mathlib.Core.Option.{some}
-use Prim.Native.Nat.{ℕ, zero, suc, _+_, _-_, _*_, _/_, _%_, _≤_, _<_}
-use native.Mathlib.Omega.{arith}
-use lib.Dec.{ltb, leb, eqb}
+use Rattle.property.proofs.Basics.{_≡_, refl, ap, _∙_, Bool, true, false, not, List, [], _∷_, _++_, append-assoc, some, ℕ, zero, suc, _+_, _-_, _*_, _/_, _%_, _≤_, _<_, arith, ltb, leb, eqb, lt-ltb, le-ltb, le-leb, ltb-true, ltb-false, leb-true, eqb-true, eqb-false, ne-eqb, not-true}
 use lib.Arith.{digits-div, digits-mod}
-use borrow.Author.Tests.{lt-ltb, le-ltb, le-leb, ltb-true, ltb-false, leb-true, eqb-true, eqb-false, ne-eqb, not-true}
 use Rattle.property.proofs.Tests.{by-test}
 use Rattle.graph.proofs.Tests.{both}
 use Rattle.dimacs.proofs.Options.{none-some, some-same}

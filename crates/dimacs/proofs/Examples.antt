@@ -4,13 +4,9 @@
 -- A table of examples lists a text with what document 01 says of it: what is read, or the line of the refusal. One equation holds for all of its lines.
 --
 --   bytes s   == the bytes of a quoted text; `\n` is the line feed, byte 10
-use mathlib.Core.Path.{_≡_, refl}
-use mathlib.Core.List.{List, [], _∷_, _++_, map}
-use mathlib.Core.Option.{Option, none, some, bind}
-use Prim.Native.Nat.{ℕ}
+use Rattle.property.proofs.Basics.{_≡_, refl, List, [], _∷_, _++_, map, Option, none, some, bind, ℕ, replicate}
 use Prim.Native.Char.{code}
 use Prim.Native.String.{String, [] as empty, _∷_ as _then_}
-use lib.ListN.{replicate}
 use Rattle.graph.specs.Refusal.{accepted, refused, Outcome, _▷_, refuseIf, replied, choose}
 use Rattle.graph.specs.Edge.{edge, exists, zip, edges}
 use Rattle.graph.specs.Table.{Columns}

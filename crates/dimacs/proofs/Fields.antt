@@ -1,13 +1,5 @@
 -- Marks and fields of a line: their bytes, and what is read from them. Assumes nothing.
-use mathlib.Core.Path.{_≡_, refl, ap, _∙_}
-use mathlib.Core.Bool.{Bool, true, false, not}
-use mathlib.Core.List.{List, [], _∷_, _++_}
-use mathlib.Core.Option.{Option, none, some, bind}
-use Prim.Native.Nat.{ℕ, zero, suc, _+_, _/_, _%_}
-use native.Mathlib.Omega.{arith}
-use lib.Dec.{ltb, eqb}
-use lib.ListN.{length}
-use borrow.Author.Tests.{eqb-true, eq-eqb, ne-eqb}
+use Rattle.property.proofs.Basics.{_≡_, refl, ap, _∙_, Bool, true, false, not, List, [], _∷_, _++_, Option, none, some, bind, ℕ, zero, suc, _+_, _/_, _%_, arith, ltb, eqb, length, eqb-true, eq-eqb, ne-eqb}
 use Rattle.property.proofs.Tests.{by-test}
 use Rattle.graph.proofs.Tests.{both}
 use Rattle.dimacs.proofs.Options.{none-some, some-same, bind-some}

@@ -1,9 +1,5 @@
 -- Answers that may be missing. Assumes nothing.
-use mathlib.Core.Path.{_≡_, refl}
-use mathlib.Core.Bool.{Bool, true, false, cond}
-use mathlib.Core.Option.{Option, none, some, bind}
-use Prim.Native.Nat.{ℕ}
-use native.Mathlib.Omega.{arith}
+use Rattle.property.proofs.Basics.{_≡_, refl, Bool, true, false, cond, Option, none, some, bind, ℕ, arith}
 
 pub none-some : {A : Type 0} {x : A} → _≡_ {A = Option A} none (some x) → ⊥
 none-some h = let z : _≡_ {A = ℕ} 0 1 = cc in omega arith

@@ -1,10 +1,5 @@
 -- The place of a refusal, for any notion of a good text. Assumes nothing.
-use mathlib.Core.Path.{_≡_, ap, subst, _∙_}
-use mathlib.Core.List.{List, _++_, append-assoc}
-use Prim.Native.Nat.{ℕ, _-_, _≤_, _<_}
-use native.Mathlib.Decide.{decLt}
-use native.Mathlib.Omega.{arith}
-use lib.ListN.{take, drop}
+use Rattle.property.proofs.Basics.{_≡_, ap, subst, _∙_, List, _++_, append-assoc, ℕ, _-_, _≤_, _<_, decLt, arith, take, drop}
 use Rattle.dimacs.proofs.Split.{joined-take}
 use Rattle.dimacs.specs.Lines.{joined, split, Begins, Place}
 

@@ -1,16 +1,7 @@
 -- Reading at a position of a text: one byte, one number, one line at a time. For code that walks a list of bytes.
 -- Assumes nothing.
-use mathlib.Core.Path.{_≡_, refl, ap, _∙_}
-use mathlib.Core.Bool.{true, false, not}
-use mathlib.Core.List.{List, [], _∷_, _++_}
-use mathlib.Core.Option.{none, some}
-use Prim.Native.Nat.{ℕ, suc, _+_, _-_, _*_, _≤_, _<_}
-use native.Mathlib.Numerals.{add-one}
-use native.Mathlib.Omega.{arith}
-use lib.Dec.{eqb}
-use lib.ListN.{length, getD, take, drop, drop-of-length-le, length-drop}
-use lib.Seq.{drop-cons, take-suc, take-all, split-at, getD-drop, drop-drop}
-use borrow.Author.Tests.{eq-eqb, ne-eqb, not-true}
+use Rattle.property.proofs.Basics.{_≡_, refl, ap, _∙_, true, false, not, List, [], _∷_, _++_, none, some, ℕ, suc, _+_, _-_, _*_, _≤_, _<_, add-one, arith, eqb, length, getD, take, drop, drop-of-length-le, length-drop, drop-cons, take-suc, take-all, getD-drop, drop-drop, eq-eqb, ne-eqb, not-true}
+use lib.Seq.{split-at}
 use Rattle.graph.proofs.Tests.{both}
 use Rattle.dimacs.proofs.Digits.{scan-digit, scan-other}
 use Rattle.dimacs.proofs.Fields.{plain-append}

@@ -10,17 +10,7 @@
 --   left .. x at k s         == the reader with x left from at on, after k lines
 --   steps s ls               == the state after the lines ls
 --   Accepts text             == the reader accepts text
-use mathlib.Core.Path.{_≡_, refl, sym, ap, subst, _∙_}
-use mathlib.Core.Bool.{Bool, true, false, not, false≢true}
-use mathlib.Core.List.{List, [], _∷_, _++_, map}
-use mathlib.Core.Option.{Option, none, some, bind}
-use Prim.Native.Nat.{ℕ, suc, _+_, _-_, _≤_, _<_}
-use native.Mathlib.Numerals.{add-one}
-use native.Mathlib.Omega.{arith}
-use lib.Dec.{eqb}
-use lib.ListN.{length, take, drop, drop-of-length-le}
-use lib.Seq.{drop-cons}
-use borrow.Author.Tests.{eqb-true, not-true}
+use Rattle.property.proofs.Basics.{_≡_, refl, sym, ap, subst, _∙_, Bool, true, false, not, false≢true, List, [], _∷_, _++_, map, Option, none, some, bind, ℕ, suc, _+_, _-_, _≤_, _<_, add-one, arith, eqb, length, take, drop, drop-of-length-le, drop-cons, eqb-true, not-true}
 use Rattle.property.proofs.Tests.{by-test}
 use Rattle.dimacs.proofs.Options.{none-some, some-same, bind-some}
 use Rattle.dimacs.proofs.Split.{Plains, joined-append, split-joined, split-spelled, split-plain, split-lines, plains-append, plains-take}

@@ -1,11 +1,5 @@
 -- The calls on text refused, in the order of their numbers, before the text is looked at or, writing, before it is measured. Assumes nothing.
-use mathlib.Core.Path.{_≡_, refl, _∙_}
-use mathlib.Core.Bool.{Bool, true, false}
-use mathlib.Core.List.{List}
-use Prim.Native.Nat.{ℕ, _<_}
-use lib.Dec.{ltb}
-use lib.ListN.{length}
-use borrow.Author.Tests.{lt-ltb}
+use Rattle.property.proofs.Basics.{_≡_, refl, _∙_, Bool, true, false, List, ℕ, _<_, ltb, length, lt-ltb}
 use Rattle.graph.specs.Refusal.{accept, refuse, _▷_, refuseIf, refused, over}
 use Rattle.graph.specs.Table.{Columns, edgesOf, size, shortTable, table}
 use Rattle.graph.proofs.Verdicts.{accept-then, refuse-then, outcome-refused}

@@ -1,15 +1,6 @@
 -- Source files are an instance of Reading: their items are spelled as lines, no state is a dead end where there is a vertex, and
 -- the items that lead to a complete state are those of a good file. Assumes nothing.
-use mathlib.Core.Path.{_≡_, refl, sym, ap, subst, _∙_}
-use mathlib.Core.Logic.{_⊎_, inl, inr}
-use mathlib.Core.Bool.{Bool, true, _&&_, cond, false≢true}
-use mathlib.Core.List.{List, [], _∷_, _++_, map, append-assoc, append-nil}
-use mathlib.Core.Option.{none, some, bind}
-use Prim.Native.Nat.{ℕ, zero, suc, _+_, _-_, _≤_, _<_}
-use native.Mathlib.Omega.{arith}
-use lib.Dec.{leb, ltb}
-use lib.ListN.{length, length-append}
-use borrow.Author.Tests.{lt-ltb, le-leb, ltb-true, leb-true, eqb-true, eq-eqb}
+use Rattle.property.proofs.Basics.{_≡_, refl, sym, ap, subst, _∙_, _⊎_, inl, inr, Bool, true, _&&_, cond, false≢true, List, [], _∷_, _++_, map, append-assoc, append-nil, none, some, bind, ℕ, zero, suc, _+_, _-_, _≤_, _<_, arith, leb, ltb, length, length-append, lt-ltb, le-leb, ltb-true, leb-true, eqb-true, eq-eqb}
 use Rattle.graph.proofs.Tests.{both, and-true}
 use Rattle.dimacs.proofs.Options.{none-some, some-same, bind-some, cond-some}
 use Rattle.dimacs.proofs.Fields.{plain-fields, marked-fields, either-spells}

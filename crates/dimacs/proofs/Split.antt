@@ -1,13 +1,5 @@
 -- Splitting a text into lines, and joining them: each undoes the other. Assumes nothing.
-use mathlib.Core.Path.{_≡_, refl, sym, ap, _∙_}
-use mathlib.Core.Bool.{Bool, true, false, not}
-use mathlib.Core.List.{List, [], _∷_, _++_, append-assoc, append-nil}
-use Prim.Native.Nat.{ℕ, zero, suc, _+_, _-_, _≤_}
-use native.Mathlib.Omega.{arith}
-use lib.Dec.{eqb}
-use lib.ListN.{take, drop}
-use lib.Seq.{take-add}
-use borrow.Author.Tests.{eqb-true, not-true}
+use Rattle.property.proofs.Basics.{_≡_, refl, sym, ap, _∙_, Bool, true, false, not, List, [], _∷_, _++_, append-assoc, append-nil, ℕ, zero, suc, _+_, _-_, _≤_, arith, eqb, take, drop, take-add, eqb-true, not-true}
 use Rattle.graph.proofs.Tests.{both}
 use Rattle.dimacs.specs.Lines.{joined, before, split, plain}
 

@@ -1,10 +1,5 @@
 -- The claims of specs/Claims.antt, one theorem each. Assumes nothing.
-use mathlib.Core.Path.{_≡_, refl, ap, subst, _∙_}
-use mathlib.Core.List.{List, []}
-use Prim.Native.Nat.{ℕ, _≤_, _<_}
-use native.Mathlib.Omega.{arith}
-use lib.ListN.{length}
-use borrow.Author.Tests.{ne-eqb, le-ltb}
+use Rattle.property.proofs.Basics.{_≡_, refl, ap, subst, _∙_, List, [], ℕ, _≤_, _<_, arith, length, ne-eqb, le-ltb}
 use Rattle.graph.specs.Limits.{maxVertices, maxEdges}
 use Rattle.graph.specs.Refusal.{accept}
 use Rattle.graph.specs.Edge.{Edge, exists, same, among}

@@ -1,13 +1,7 @@
 -- How many bits are set, by the count of ones of each word, and that this says whether any is. Assumes nothing.
-use mathlib.Core.Path.{_≡_, refl, sym, ap, _∙_}
-use mathlib.Core.Bool.{Bool, true, false, not}
-use mathlib.Core.List.{List, [], _∷_, _++_}
-use Prim.Native.Nat.{ℕ, zero, suc, _+_, _*_, _/_, _%_, _^_, _≤_, _<_}
-use native.Mathlib.Nat.{zero-add, suc-add, pow-suc}
-use native.Mathlib.Omega.{arith}
+use Rattle.property.proofs.Basics.{_≡_, refl, sym, ap, _∙_, Bool, true, false, not, List, [], _∷_, _++_, ℕ, zero, suc, _+_, _*_, _/_, _%_, _^_, _≤_, _<_, zero-add, suc-add, pow-suc, arith, eqb, length, getD, drop, drop-of-length-le}
 use lib.Count.{ones, ones-step}
-use lib.Dec.{eqb, eqb·suc-zero}
-use lib.ListN.{length, getD, drop, drop-of-length-le}
+use lib.Dec.{eqb·suc-zero}
 use Rattle.frontier.specs.Waiting.{bitsOf, bitsOfAll, waitingOf, countOf, anyOf}
 use Rattle.frontier.proofs.Words.{bits-all-length, bits-all-word}
 

@@ -1,10 +1,6 @@
 -- Worked examples, computed: four words in which vertices 63, 64 and 255 wait, on both sides of a word's end and at the last bit.
 -- Assumes nothing.
-use mathlib.Core.Path.{_≡_, refl}
-use mathlib.Core.Bool.{true, false}
-use mathlib.Core.List.{List, [], _∷_}
-use Prim.Native.Nat.{ℕ, _^_}
-use lib.ListN.{getD, set, replicate}
+use Rattle.property.proofs.Basics.{_≡_, refl, true, false, List, [], _∷_, ℕ, _^_, getD, set, replicate}
 use Rattle.frontier.specs.Waiting.{bitsOf, bitsOfAll, waitingOf, seek, nextFrom, anyOf, countOf}
 use Rattle.frontier.specs.declared.Next.the-variants.{At, None}
 

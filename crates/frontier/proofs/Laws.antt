@@ -1,12 +1,5 @@
 -- What a caller uses of the answers: laws on any list of Bool, and on the list that any number of words holds. Assumes nothing.
-use mathlib.Core.Path.{_≡_, refl, sym, ap, ap₂, _∙_}
-use mathlib.Core.Bool.{Bool, true, false}
-use mathlib.Core.List.{List, [], _∷_, _++_, append-nil}
-use Prim.Native.Nat.{ℕ, zero, suc, _+_, _-_, _*_, _≤_, _<_}
-use native.Mathlib.Nat.{not-suc-le-zero, le-of-suc-le-suc, suc-mul, zero-mul}
-use native.Mathlib.Omega.{arith}
-use lib.ListN.{length, getD, set, drop, replicate, length-drop, replicate-append-replicate, drop-of-length-le}
-use lib.Seq.{getD-drop}
+use Rattle.property.proofs.Basics.{_≡_, refl, sym, ap, ap₂, _∙_, Bool, true, false, List, [], _∷_, _++_, append-nil, ℕ, zero, suc, _+_, _-_, _*_, _≤_, _<_, not-suc-le-zero, le-of-suc-le-suc, suc-mul, zero-mul, arith, length, getD, set, drop, replicate, length-drop, replicate-append-replicate, drop-of-length-le, getD-drop}
 use Rattle.frontier.specs.Waiting.{bitsOf, bitsOfAll, waitingOf, seek, nextFrom, anyOf, countOf}
 use Rattle.frontier.specs.declared.Next.the-variants.{At, None}
 use Rattle.frontier.proofs.Words.{bits-all-length}

@@ -3,14 +3,10 @@
 -- The bits from bit j of word q on are those of this word from j on, then the later words. With the bits below j masked the word may be looked
 -- at whole: either it is not 0, and its trailing zeros say where its lowest set bit is; or it is 0, and the search goes on at bit 0 of the next
 -- word.
-use mathlib.Core.Path.{_≡_, sym, ap, ap₂, _∙_}
-use mathlib.Core.List.{List, _++_}
-use Prim.Native.Nat.{ℕ, _+_, _-_, _*_, _^_, _≤_, _<_}
-use native.Mathlib.Nat.{pos-of-ne-zero, lt-of-le-of-lt}
-use native.Mathlib.Omega.{arith}
+use Rattle.property.proofs.Basics.{_≡_, sym, ap, ap₂, _∙_, List, _++_, ℕ, _+_, _-_, _*_, _^_, _≤_, _<_, lt-of-le-of-lt, arith, length, getD, drop, drop-of-length-le}
+use native.Mathlib.Nat.{pos-of-ne-zero}
 use lib.Bits.{bitAnd, and-le-l}
 use lib.Count.{trailingZeros}
-use lib.ListN.{length, getD, drop, drop-of-length-le}
 use Rattle.frontier.specs.Waiting.{bitsOf, waitingOf, seek, nextFrom}
 use Rattle.frontier.specs.declared.Next.the-variants.{At, None}
 use Rattle.frontier.proofs.Word.{seek-mask, seek-word, seek-zero}

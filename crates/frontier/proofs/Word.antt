@@ -1,18 +1,12 @@
 -- One word of n bits: what `|`, `&` and the count of trailing zeros have to do with the list of its bits, `bitsOf n w`.
 -- Laws are for any width n, by induction on it. Assumes nothing.
-use mathlib.Core.Path.{_≡_, refl, sym, ap, ap₂, _∙_}
-use mathlib.Core.Bool.{Bool, true, false}
-use mathlib.Core.List.{List, _∷_, _++_}
-use Prim.Native.Nat.{ℕ, zero, suc, _+_, _-_, _*_, _/_, _%_, _^_, _≤_, _<_, min, max}
-use native.Mathlib.Nat.{not-suc-le-zero, le-of-suc-le-suc, le-mul-of-pos-right, add-zero, mul-comm, mul-sub, div-one, pow-suc}
-use native.Mathlib.Numerals.{add-one, one-add}
-use native.Mathlib.Omega.{arith}
+use Rattle.property.proofs.Basics.{_≡_, refl, sym, ap, ap₂, _∙_, Bool, true, false, List, _∷_, _++_, ℕ, zero, suc, _+_, _-_, _*_, _/_, _%_, _^_, _≤_, _<_, min, max, not-suc-le-zero, le-of-suc-le-suc, add-zero, pow-suc, add-one, arith, eqb, length, getD, set, drop}
+use native.Mathlib.Nat.{le-mul-of-pos-right, mul-comm, mul-sub, div-one}
+use native.Mathlib.Numerals.{one-add}
 use lib.Arith.{digits-mod}
-use lib.Dec.{eqb}
 use lib.Pow.{pow-sub-lt, pow-pos, pow-mono, pow-lt, shr-shr, field, mod-mod-pow}
 use lib.Bits.{bitAnd, bitOr, and-step, or-step, and-shr, or-shr, or-zero-r, and-mask}
 use lib.Count.{trailingZeros, under}
-use lib.ListN.{length, getD, set, drop}
 use Rattle.frontier.specs.Waiting.{odd, bitsOf, seek}
 use Rattle.frontier.specs.declared.Next.the-variants.{At}
 

@@ -1,17 +1,10 @@
 -- Words of n bits, one after the other: what is done to a word, said of the list of all bits, `bitsOfAll n ws`. Bit j of word q stands at
 -- q * n + j. Laws are for any width and any number of words. Assumes nothing.
-use mathlib.Core.Path.{_≡_, sym, ap, _∙_}
-use mathlib.Core.Bool.{Bool, true, false}
-use mathlib.Core.List.{List, [], _∷_, _++_}
-use Prim.Native.Nat.{ℕ, zero, suc, _+_, _-_, _*_, _/_, _%_, _^_, _≤_, _<_}
-use native.Mathlib.Nat.{not-suc-le-zero, le-of-suc-le-suc, suc-mul, zero-mul, zero-add, suc-add, div-add-mod', mod-eq-of-lt, one-mul}
-use native.Mathlib.Numerals.{add-one}
-use native.Mathlib.Omega.{arith}
-use lib.Dec.{eqb}
+use Rattle.property.proofs.Basics.{_≡_, sym, ap, _∙_, Bool, true, false, List, [], _∷_, _++_, ℕ, zero, suc, _+_, _-_, _*_, _/_, _%_, _^_, _≤_, _<_, not-suc-le-zero, le-of-suc-le-suc, suc-mul, zero-mul, zero-add, suc-add, div-add-mod', mod-eq-of-lt, add-one, arith, eqb, length, getD, set, drop, length-append, List·getD-append, drop-cons, drop-drop, drop-append-le, drop-append-add, getD-drop}
+use native.Mathlib.Nat.{one-mul}
 use lib.Pow.{pow-lt}
 use lib.Bits.{bitAnd, bitOr, and-mask}
-use lib.ListN.{length, getD, set, drop, length-append, List·getD-append}
-use lib.Seq.{drop-nil, drop-cons, drop-drop, drop-append-le, drop-append-add, set-append-left, getD-drop}
+use lib.Seq.{drop-nil, set-append-left}
 use Rattle.frontier.specs.Waiting.{odd, bitsOf, bitsOfAll, waitingOf}
 use Rattle.frontier.proofs.Word.{bits-length, bits-or, bits-and-not, bits-at}
 

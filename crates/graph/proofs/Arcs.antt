@@ -1,13 +1,6 @@
 -- The head and the weight of an arc; an index as one list, from first edges, heads and weights; and the arcs of the reversed table, placed
 -- one by one. Assumes nothing.
-use mathlib.Core.Path.{_≡_, refl, sym, ap, ap₂, _∙_}
-use mathlib.Core.Logic.{⊎-elim}
-use mathlib.Core.List.{List, [], _∷_, map}
-use Prim.Native.Nat.{ℕ, zero, suc, _+_, _-_, _<_, _≤_}
-use native.Mathlib.Omega.{arith}
-use lib.ListN.{length, getD, set, take, length-set}
-use lib.Seq.{getD-set-same, getD-set-other}
-use native.Mathlib.Decide.{ℕ-discrete}
+use Rattle.property.proofs.Basics.{_≡_, refl, sym, ap, ap₂, _∙_, ⊎-elim, List, [], _∷_, map, ℕ, zero, suc, _+_, _-_, _<_, _≤_, arith, length, getD, set, take, length-set, getD-set-same, getD-set-other, ℕ-discrete}
 use Rattle.graph.specs.Arc.{arcHeads, arcWeights, arc, arcHead, arcWeight}
 use Rattle.graph.specs.Edge.{Edge, edge, leaving, edges, range}
 use Rattle.graph.specs.Code.{Room, Firsts}

@@ -1,12 +1,6 @@
 -- Copies and fills of lists of words: turns of their loops, and what a copy to the front of a list brings. Assumes nothing.
-use mathlib.Core.Path.{_≡_, ap, _∙_}
-use mathlib.Core.List.{List, append-nil}
-use Prim.Native.Nat.{ℕ, _+_, _<_, _≤_}
-use native.Mathlib.Nat.{zero-add}
-use native.Mathlib.Numerals.{add-one}
-use native.Mathlib.Omega.{arith}
-use lib.ListN.{length, set, getD, take, replicate, replicate-append-replicate, drop-of-length-le}
-use lib.Seq.{paste, paste-suc, take-suc-set, take-all, length-take-le}
+use Rattle.property.proofs.Basics.{_≡_, ap, _∙_, List, append-nil, ℕ, _+_, _<_, _≤_, zero-add, add-one, arith, length, set, getD, take, replicate, replicate-append-replicate, drop-of-length-le, paste, take-suc-set, take-all, length-take-le}
+use lib.Seq.{paste-suc}
 use Rattle.graph.specs.Refusal.{over}
 
 -- ---- turns of the loops

@@ -1,13 +1,7 @@
 -- Lists of edges: those that pass a test, whether one does, membership by the three words, reversed lists. Assumes nothing.
-use mathlib.Core.Path.{_≡_, refl, sym, ap, _∙_}
-use mathlib.Core.Logic.{⊎-elim}
-use mathlib.Core.Bool.{Bool, true, false, false≢true}
-use mathlib.Core.List.{List, [], _∷_, _++_, map, List·Memᴰ, List·Memᴰ·head, List·Memᴰ·tail, List·Memᴰ·cases-cons, List·Memᴰ·not-nil}
-use Prim.Native.Nat.{ℕ}
-use lib.Dec.{eqb}
+use Rattle.property.proofs.Basics.{_≡_, refl, sym, ap, _∙_, ⊎-elim, Bool, true, false, false≢true, List, [], _∷_, _++_, map, List·Memᴰ, List·Memᴰ·head, List·Memᴰ·tail, List·Memᴰ·cases-cons, List·Memᴰ·not-nil, ℕ, eqb, eqb-true, eq-eqb}
 use Rattle.property.proofs.Tests.{by-test}
 use Rattle.graph.specs.Edge.{Edge, reverse, same, keepIf, keep, exists, among, leaving}
-use borrow.Author.Tests.{eqb-true, eq-eqb}
 use Rattle.graph.proofs.Tests.{both, and-true, or-right}
 
 -- ---- keep

@@ -2,11 +2,7 @@
 -- shows and which nearby reading it shuts out. Assumes nothing.
 --
 -- A table of examples lists what is asked with what document 01 says; one equation holds for all of its lines.
-use mathlib.Core.Path.{_≡_, refl}
-use mathlib.Core.Bool.{true, false}
-use mathlib.Core.List.{List, [], _∷_, map, List·Memᴰ·head, List·Memᴰ·tail}
-use Prim.Native.Nat.{ℕ, _+_, _/_, _%_}
-use lib.ListN.{replicate}
+use Rattle.property.proofs.Basics.{_≡_, refl, true, false, List, [], _∷_, map, List·Memᴰ·head, List·Memᴰ·tail, ℕ, _+_, _/_, _%_, replicate}
 use Rattle.property.specs.Property.{M, Property, sssp, bfs, sswp, ssnp, ssr}
 use Rattle.graph.specs.Refusal.{Verdict, accept, refuse, _▷_, refuseIf, accepted, refused, replied, choose, outcome, over}
 use Rattle.graph.specs.Edge.{Edge, edge, reverse, keepIf, keep, exists, among, present, leaving, zip, edges, range}

@@ -1,6 +1,5 @@
 -- The flags of `&&` and `||` in code: what is known of one where the arms meet. Assumes nothing.
-use mathlib.Core.Path.{_≡_, refl}
-use mathlib.Core.Bool.{Bool, true, false, _&&_, _||_}
+use Rattle.property.proofs.Basics.{_≡_, refl, Bool, true, false, _&&_, _||_}
 
 module _ (a b : Bool) where
   pub and-taken : a ≡ true → b ≡ (a && b)

@@ -1,13 +1,5 @@
 -- The rules of a table, judged record by record; chains of refusals as the code judges them. Assumes nothing.
-use mathlib.Core.Path.{_≡_, sym, ap, _∙_}
-use mathlib.Core.Bool.{Bool, true, false}
-use mathlib.Core.List.{List}
-use Prim.Native.Nat.{ℕ, _+_, _-_, _<_, _≤_}
-use native.Mathlib.Numerals.{add-one}
-use native.Mathlib.Omega.{arith}
-use lib.ListN.{length, drop}
-use lib.Dec.{eqb, ltb}
-use borrow.Author.Tests.{ltb-false, eqb-false, lt-ltb, le-ltb}
+use Rattle.property.proofs.Basics.{_≡_, sym, ap, _∙_, Bool, true, false, List, ℕ, _+_, _-_, _<_, _≤_, add-one, arith, length, drop, eqb, ltb, ltb-false, eqb-false, lt-ltb, le-ltb}
 use Rattle.graph.specs.declared.Judged.{Judged}
 use Rattle.graph.specs.declared.Judged.the-variants.{Fine, Refused}
 use Rattle.graph.specs.Limits.{maxVertices, maxEdges}

@@ -1,13 +1,6 @@
 -- A table's order keeps the laws of an order, so that Sorted, Seek and Gather hold of it; and what the table's rules say of each edge.
 -- Assumes nothing.
-use mathlib.Core.Path.{_≡_, refl, sym, _∙_}
-use mathlib.Core.Logic.{_⊎_, inl, inr, ⊎-elim}
-use mathlib.Core.Bool.{true, false, not, true≢false}
-use mathlib.Core.List.{List, [], _∷_, List·Memᴰ, List·Memᴰ·cases-cons, List·Memᴰ·not-nil}
-use Prim.Native.Nat.{ℕ, _≤_, _<_}
-use native.Mathlib.Omega.{arith}
-use lib.Dec.{ltb, eqb}
-use borrow.Author.Tests.{ltb-true, ltb-false, leb-true, eqb-true, eqb-false, not-true, eq-eqb}
+use Rattle.property.proofs.Basics.{_≡_, refl, sym, _∙_, _⊎_, inl, inr, ⊎-elim, true, false, not, true≢false, List, [], _∷_, List·Memᴰ, List·Memᴰ·cases-cons, List·Memᴰ·not-nil, ℕ, _≤_, _<_, arith, ltb, eqb, ltb-true, ltb-false, leb-true, eqb-true, eqb-false, not-true, eq-eqb}
 use Rattle.property.proofs.Tests.{is-true, is-false, by-test}
 use Rattle.graph.specs.Limits.{maxWeight}
 use Rattle.graph.specs.Refusal.{accept}

@@ -4,18 +4,9 @@
 -- In a table that keeps the rules tails never fall. So the edges of tail u stand together: after as many as have a tail below u,
 -- and as many as have the tail u. An index says just these two numbers. The reversed table is made of the edges into 0, into 1, ..,
 -- so there the same numbers are those of the heads.
-use mathlib.Core.Path.{_≡_, refl, sym, ap, _∙_}
-use mathlib.Core.Logic.{⊎-elim}
-use mathlib.Core.Bool.{Bool, true, false, cond}
-use mathlib.Core.List.{List, [], _∷_, map, List·Memᴰ, List·Memᴰ·not-nil, List·Memᴰ·append-cases}
-use Prim.Native.Nat.{ℕ, zero, suc, _+_, _-_, _<_, _≤_}
-use native.Mathlib.Numerals.{add-one}
-use native.Mathlib.Omega.{arith}
-use native.Mathlib.Decide.{decLt}
-use lib.ListN.{length, getD, take, drop, length-drop}
-use lib.Dec.{eqb, ltb}
-use lib.Seq.{length-take-le, getD-take, getD-drop, drop-drop, drop-append-seam, take-append-seam}
-use borrow.Author.Tests.{ltb-true, ltb-false, eqb-true, eqb-false, le-ltb, ne-eqb}
+use Rattle.property.proofs.Basics.{_≡_, refl, sym, ap, _∙_, ⊎-elim, Bool, true, false, cond, List, [], _∷_, map, List·Memᴰ, List·Memᴰ·not-nil, ℕ, zero, suc, _+_, _-_, _<_, _≤_, add-one, arith, decLt, length, getD, take, drop, length-drop, eqb, ltb, length-take-le, getD-take, getD-drop, drop-drop, take-append-seam, ltb-true, ltb-false, eqb-true, eqb-false, le-ltb, ne-eqb}
+use mathlib.Core.List.{List·Memᴰ·append-cases}
+use lib.Seq.{drop-append-seam}
 use Rattle.graph.specs.Limits.{maxVertices, maxEdges, maxWeight}
 use Rattle.graph.specs.Refusal.{accept}
 use Rattle.graph.specs.Edge.{Edge, edge, reverse, keepIf, keep, leaving, edges}

@@ -1,12 +1,6 @@
 -- The edges below a count of three lists: their number, each of them, what is left from an index on, one more, one less.
 -- Assumes nothing.
-use mathlib.Core.Path.{_≡_, refl, ap, _∙_}
-use mathlib.Core.List.{List, [], _∷_, _++_, map, List·Memᴰ}
-use Prim.Native.Nat.{ℕ, zero, suc, _+_, _-_, _<_, _≤_}
-use native.Mathlib.Numerals.{add-one}
-use native.Mathlib.Omega.{arith}
-use lib.ListN.{length, getD, set, take, drop, drop-of-length-le}
-use lib.Seq.{length-take-le, drop-cons, getD-take, take-set-lt}
+use Rattle.property.proofs.Basics.{_≡_, refl, ap, _∙_, List, [], _∷_, _++_, map, List·Memᴰ, ℕ, zero, suc, _+_, _-_, _<_, _≤_, add-one, arith, length, getD, set, take, drop, drop-of-length-le, length-take-le, drop-cons, getD-take, take-set-lt}
 use Rattle.graph.specs.Edge.{Edge, edge, zip, edges}
 use Rattle.graph.specs.Code.{Room, edgeAt, insertAt, deleteAt}
 use Rattle.graph.proofs.Lists.{getD-mem}

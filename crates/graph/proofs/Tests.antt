@@ -1,7 +1,5 @@
 -- Conjunctions and disjunctions of tests, as facts. (`borrow.Author.Tests` has those on numbers and on `not`.) Assumes nothing.
-use mathlib.Core.Path.{_≡_, refl, sym}
-use mathlib.Core.Logic.{_↔_}
-use mathlib.Core.Bool.{Bool, true, false, _&&_, _||_, true≢false, false≢true}
+use Rattle.property.proofs.Basics.{_≡_, refl, sym, _↔_, Bool, true, false, _&&_, _||_, true≢false, false≢true}
 
 pub both : (a b : Bool) → (a && b) ≡ true → (a ≡ true) × (b ≡ true)
 both true b e = (refl, e)

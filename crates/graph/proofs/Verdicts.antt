@@ -1,7 +1,5 @@
 -- Laws of verdicts, replies and outcomes. Assumes nothing.
-use mathlib.Core.Path.{_≡_, refl, ap}
-use mathlib.Core.Bool.{Bool, true, false, false≢true}
-use Prim.Native.Nat.{ℕ}
+use Rattle.property.proofs.Basics.{_≡_, refl, ap, Bool, true, false, false≢true, ℕ}
 use Rattle.graph.specs.Refusal.{Verdict, accept, refuse, _▷_, refuseIf, accepted, refused, replied, verdictOf, choose, outcome}
 
 isAccept : Verdict → Bool

@@ -1,15 +1,5 @@
 -- Row look-up: where a landmark stands in the list, where its row lies, and what is shown. Assumes nothing.
-use mathlib.Core.Path.{_≡_, sym, ap, _∙_}
-use mathlib.Core.Bool.{Bool, true, false, not, _||_, cond, false≢true}
-use mathlib.Core.List.{List, [], _∷_}
-use Prim.Native.Nat.{ℕ, suc, _+_, _*_, _-_, _<_, _≤_}
-use native.Mathlib.Nat.{add-zero}
-use native.Mathlib.Numerals.{add-one}
-use native.Mathlib.Omega.{arith}
-use lib.ListN.{length, getD, take, drop, drop-of-length-le}
-use lib.Seq.{drop-cons}
-use lib.Dec.{eqb, ltb, leb}
-use borrow.Author.Tests.{eq-eqb, ne-eqb, ltb-true, ltb-false, leb-true, not-false}
+use Rattle.property.proofs.Basics.{_≡_, sym, ap, _∙_, Bool, true, false, not, _||_, cond, false≢true, List, [], _∷_, ℕ, suc, _+_, _*_, _-_, _<_, _≤_, add-zero, add-one, arith, length, getD, take, drop, drop-of-length-le, drop-cons, eqb, ltb, leb, eq-eqb, ne-eqb, ltb-true, ltb-false, leb-true, not-false}
 use Rattle.property.specs.Property.{isProperty}
 use Rattle.graph.specs.declared.Judged.{Judged}
 use Rattle.graph.specs.declared.Judged.the-variants.{Fine, Refused}

@@ -1,12 +1,5 @@
 -- The values that are printed are best values. Assumes nothing.
-use mathlib.Core.Path.{_≡_, refl, ap, subst, _∙_}
-use mathlib.Core.Bool.{true, false, not}
-use mathlib.Core.List.{List, []}
-use Prim.Native.Nat.{ℕ, _≤_, _<_}
-use native.Mathlib.Omega.{arith}
-use lib.ListN.{length, replicate, length-replicate}
-use lib.Dec.{ltb}
-use borrow.Author.Tests.{lt-ltb, le-ltb}
+use Rattle.property.proofs.Basics.{_≡_, refl, ap, subst, _∙_, true, false, not, List, [], ℕ, _≤_, _<_, arith, length, replicate, length-replicate, ltb, lt-ltb, le-ltb}
 use Rattle.property.specs.Property.{property, isProperty}
 use Rattle.graph.specs.Limits.{maxLandmarks}
 use Rattle.graph.specs.Refusal.{accept, _▷_, refuseIf, verdictOf}

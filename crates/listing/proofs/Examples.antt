@@ -2,12 +2,8 @@
 -- reading it shuts out. Assumes nothing.
 --
 -- The table lists deck.gr, deck.ss and the whole output; one equation holds for all of its lines. `\n` is the line feed.
-use mathlib.Core.Path.{_≡_, refl}
-use mathlib.Core.List.{List, [], _∷_, _++_, map}
-use mathlib.Core.Option.{bind}
-use Prim.Native.Nat.{ℕ}
+use Rattle.property.proofs.Basics.{_≡_, refl, List, [], _∷_, _++_, map, bind, ℕ, replicate}
 use Prim.Native.String.{String}
-use lib.ListN.{replicate}
 use Rattle.property.specs.Property.{property}
 use Rattle.frontier.specs.Waiting.{anyOf}
 use Rattle.graph.specs.Refusal.{_▷_, refuseIf, replied, choose}

@@ -1,11 +1,5 @@
 -- The network that is opened by the code is the one of the definition. Assumes nothing.
-use mathlib.Core.Path.{_≡_, refl, sym, ap, ap₂, _∙_}
-use mathlib.Core.List.{List, [], _++_, map}
-use Prim.Native.Nat.{ℕ, _-_, _*_, _≤_}
-use native.Mathlib.Omega.{arith}
-use lib.ListN.{length, take, drop, replicate, length-append, length-take, length-map, length-replicate}
-use lib.Seq.{take-at, take-append-seam}
-use borrow.Author.Tests.{le-ltb}
+use Rattle.property.proofs.Basics.{_≡_, refl, sym, ap, ap₂, _∙_, List, [], _++_, map, ℕ, _-_, _*_, _≤_, arith, length, take, drop, replicate, length-append, length-take, length-map, length-replicate, take-at, take-append-seam, le-ltb}
 use Rattle.property.specs.Property.{properties}
 use Rattle.graph.specs.Refusal.{Verdict, accept, refuse, refuseIf, Outcome, choose, over}
 use Rattle.graph.specs.Limits.{maxVertices, maxEdges, maxLandmarks}

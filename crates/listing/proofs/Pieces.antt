@@ -1,12 +1,5 @@
 -- The pieces of the output: each of them as the code makes it, and all of them as the whole. Assumes nothing.
-use mathlib.Core.Path.{_≡_, refl, sym, ap, _∙_}
-use mathlib.Core.List.{List, [], _∷_, _++_, map, append-nil}
-use Prim.Native.Nat.{ℕ, suc, _+_, _*_, _≤_, _<_}
-use native.Mathlib.Numerals.{add-one}
-use native.Mathlib.Decide.{decLt}
-use native.Mathlib.Omega.{arith}
-use lib.ListN.{length, getD, take, length-map, List·getD-map}
-use lib.Seq.{length-take-le, getD-take, take-all}
+use Rattle.property.proofs.Basics.{_≡_, refl, sym, ap, _∙_, List, [], _∷_, _++_, map, append-nil, ℕ, suc, _+_, _*_, _≤_, _<_, add-one, decLt, arith, length, getD, take, length-map, List·getD-map, length-take-le, getD-take, take-all}
 use Rattle.property.specs.Property.{properties}
 use Rattle.graph.specs.declared.Judged.the-variants.{Fine, Refused}
 use Rattle.graph.specs.Refusal.{Verdict, accept, refuse, _▷_}

@@ -1,11 +1,5 @@
 -- Two files as they are read: the verdict of each, and what it leaves in the lists. Assumes nothing.
-use mathlib.Core.Path.{_≡_, refl, sym, ap, subst, _∙_}
-use mathlib.Core.List.{List}
-use Prim.Native.Nat.{ℕ, _≤_, _<_}
-use native.Mathlib.Omega.{arith}
-use lib.ListN.{length, drop, replicate, length-append}
-use lib.Seq.{take-at}
-use borrow.Author.Tests.{lt-ltb, le-ltb}
+use Rattle.property.proofs.Basics.{_≡_, refl, sym, ap, subst, _∙_, List, ℕ, _≤_, _<_, arith, length, drop, replicate, length-append, take-at, lt-ltb, le-ltb}
 use Rattle.graph.specs.declared.Judged.the-variants.{Fine, Refused}
 use Rattle.graph.specs.Refusal.{Verdict, accept, refuse, _▷_, refuseIf, Reply, accepted, refused, Outcome, replied, choose, over}
 use Rattle.graph.specs.Limits.{maxEdges}

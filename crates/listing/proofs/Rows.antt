@@ -1,10 +1,5 @@
 -- The lines of a source by its five rows of settled words. Assumes nothing.
-use mathlib.Core.Path.{_≡_, refl, sym, ap, ap₂, _∙_}
-use mathlib.Core.List.{List, [], _∷_, _++_}
-use Prim.Native.Nat.{ℕ, zero, suc, _+_, _-_, _*_, _^_, _≤_, _<_}
-use native.Mathlib.Numerals.{add-one}
-use native.Mathlib.Omega.{arith}
-use lib.ListN.{length, getD, replicate, length-append}
+use Rattle.property.proofs.Basics.{_≡_, refl, sym, ap, ap₂, _∙_, List, [], _∷_, _++_, ℕ, zero, suc, _+_, _-_, _*_, _^_, _≤_, _<_, add-one, arith, length, getD, replicate, length-append}
 use Rattle.property.specs.Property.{property}
 use Rattle.graph.specs.Edge.{range}
 use Rattle.graph.specs.Limits.{maxVertices}

@@ -1,12 +1,5 @@
 -- The vertices of a landmark choice are landmarks: number 3 never comes for them. Assumes nothing.
-use mathlib.Core.Path.{_≡_, refl, sym, ap, _∙_}
-use mathlib.Core.Bool.{true, false, not, _||_}
-use mathlib.Core.List.{List, [], _∷_}
-use Prim.Native.Nat.{ℕ, zero, suc, _+_, _<_, _≤_}
-use native.Mathlib.Omega.{arith}
-use lib.ListN.{length, take, length-take}
-use lib.Dec.{ltb, eqb}
-use borrow.Author.Tests.{eqb-false, not-true, lt-ltb, le-ltb, ne-eqb}
+use Rattle.property.proofs.Basics.{_≡_, refl, sym, ap, _∙_, true, false, not, _||_, List, [], _∷_, ℕ, zero, suc, _+_, _<_, _≤_, arith, length, take, length-take, ltb, eqb, eqb-false, not-true, lt-ltb, le-ltb, ne-eqb}
 use Rattle.property.proofs.Tests.{by-test}
 use Rattle.graph.specs.Limits.{maxLandmarks}
 use Rattle.graph.specs.Refusal.{accept}

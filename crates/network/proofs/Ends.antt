@@ -1,8 +1,5 @@
 -- The runs of each call come to rest within n rounds, whatever words of 32 bits they start from. Assumes nothing.
-use mathlib.Core.Path.{_≡_}
-use mathlib.Core.Bool.{false}
-use mathlib.Core.List.{List, List·Memᴰ}
-use Prim.Native.Nat.{ℕ, suc, _%_, _≤_}
+use Rattle.property.proofs.Basics.{_≡_, false, List, List·Memᴰ, ℕ, suc, _%_, _≤_}
 use Rattle.property.specs.Property.{M, properties}
 use Rattle.property.proofs.Instances.{property-laws, property-joins}
 use Rattle.frontier.specs.Waiting.{anyOf}

@@ -1,10 +1,5 @@
 -- A network of an edge table and landmarks: its opening is accepted, and so is every good query on it, with best values. Assumes nothing.
-use mathlib.Core.Path.{_≡_, refl, _∙_}
-use mathlib.Core.List.{List, []}
-use Prim.Native.Nat.{ℕ, _*_, _<_, _≤_}
-use native.Mathlib.Omega.{arith}
-use lib.ListN.{length, replicate, length-replicate}
-use borrow.Author.Tests.{le-ltb}
+use Rattle.property.proofs.Basics.{_≡_, refl, _∙_, List, [], ℕ, _*_, _<_, _≤_, arith, length, replicate, length-replicate, le-ltb}
 use Rattle.property.specs.Property.{property}
 use Rattle.graph.specs.Limits.{maxEdges}
 use Rattle.graph.specs.Refusal.{accept, Reply, accepted, refused, verdictOf}

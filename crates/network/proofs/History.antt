@@ -1,7 +1,5 @@
 -- The claim over histories, proved. Assumes nothing.
-use mathlib.Core.Path.{refl, sym, subst, _∙_}
-use mathlib.Core.List.{List, [], append-nil}
-use Prim.Native.Nat.{ℕ, suc, _%_}
+use Rattle.property.proofs.Basics.{refl, sym, subst, _∙_, List, [], append-nil, ℕ, suc, _%_}
 use Rattle.property.specs.Property.{properties}
 use Rattle.property.proofs.Instances.{property-joins}
 use Rattle.theory.proofs.Reverse.{reversed-best}

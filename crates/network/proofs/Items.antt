@@ -1,13 +1,6 @@
 -- The table through a batch: accepted changes keep its rules and the limit of 2,048 edges, and what a batch writes into its lists is read
 -- back as the new edges. Assumes nothing.
-use mathlib.Core.Path.{_≡_, ap, _∙_}
-use mathlib.Core.Bool.{Bool, true, false, not, _&&_, _||_, cond}
-use mathlib.Core.List.{List, [], _∷_, map, append-assoc}
-use Prim.Native.Nat.{ℕ, suc, _-_, _≤_, _<_}
-use native.Mathlib.Omega.{arith}
-use lib.ListN.{length, drop, replicate, length-append, length-drop, length-map, length-replicate}
-use lib.Dec.{ltb, eqb}
-use borrow.Author.Tests.{ltb-true, le-ltb, not-false}
+use Rattle.property.proofs.Basics.{_≡_, ap, _∙_, Bool, true, false, not, _&&_, _||_, cond, List, [], _∷_, map, append-assoc, ℕ, suc, _-_, _≤_, _<_, arith, length, drop, replicate, length-append, length-drop, length-map, length-replicate, ltb, eqb, ltb-true, le-ltb, not-false}
 use Rattle.graph.specs.Limits.{maxEdges}
 use Rattle.graph.specs.Refusal.{accept, refuseIf, over}
 use Rattle.graph.specs.Edge.{Edge, present}

@@ -2,12 +2,7 @@
 --
 --   Good n ls w      == the invariant: no call refuses w for its size, lists, landmarks or table, and its rows hold best words
 --   Step n ls w b    == what the batch b does to w: the invariant stays, the edges are those after b, and what demand 3 says of it
-use mathlib.Core.Path.{_≡_, refl, sym, ap, _∙_, subst}
-use mathlib.Core.Bool.{_||_, false}
-use mathlib.Core.List.{List, [], _∷_, map}
-use Prim.Native.Nat.{ℕ, suc, _%_, _≤_}
-use native.Mathlib.Omega.{arith}
-use lib.ListN.{length}
+use Rattle.property.proofs.Basics.{_≡_, refl, sym, ap, _∙_, subst, _||_, false, List, [], _∷_, map, ℕ, suc, _%_, _≤_, arith, length}
 use Rattle.property.specs.Property.{properties}
 use Rattle.property.proofs.Instances.{property-laws}
 use Rattle.graph.specs.Limits.{maxEdges}

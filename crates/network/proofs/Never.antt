@@ -4,12 +4,7 @@
 --   openNumber k          == k is 1 to 4
 --   batchNumber k         == k is 1, or 6 to 12
 --   queryNumber k         == k is 1, 2, 5 or 6
-use mathlib.Core.Path.{_≡_, refl, sym, _∙_}
-use mathlib.Core.Bool.{Bool, true, false, _&&_, _||_, true≢false}
-use mathlib.Core.List.{List, [], _∷_, map}
-use Prim.Native.Nat.{ℕ, suc}
-use lib.ListN.{length}
-use lib.Dec.{leb, eqb}
+use Rattle.property.proofs.Basics.{_≡_, refl, sym, _∙_, Bool, true, false, _&&_, _||_, true≢false, List, [], _∷_, map, ℕ, suc, length, leb, eqb}
 use Rattle.frontier.specs.Waiting.{anyOf}
 use Rattle.graph.specs.Refusal.{Verdict, accept, refuse, _▷_, refuseIf, Reply, verdictOf}
 use Rattle.graph.specs.Edge.{Edge, reverse}

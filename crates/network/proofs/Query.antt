@@ -1,16 +1,8 @@
 -- An accepted query on a network that keeps the invariant: its start words are the triangle bounds, it takes at most n rounds, and its
 -- settled words are settled and best. Assumes nothing.
-use mathlib.Core.Path.{_≡_, refl, sym, ap, _∙_, subst}
-use mathlib.Core.Logic.{_⊎_, inl, inr, _≢_}
-use mathlib.Core.Bool.{not, true, false}
-use mathlib.Core.List.{List, map, List·Memᴰ, Memᴰ·map, Memᴰ·of-map}
-use Prim.Native.Nat.{ℕ, suc, _-_, _/_, _%_, _≤_, _<_}
-use native.Mathlib.Nat.{mul-add-div-right, mul-add-mod-self-right, mod-eq-of-lt, div-eq-of-lt}
-use native.Mathlib.Omega.{arith}
-use lib.ListN.{length, getD, take, drop, set, replicate, List·getD-append}
-use lib.Seq.{take-at}
-use lib.Dec.{ltb, leb, eqb}
-use borrow.Author.Tests.{ltb-true, leb-true, eqb-false, not-false}
+use Rattle.property.proofs.Basics.{_≡_, refl, sym, ap, _∙_, subst, _⊎_, inl, inr, _≢_, not, true, false, List, map, List·Memᴰ, ℕ, suc, _-_, _/_, _%_, _≤_, _<_, mod-eq-of-lt, arith, length, getD, take, drop, set, replicate, List·getD-append, take-at, ltb, leb, eqb, ltb-true, leb-true, eqb-false, not-false}
+use mathlib.Core.List.{Memᴰ·map, Memᴰ·of-map}
+use native.Mathlib.Nat.{mul-add-div-right, mul-add-mod-self-right, div-eq-of-lt}
 use Rattle.property.specs.Property.{Property, property, properties, isProperty}
 use Rattle.property.specs.Laws.{Laws, Joins}
 use Rattle.property.proofs.Instances.{property-laws, property-joins}

@@ -1,15 +1,6 @@
 -- What a batch reports as affected is how many vertices the closure names, and what it reports as stores is what its runs store, row by row.
 -- Assumes nothing.
-use mathlib.Core.Path.{_≡_, refl, sym, ap, _∙_, subst}
-use mathlib.Core.Logic.{_↔_, _⊎_, inl, inr}
-use mathlib.Core.Bool.{Bool, true, false, not, _&&_, _||_, cond, true≢false, false≢true}
-use mathlib.Core.List.{List, [], _∷_, map, List·Memᴰ}
-use Prim.Native.Nat.{ℕ, suc, _+_, _<_}
-use native.Mathlib.Nat.{add-zero, zero-add}
-use native.Mathlib.Omega.{arith}
-use lib.ListN.{length, getD}
-use lib.Dec.{eqb}
-use borrow.Author.Tests.{eqb-true, eq-eqb, not-true}
+use Rattle.property.proofs.Basics.{_≡_, refl, sym, ap, _∙_, subst, _↔_, _⊎_, inl, inr, Bool, true, false, not, _&&_, _||_, cond, true≢false, false≢true, List, [], _∷_, map, List·Memᴰ, ℕ, suc, _+_, _<_, add-zero, zero-add, arith, length, getD, eqb, eqb-true, eq-eqb, not-true}
 use Rattle.property.specs.Property.{Property}
 use Rattle.frontier.specs.Waiting.{anyOf, countOf}
 use Rattle.graph.specs.Edge.{Edge, exists, among, range}

@@ -1,10 +1,5 @@
 -- The no-route word stands exactly where there is no route: the claim, proved. Assumes nothing.
-use mathlib.Core.Path.{_≡_, subst, _∙_}
-use mathlib.Core.List.{List}
-use Prim.Native.Nat.{ℕ, suc, _%_, _≤_, _<_}
-use lib.ListN.{length}
-use lib.Dec.{ltb, eqb}
-use borrow.Author.Tests.{ltb-false}
+use Rattle.property.proofs.Basics.{_≡_, subst, _∙_, List, ℕ, suc, _%_, _≤_, _<_, length, ltb, eqb, ltb-false}
 use Rattle.property.specs.Property.{properties}
 use Rattle.frontier.specs.Waiting.{anyOf}
 use Rattle.graph.specs.Limits.{maxVertices}

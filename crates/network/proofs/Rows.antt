@@ -2,16 +2,7 @@
 -- a batch write. Assumes nothing.
 --
 --   RowsBest n ls es xs   == each word of the rows in xs is the best value, on the edges es, from the row's landmark
-use mathlib.Core.Path.{_≡_, refl, sym, ap, _∙_}
-use mathlib.Core.Bool.{not, false, true}
-use mathlib.Core.List.{List, [], _∷_, _++_, map, append-assoc, List·Memᴰ, List·Memᴰ·head, List·Memᴰ·tail}
-use Prim.Native.Nat.{ℕ, zero, suc, _+_, _*_, _/_, _%_, _≤_, _<_}
-use native.Mathlib.Nat.{zero-mul, suc-mul, div-lt-iff-lt-mul}
-use native.Mathlib.Omega.{arith}
-use lib.ListN.{length, getD, drop, replicate, length-append, length-set, length-replicate}
-use lib.Seq.{take-at, drop-append-add}
-use lib.Dec.{ltb, eqb}
-use borrow.Author.Tests.{ltb-true, ltb-false, not-false}
+use Rattle.property.proofs.Basics.{_≡_, refl, sym, ap, _∙_, not, false, true, List, [], _∷_, _++_, map, append-assoc, List·Memᴰ, List·Memᴰ·head, List·Memᴰ·tail, ℕ, zero, suc, _+_, _*_, _/_, _%_, _≤_, _<_, zero-mul, suc-mul, div-lt-iff-lt-mul, arith, length, getD, drop, replicate, length-append, length-set, length-replicate, take-at, drop-append-add, ltb, eqb, ltb-true, ltb-false, not-false}
 use Rattle.property.specs.Property.{properties}
 use Rattle.property.specs.Laws.{Laws}
 use Rattle.property.proofs.Instances.{property-laws}

@@ -1,9 +1,5 @@
 -- The claims of specs/Steady.antt on what an accepted call leaves past what it writes. Assumes nothing.
-use mathlib.Core.Path.{_≡_, sym, ap, _∙_, subst}
-use mathlib.Core.List.{List, map, _++_, append-assoc}
-use Prim.Native.Nat.{ℕ, _-_, _*_, _≤_}
-use lib.ListN.{length, take, drop, replicate, length-map, length-replicate}
-use lib.Seq.{take-at, drop-at}
+use Rattle.property.proofs.Basics.{_≡_, sym, ap, _∙_, subst, List, map, _++_, append-assoc, ℕ, _-_, _*_, _≤_, length, take, drop, replicate, length-map, length-replicate, take-at, drop-at}
 use Rattle.graph.specs.Limits.{maxEdges}
 use Rattle.graph.specs.Refusal.{over}
 use Rattle.graph.specs.Edge.{Edge, reverse}

@@ -1,14 +1,5 @@
 -- The claims of specs/Steady.antt. Assumes nothing.
-use mathlib.Core.Path.{_≡_, refl, sym, ap, _∙_}
-use mathlib.Core.Bool.{Bool, true, false, not, _&&_, _||_, cond, true≢false, false≢true}
-use mathlib.Core.List.{List, [], _∷_, _++_, map, List·Memᴰ, List·Memᴰ·head, List·Memᴰ·tail}
-use Prim.Native.Nat.{ℕ, zero, suc, _+_, _*_, _%_, _≤_, _<_}
-use native.Mathlib.Nat.{zero-mul, suc-mul, mul-le-mul-right}
-use native.Mathlib.Omega.{arith}
-use lib.ListN.{length, getD, take, drop, length-drop, take-append-drop}
-use lib.Seq.{length-take-le, take-add, drop-drop, ext-getD}
-use lib.Dec.{ltb, eqb}
-use borrow.Author.Tests.{eq-eqb, ltb-false}
+use Rattle.property.proofs.Basics.{_≡_, refl, sym, ap, _∙_, Bool, true, false, not, _&&_, _||_, cond, true≢false, false≢true, List, [], _∷_, _++_, map, List·Memᴰ, List·Memᴰ·head, List·Memᴰ·tail, ℕ, zero, suc, _+_, _*_, _%_, _≤_, _<_, zero-mul, suc-mul, mul-le-mul-right, arith, length, getD, take, drop, length-drop, take-append-drop, length-take-le, take-add, drop-drop, ext-getD, ltb, eqb, eq-eqb, ltb-false}
 use Rattle.property.specs.Property.{Property, properties}
 use Rattle.property.proofs.Tests.{is-false}
 use Rattle.property.proofs.Instances.{property-laws}

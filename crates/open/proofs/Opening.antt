@@ -1,10 +1,5 @@
 -- The run of a row as its functions leave it, what an accepted network tells an opening, and the opening's outcome. Assumes nothing.
-use mathlib.Core.Path.{_≡_, sym, ap, ap₂, _∙_}
-use mathlib.Core.Bool.{Bool, true, false, _||_}
-use mathlib.Core.List.{List, map}
-use Prim.Native.Nat.{ℕ, suc, _*_, _/_, _%_, _≤_}
-use lib.ListN.{length, getD}
-use lib.Seq.{paste}
+use Rattle.property.proofs.Basics.{_≡_, sym, ap, ap₂, _∙_, Bool, true, false, _||_, List, map, ℕ, suc, _*_, _/_, _%_, _≤_, length, getD, paste}
 use Rattle.property.specs.Property.{property, properties}
 use Rattle.frontier.specs.Waiting.{waitingOf, anyOf}
 use Rattle.graph.specs.declared.Judged.{Judged}

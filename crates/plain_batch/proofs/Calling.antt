@@ -1,11 +1,5 @@
 -- A batch as a call: numbers 1 to 4, then its changes, then number 13, and what is lent. Assumes nothing.
-use mathlib.Core.Path.{_≡_, refl, sym, ap, _∙_}
-use mathlib.Core.List.{List, [], _∷_}
-use Prim.Native.Nat.{ℕ, zero, suc, _+_, _≤_, _<_, min}
-use native.Mathlib.Omega.{arith}
-use lib.ListN.{length, take, drop}
-use lib.Seq.{paste, take-at, length-take-le}
-use borrow.Author.Tests.{lt-ltb, le-ltb}
+use Rattle.property.proofs.Basics.{_≡_, refl, sym, ap, _∙_, List, [], _∷_, ℕ, zero, suc, _+_, _≤_, _<_, min, arith, length, take, drop, paste, take-at, length-take-le, lt-ltb, le-ltb}
 use Rattle.graph.specs.Limits.{maxBatch}
 use Rattle.graph.specs.Refusal.{Verdict, accept, refuse, _▷_, refuseIf, replied, choose}
 use Rattle.graph.specs.Edge.{Edge, edges}

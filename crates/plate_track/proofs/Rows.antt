@@ -1,7 +1,5 @@
 -- A row look-up as number and words. Assumes nothing.
-use mathlib.Core.Path.{_≡_, sym, ap, _∙_}
-use mathlib.Core.List.{List}
-use Prim.Native.Nat.{ℕ, _*_}
+use Rattle.property.proofs.Basics.{_≡_, sym, ap, _∙_, List, ℕ, _*_}
 use Rattle.graph.specs.declared.Judged.{Judged}
 use Rattle.graph.specs.declared.Judged.the-variants.{Fine, Refused}
 use Rattle.graph.specs.Refusal.{accepted, refused, verdictOf, replied}

@@ -1,11 +1,5 @@
 -- What a call that tells its reply spells. Assumes nothing.
-use mathlib.Core.Path.{_≡_, sym, ap, _∙_}
-use mathlib.Core.Bool.{Bool, cond}
-use mathlib.Core.List.{List}
-use Prim.Native.Nat.{ℕ, _<_, _≤_}
-use lib.ListN.{length}
-use lib.Dec.{ltb}
-use borrow.Author.Tests.{lt-ltb, le-ltb}
+use Rattle.property.proofs.Basics.{_≡_, sym, ap, _∙_, Bool, cond, List, ℕ, _<_, _≤_, length, ltb, lt-ltb, le-ltb}
 use Rattle.graph.specs.Refusal.{Reply, Outcome, over}
 use Rattle.spelling.specs.Code.{replyWords, numberOf, wordsTold, Tells}
 use Rattle.plate_track.specs.Code.{spelled}

@@ -1,13 +1,5 @@
 -- Marks of n vertices in words of 64 bits: read, set, cleared, counted. Assumes nothing.
-use mathlib.Core.Path.{_≡_, refl, sym, ap, _∙_}
-use mathlib.Core.Logic.{_⊎_, inl, inr}
-use mathlib.Core.Bool.{Bool, true, false, cond}
-use mathlib.Core.List.{List, [], _∷_}
-use Prim.Native.Nat.{ℕ, zero, suc, _≤_, _<_}
-use native.Mathlib.Decide.{ℕ-discrete, decLt}
-use native.Mathlib.Omega.{arith}
-use lib.ListN.{length, getD, set, take, List·getD-eq-default}
-use lib.Seq.{getD-set-same, getD-set-other, length-take-le}
+use Rattle.property.proofs.Basics.{_≡_, refl, sym, ap, _∙_, _⊎_, inl, inr, Bool, true, false, cond, List, [], _∷_, ℕ, zero, suc, _≤_, _<_, ℕ-discrete, decLt, arith, length, getD, set, take, List·getD-eq-default, getD-set-same, getD-set-other, length-take-le}
 use Rattle.frontier.specs.Waiting.{waitingOf, countOf}
 use Rattle.frontier.proofs.Laws.{count-none}
 use Rattle.run.specs.Code.{bits, Marks}

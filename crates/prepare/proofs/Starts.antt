@@ -2,17 +2,7 @@
 --
 --   Given .. out i     == the first i words of out are those with which the rounds start, the others as they were
 --   opens es ms t e    == e, an edge of the new list, has vertex t wait
-use mathlib.Core.Path.{_≡_, refl, sym, ap, _∙_}
-use mathlib.Core.Logic.{_⊎_, inl, inr, ⊎-elim}
-use mathlib.Core.Bool.{Bool, true, false, _&&_, _||_, cond, false≢true}
-use mathlib.Core.List.{List, map, List·Memᴰ}
-use Prim.Native.Nat.{ℕ, _+_, _≤_, _<_}
-use native.Mathlib.Decide.{ℕ-discrete, decLt}
-use native.Mathlib.Omega.{arith}
-use lib.ListN.{length, getD, set, replicate, length-set}
-use lib.Seq.{getD-set-same, getD-set-other, ext-getD}
-use lib.Dec.{eqb, ltb}
-use borrow.Author.Tests.{eqb-true, eq-eqb, ltb-true, ltb-false}
+use Rattle.property.proofs.Basics.{_≡_, refl, sym, ap, _∙_, _⊎_, inl, inr, ⊎-elim, Bool, true, false, _&&_, _||_, cond, false≢true, List, map, List·Memᴰ, ℕ, _+_, _≤_, _<_, ℕ-discrete, decLt, arith, length, getD, set, replicate, length-set, getD-set-same, getD-set-other, ext-getD, eqb, ltb, eqb-true, eq-eqb, ltb-true, ltb-false}
 use Rattle.property.specs.Property.{Property}
 use Rattle.frontier.specs.Waiting.{waitingOf, capacity}
 use Rattle.frontier.proofs.Laws.{First}

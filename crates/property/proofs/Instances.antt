@@ -1,7 +1,6 @@
 -- The laws of the five properties and of `property p` for every number p, so that nothing above looks into a property; and
 -- that no sum wraps. Assumes nothing.
-use mathlib.Core.Path.{_≡_, refl}
-use Prim.Native.Nat.{ℕ, zero, suc, _+_, _≤_, _<_}
+use Rattle.property.proofs.Basics.{_≡_, refl, ℕ, zero, suc, _+_, _≤_, _<_}
 use Rattle.property.specs.Property.{M, plus, sssp, bfs, sswp, ssnp, ssr, property}
 use Rattle.property.specs.Laws.{Laws, Joins}
 use Rattle.property.proofs.Tests.{tests}

@@ -3,10 +3,7 @@
 --   tests               == what `ltb`, `leb` and `eqb` say where they are true and where they are false, and back
 --   is-true, is-false   == a test that can't come out one way comes out the other
 --   by-test             == by the two ways that a test can come out
-use mathlib.Core.Path.{_≡_, refl}
-use mathlib.Core.Bool.{Bool, true, false}
-use native.Mathlib.Omega.{arith}
-use borrow.Author.Tests.{ltb-true, ltb-false, lt-ltb, le-ltb, leb-true, leb-false, le-leb, lt-leb, eqb-true, eqb-false, eq-eqb, ne-eqb}
+use Rattle.property.proofs.Basics.{_≡_, refl, Bool, true, false, arith, ltb-true, ltb-false, lt-ltb, le-ltb, leb-true, leb-false, le-leb, lt-leb, eqb-true, eqb-false, eq-eqb, ne-eqb}
 
 pub ruleset tests = (ltb-true, ltb-false, lt-ltb, le-ltb, leb-true, leb-false, le-leb, lt-leb, eqb-true, eqb-false, eq-eqb, ne-eqb, arith)
 

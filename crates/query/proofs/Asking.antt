@@ -1,15 +1,5 @@
 -- A query's start words and its schedule, landmark by landmark, vertex by vertex and entry by entry. Assumes nothing.
-use mathlib.Core.Path.{_≡_, sym, ap, ap₂, _∙_}
-use mathlib.Core.Bool.{cond}
-use mathlib.Core.List.{List, map}
-use Prim.Native.Nat.{ℕ, suc, _+_, _-_, _*_, _<_, _≤_}
-use native.Mathlib.Nat.{sub-zero}
-use native.Mathlib.Numerals.{add-one}
-use native.Mathlib.Omega.{arith}
-use lib.ListN.{length, getD, drop, drop-of-length-le}
-use lib.Seq.{drop-cons, ext-getD}
-use lib.Dec.{eqb}
-use borrow.Author.Tests.{lt-ltb, le-ltb, eq-eqb, ne-eqb}
+use Rattle.property.proofs.Basics.{_≡_, sym, ap, ap₂, _∙_, cond, List, map, ℕ, suc, _+_, _-_, _*_, _<_, _≤_, sub-zero, add-one, arith, length, getD, drop, drop-of-length-le, drop-cons, ext-getD, eqb, lt-ltb, le-ltb, eq-eqb, ne-eqb}
 use Rattle.property.specs.Property.{Property, property}
 use Rattle.graph.specs.declared.Judged.the-variants.{Fine, Refused}
 use Rattle.graph.specs.Refusal.{Verdict, _▷_, refuseIf}

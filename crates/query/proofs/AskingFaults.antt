@@ -1,11 +1,5 @@
 -- A query's refusals: as the code groups them, and what is known where none applies. Assumes nothing.
-use mathlib.Core.Path.{_≡_}
-use mathlib.Core.List.{List, [], _∷_}
-use Prim.Native.Nat.{ℕ, zero, suc, _<_, _≤_}
-use native.Mathlib.Omega.{arith}
-use lib.ListN.{length, getD}
-use lib.Dec.{ltb}
-use borrow.Author.Tests.{ltb-true, ltb-false, not-false}
+use Rattle.property.proofs.Basics.{_≡_, List, [], _∷_, ℕ, zero, suc, _<_, _≤_, arith, length, getD, ltb, ltb-true, ltb-false, not-false}
 use Rattle.graph.specs.Limits.{maxEdges}
 use Rattle.graph.specs.Refusal.{accept, _▷_}
 use Rattle.graph.specs.Table.{rules, size, shortTable, table}

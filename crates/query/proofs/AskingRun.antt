@@ -1,10 +1,5 @@
 -- A query's run and its outcome: from the start words to the reply and the lists lent for the answer. Assumes nothing.
-use mathlib.Core.Path.{_≡_, sym, ap, _∙_}
-use mathlib.Core.Bool.{Bool, true, false}
-use mathlib.Core.List.{List}
-use Prim.Native.Nat.{ℕ}
-use lib.ListN.{length, set, replicate}
-use lib.Seq.{paste}
+use Rattle.property.proofs.Basics.{_≡_, sym, ap, _∙_, Bool, true, false, List, ℕ, length, set, replicate, paste}
 use Rattle.property.specs.Property.{Property}
 use Rattle.frontier.specs.Waiting.{anyOf}
 use Rattle.graph.specs.declared.Judged.{Judged}

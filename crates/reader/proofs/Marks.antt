@@ -1,11 +1,5 @@
 -- What a line says, by its mark and its fields. The readers try one mark after the other, and no line has two. Assumes nothing.
-use mathlib.Core.Path.{_≡_, refl, sym, _∙_}
-use mathlib.Core.Bool.{Bool, true, false}
-use mathlib.Core.List.{List, [], _∷_, map}
-use mathlib.Core.Option.{Option, none, some, bind}
-use Prim.Native.Nat.{ℕ}
-use lib.Dec.{eqb}
-use borrow.Author.Tests.{eqb-true, ne-eqb}
+use Rattle.property.proofs.Basics.{_≡_, refl, sym, _∙_, Bool, true, false, List, [], _∷_, map, Option, none, some, bind, ℕ, eqb, eqb-true, ne-eqb}
 use Rattle.dimacs.specs.Read.{after}
 use Rattle.dimacs.specs.Network.{orElse}
 use Rattle.dimacs.proofs.Options.{none-some, some-same}

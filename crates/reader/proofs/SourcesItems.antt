@@ -1,10 +1,5 @@
 -- What a line of a source file says, from its number and its mark. Assumes nothing.
-use mathlib.Core.Path.{_≡_, refl, sym, ap}
-use mathlib.Core.List.{List, [], _∷_, map}
-use mathlib.Core.Option.{Option, none, some, bind}
-use Prim.Native.Nat.{ℕ, zero, suc}
-use native.Mathlib.Omega.{arith}
-use lib.ListN.{length, drop}
+use Rattle.property.proofs.Basics.{_≡_, refl, sym, ap, List, [], _∷_, map, Option, none, some, bind, ℕ, zero, suc, arith, length, drop}
 use Rattle.dimacs.specs.Read.{after, fields}
 use Rattle.dimacs.specs.Sources.{Item, header, source, headerMark, sourceMark, headerFrom, sourceFrom, itemIn}
 use Rattle.scanner.specs.Capped.{cap, capFields}

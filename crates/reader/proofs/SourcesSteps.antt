@@ -1,13 +1,5 @@
 -- The state of the reader of source files after a line, at the end, and the call as a whole. Assumes nothing.
-use mathlib.Core.Path.{_≡_, refl, ap}
-use mathlib.Core.List.{List, []}
-use mathlib.Core.Option.{Option, none, some, bind}
-use Prim.Native.Nat.{ℕ, _+_, _≤_, _<_}
-use native.Mathlib.Numerals.{add-one}
-use native.Mathlib.Omega.{arith}
-use lib.ListN.{length, set, take}
-use lib.Seq.{length-take-le, take-suc-set}
-use borrow.Author.Tests.{lt-ltb, le-ltb, lt-leb, le-leb, eq-eqb, ne-eqb}
+use Rattle.property.proofs.Basics.{_≡_, refl, ap, List, [], Option, none, some, bind, ℕ, _+_, _≤_, _<_, add-one, arith, length, set, take, length-take-le, take-suc-set, lt-ltb, le-ltb, lt-leb, le-leb, eq-eqb, ne-eqb}
 use Rattle.graph.specs.Limits.{maxVertices}
 use Rattle.graph.specs.Refusal.{accept, refuse, _▷_, refuseIf, replied, choose, over}
 use Rattle.graph.specs.Table.{size}

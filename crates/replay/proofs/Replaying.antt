@@ -1,13 +1,5 @@
 -- A replay as a call: which changes a batch has, what is left of the batches after one, and the opening's part in the reply. Assumes nothing.
-use mathlib.Core.Path.{_≡_, sym, ap, subst, _∙_}
-use mathlib.Core.List.{List, [], _∷_, append-nil}
-use Prim.Native.Nat.{ℕ, _+_, _-_, _≤_, _<_, min}
-use native.Mathlib.Nat.{add-zero, zero-add}
-use native.Mathlib.Numerals.{add-one}
-use native.Mathlib.Decide.{decLt}
-use native.Mathlib.Omega.{arith}
-use lib.ListN.{length, getD, take, drop, length-drop, drop-of-length-le}
-use lib.Seq.{take-all, take-nil, drop-cons}
+use Rattle.property.proofs.Basics.{_≡_, sym, ap, subst, _∙_, List, [], _∷_, append-nil, ℕ, _+_, _-_, _≤_, _<_, min, add-zero, zero-add, add-one, decLt, arith, length, getD, take, drop, length-drop, drop-of-length-le, take-all, take-nil, drop-cons}
 use Rattle.graph.specs.Refusal.{accept, refuse, accepted, refused, verdictOf, choose, Outcome}
 use Rattle.graph.proofs.Verdicts.{verdict-replied, reply-accepted, outcome-refused, outcome-accepted}
 use Rattle.network.specs.Network.{Memory, Network, edgesIn, faults}

@@ -1,10 +1,5 @@
 -- The claim of specs/Claims.antt. Assumes nothing.
-use mathlib.Core.Path.{_≡_, refl, sym, ap, subst, _∙_}
-use mathlib.Core.List.{List, map}
-use Prim.Native.Nat.{ℕ, suc, _*_, _%_, _≤_, _<_}
-use native.Mathlib.Omega.{arith}
-use lib.ListN.{length, length-map}
-use lib.Seq.{ext-getD}
+use Rattle.property.proofs.Basics.{_≡_, refl, sym, ap, subst, _∙_, List, map, ℕ, suc, _*_, _%_, _≤_, _<_, arith, length, length-map, ext-getD}
 use Rattle.property.specs.Property.{properties}
 use Rattle.property.proofs.Instances.{property-laws}
 use Rattle.graph.specs.Limits.{maxEdges}

@@ -1,8 +1,5 @@
 -- One row of a batch as its functions leave it. Assumes nothing.
-use mathlib.Core.Path.{_≡_, sym, ap, _∙_}
-use mathlib.Core.List.{List}
-use Prim.Native.Nat.{ℕ, suc, _*_, _/_, _%_}
-use lib.ListN.{getD}
+use Rattle.property.proofs.Basics.{_≡_, sym, ap, _∙_, List, ℕ, suc, _*_, _/_, _%_, getD}
 use Rattle.property.specs.Property.{property, properties}
 use Rattle.frontier.specs.Waiting.{waitingOf, anyOf, countOf}
 use Rattle.graph.specs.Limits.{maxVertices, maxEdges}

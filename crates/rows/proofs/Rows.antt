@@ -3,13 +3,7 @@
 --   Counting n ys a s r k             == of k rows the first r are done, and a and s are no larger than their affected vertices and stores can be
 --   Rowing n ls es fs xs ys u a s r k == they stand one after the other in ys, u says whether some vertex waits in one of them, and a and s are
 --                                       their affected vertices and stores
-use mathlib.Core.Path.{_≡_, ap, _∙_}
-use mathlib.Core.Bool.{Bool, false, _||_}
-use mathlib.Core.List.{List, map}
-use Prim.Native.Nat.{ℕ, _+_, _-_, _*_, _≤_, _<_}
-use native.Mathlib.Nat.{sub-zero, zero-add}
-use native.Mathlib.Omega.{arith}
-use lib.ListN.{length, take, drop}
+use Rattle.property.proofs.Basics.{_≡_, ap, _∙_, Bool, false, _||_, List, map, ℕ, _+_, _-_, _*_, _≤_, _<_, sub-zero, zero-add, arith, length, take, drop}
 use borrow.Rule.Slice.PartMut.{midOf, putMid, same-len-mid}
 use Rattle.frontier.specs.Waiting.{countOf}
 use Rattle.graph.specs.Limits.{maxVertices, maxEdges}

@@ -2,11 +2,7 @@
 -- shuts out; the numbers are worked out by hand. Assumes nothing.
 --
 -- A table of examples lists what a definition gives beside what document 01 says; one equation holds for all of its lines.
-use mathlib.Core.Path.{_≡_, refl}
-use mathlib.Core.Bool.{Bool, true, false}
-use mathlib.Core.List.{List, [], _∷_, map, foldl}
-use Prim.Native.Nat.{ℕ}
-use lib.ListN.{length, set, replicate}
+use Rattle.property.proofs.Basics.{_≡_, refl, Bool, true, false, List, [], _∷_, map, foldl, ℕ, length, set, replicate}
 use Rattle.property.specs.Property.{M, sssp, bfs, sswp, ssnp, ssr}
 use Rattle.frontier.specs.Waiting.{anyOf}
 use Rattle.graph.specs.Edge.{Edge, edge, reverse, keepIf, keep, range}

@@ -1,11 +1,5 @@
 -- Lists as loops go through them: what is left at a turn, and at the end. Assumes nothing.
-use mathlib.Core.Path.{_≡_}
-use mathlib.Core.List.{List, [], _∷_}
-use Prim.Native.Nat.{ℕ, suc, _+_, _-_, _<_, _≤_}
-use native.Mathlib.Numerals.{add-one}
-use native.Mathlib.Omega.{arith}
-use lib.ListN.{length, getD, drop}
-use lib.Seq.{drop-cons}
+use Rattle.property.proofs.Basics.{_≡_, List, [], _∷_, ℕ, suc, _+_, _-_, _<_, _≤_, add-one, arith, length, getD, drop, drop-cons}
 use Rattle.graph.specs.Edge.{edge, range}
 use Rattle.graph.specs.Arc.{arcHead, arcWeight}
 use Rattle.graph.specs.Index.{part}

@@ -1,13 +1,6 @@
 -- Rounds as the code makes them: from one waiting vertex to the next. Assumes nothing.
-use mathlib.Core.Path.{_≡_, sym, ap, _∙_}
-use mathlib.Core.Bool.{Bool, true, false}
-use mathlib.Core.List.{List, foldl}
-use Prim.Native.Nat.{ℕ, zero, suc, _+_, _-_, _≤_, _<_}
-use native.Mathlib.Nat.{add-zero, zero-add, suc-add}
+use Rattle.property.proofs.Basics.{_≡_, sym, ap, _∙_, Bool, true, false, List, foldl, ℕ, zero, suc, _+_, _-_, _≤_, _<_, add-zero, zero-add, suc-add, add-one, arith, getD}
 use native.Mathlib.Decide.{decLe}
-use native.Mathlib.Numerals.{add-one}
-use native.Mathlib.Omega.{arith}
-use lib.ListN.{getD}
 use Rattle.property.specs.Property.{Property}
 use Rattle.frontier.specs.Waiting.{waitingOf, anyOf}
 use Rattle.frontier.proofs.Laws.{First}

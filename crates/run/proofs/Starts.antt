@@ -1,9 +1,5 @@
 -- Where a run starts: nobody waits but the source, and every word is the same but its own. Assumes nothing.
-use mathlib.Core.Path.{_≡_, ap, _∙_}
-use mathlib.Core.Bool.{Bool, true, false}
-use mathlib.Core.List.{List}
-use Prim.Native.Nat.{ℕ, _≤_, _<_}
-use lib.ListN.{length, set, replicate, length-set, length-replicate}
+use Rattle.property.proofs.Basics.{_≡_, ap, _∙_, Bool, true, false, List, ℕ, _≤_, _<_, length, set, replicate, length-set, length-replicate}
 use Rattle.property.specs.Property.{Property}
 use Rattle.frontier.specs.Waiting.{waitingOf, capacity}
 use Rattle.run.specs.Start.{opened}

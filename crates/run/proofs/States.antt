@@ -1,14 +1,5 @@
 -- The waiting bits of n vertices, in words of 64 bits, and what a store and a cleared bit make of a state. Assumes nothing.
-use mathlib.Core.Path.{_≡_, refl, sym, ap, _∙_}
-use mathlib.Core.Bool.{Bool, true, false, true≢false}
-use mathlib.Core.List.{List, foldl}
-use Prim.Native.Nat.{ℕ, _+_, _≤_, _<_}
-use native.Mathlib.Decide.{decLt}
-use native.Mathlib.Numerals.{add-one}
-use native.Mathlib.Omega.{arith}
-use lib.ListN.{length, getD, set, take, replicate, length-set, length-take, length-replicate, List·getD-eq-default}
-use lib.Seq.{take-set-lt, getD-take, getD-set-other}
-use mathlib.Core.Logic.{⊎-elim}
+use Rattle.property.proofs.Basics.{_≡_, refl, sym, ap, _∙_, Bool, true, false, true≢false, List, foldl, ℕ, _+_, _≤_, _<_, decLt, add-one, arith, length, getD, set, take, replicate, length-set, length-take, length-replicate, List·getD-eq-default, take-set-lt, getD-take, getD-set-other, ⊎-elim}
 use Rattle.property.specs.Property.{Property, M}
 use Rattle.property.specs.Laws.{Laws}
 use Rattle.frontier.specs.Waiting.{waitingOf, capacity, anyOf}

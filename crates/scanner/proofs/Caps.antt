@@ -1,10 +1,5 @@
 -- Reading a number at a position of a list, with its value capped: the laws of dimacs, up to the cap. Assumes nothing.
-use mathlib.Core.Path.{_≡_, sym, ap, _∙_}
-use mathlib.Core.Bool.{true, false}
-use mathlib.Core.List.{List}
-use Prim.Native.Nat.{ℕ, _+_, _-_, _*_, _≤_, _<_}
-use native.Mathlib.Omega.{arith}
-use lib.ListN.{length, getD, drop}
+use Rattle.property.proofs.Basics.{_≡_, sym, ap, _∙_, true, false, List, ℕ, _+_, _-_, _*_, _≤_, _<_, arith, length, getD, drop}
 use Rattle.dimacs.specs.Decimal.{isDigit, scan}
 use Rattle.dimacs.proofs.Positions as at
 use Rattle.dimacs.proofs.Caps.{capped, scan-capped}

@@ -1,14 +1,5 @@
 -- Reading the bytes and fields of a line by positions. Assumes nothing.
-use mathlib.Core.Path.{_≡_, refl, sym, ap, _∙_}
-use mathlib.Core.Bool.{true, false, true≢false}
-use mathlib.Core.List.{List, [], _∷_}
-use mathlib.Core.Option.{Option, none, some, bind}
-use Prim.Native.Nat.{ℕ, zero, suc, _+_, _≤_, _<_}
-use native.Mathlib.Omega.{arith}
-use native.Mathlib.Numerals.{add-one}
-use lib.Dec.{eqb}
-use lib.ListN.{length, getD, drop, drop-of-length-le}
-use lib.Seq.{drop-cons}
+use Rattle.property.proofs.Basics.{_≡_, refl, sym, ap, _∙_, true, false, true≢false, List, [], _∷_, Option, none, some, bind, ℕ, zero, suc, _+_, _≤_, _<_, arith, add-one, eqb, length, getD, drop, drop-of-length-le, drop-cons}
 use Rattle.dimacs.specs.Decimal.{number}
 use Rattle.dimacs.specs.Read.{after, fields}
 use Rattle.dimacs.proofs.Options.{none-some, some-same, bind-bind}

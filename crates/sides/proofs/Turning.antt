@@ -1,10 +1,5 @@
 -- What the rows of each side are run on, from what the batch has. Assumes nothing.
-use mathlib.Core.Path.{_≡_, refl, ap, _∙_}
-use mathlib.Core.List.{List, [], _∷_, map}
-use mathlib.Core.Bool.{true, false, _||_}
-use Prim.Native.Nat.{ℕ, _+_}
-use lib.ListN.{length}
-use lib.Seq.{paste}
+use Rattle.property.proofs.Basics.{_≡_, refl, ap, _∙_, List, [], _∷_, map, true, false, _||_, ℕ, _+_, length, paste}
 use Rattle.graph.specs.Refusal.{over}
 use Rattle.graph.proofs.Copies.{paste-over}
 use Rattle.rows.specs.declared.Rowed.{Rowed}

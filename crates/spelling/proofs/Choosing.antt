@@ -1,9 +1,5 @@
 -- A landmark choice as number and words. Assumes nothing.
-use mathlib.Core.Path.{_≡_, refl, sym, ap, _∙_}
-use mathlib.Core.List.{List, [], _∷_}
-use Prim.Native.Nat.{ℕ, _≤_}
-use native.Mathlib.Omega.{arith}
-use lib.ListN.{length, set, getD}
+use Rattle.property.proofs.Basics.{_≡_, refl, sym, ap, _∙_, List, [], _∷_, ℕ, _≤_, arith, length, set, getD}
 use Rattle.graph.specs.Refusal.{Verdict, accept, refuse, Reply, accepted, refused, over}
 use Rattle.graph.specs.declared.Judged.the-variants.{Fine, Refused}
 use Rattle.graph.specs.Code.{told}

@@ -1,11 +1,7 @@
 -- Replies as number and words: what stores into a reply list spell. Assumes nothing.
 --
 --   setAll ys xs i   == xs after the words ys are stored one by one, from index i on
-use mathlib.Core.Path.{_≡_, refl, ap, _∙_}
-use mathlib.Core.List.{List, [], _∷_}
-use Prim.Native.Nat.{ℕ, suc, _<_, _≤_}
-use native.Mathlib.Omega.{arith}
-use lib.ListN.{length, set, length-set}
+use Rattle.property.proofs.Basics.{_≡_, refl, ap, _∙_, List, [], _∷_, ℕ, suc, _<_, _≤_, arith, length, set, length-set}
 use Rattle.graph.specs.Refusal.{accepted, refused, over}
 use Rattle.spelling.specs.Code.{replyWords, numberOf, wordsTold, Tells}
 

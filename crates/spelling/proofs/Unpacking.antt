@@ -1,11 +1,5 @@
 -- Changes of four words each as four lists. Assumes nothing.
-use mathlib.Core.Path.{_≡_, refl, sym, ap, _∙_}
-use mathlib.Core.List.{List, [], _∷_}
-use Prim.Native.Nat.{ℕ, _+_, _<_}
-use native.Mathlib.Nat.{zero-add}
-use native.Mathlib.Omega.{arith}
-use lib.ListN.{length, getD, set, take, drop, length-map, List·getD-map}
-use lib.Seq.{paste, take-at}
+use Rattle.property.proofs.Basics.{_≡_, refl, sym, ap, _∙_, List, [], _∷_, ℕ, _+_, _<_, zero-add, arith, length, getD, set, take, drop, length-map, List·getD-map, paste, take-at}
 use Rattle.graph.proofs.Copies.{copy-turn}
 use Rattle.graph.specs.Limits.{maxBatch}
 use Rattle.graph.specs.Refusal.{over}

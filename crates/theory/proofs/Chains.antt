@@ -5,15 +5,7 @@
 --   Deep k i st           == after k rounds and the visits below i of one more: each vertex that waits has such a chain, of more than k + 1
 --                            vertices, or of more than k where its visit is still to come
 --   Going k i st          == the same while i is handled, which has its chain of more than k
-use mathlib.Core.Path.{_≡_, refl, sym, ap, _∙_}
-use mathlib.Core.Logic.{_⊎_, inl, inr, ⊎-elim, _≢_}
-use mathlib.Core.Bool.{Bool, true, false, true≢false, false≢true}
-use mathlib.Core.List.{List, [], _∷_, foldl, List·Memᴰ, List·Memᴰ·head, List·Memᴰ·tail}
-use Prim.Native.Nat.{ℕ, zero, suc, _+_, _≤_, _<_}
-use native.Mathlib.Decide.{ℕ-discrete, decLt}
-use native.Mathlib.Omega.{arith}
-use lib.ListN.{getD, set, length, replicate, List·getD-eq-default, length-set, length-replicate}
-use lib.Seq.{getD-set-same, getD-set-other, set-out}
+use Rattle.property.proofs.Basics.{_≡_, refl, sym, ap, _∙_, _⊎_, inl, inr, ⊎-elim, _≢_, Bool, true, false, true≢false, false≢true, List, [], _∷_, foldl, List·Memᴰ, List·Memᴰ·head, List·Memᴰ·tail, ℕ, zero, suc, _+_, _≤_, _<_, ℕ-discrete, decLt, arith, getD, set, length, replicate, List·getD-eq-default, length-set, length-replicate, getD-set-same, getD-set-other, set-out}
 use Rattle.property.specs.Property.{M, Property}
 use Rattle.property.specs.Laws.{Laws}
 use Rattle.property.proofs.Instances.{property-laws}

@@ -1,16 +1,7 @@
 -- Where runs start, words are words of 32 bits: an opened row, and a query, whatever the rows tell it. Assumes nothing.
 --
 --   Told P l   == the words that a landmark's rows tell are at most M
-use mathlib.Core.Path.{_≡_, refl, _∙_}
-use mathlib.Core.Logic.{⊎-elim}
-use mathlib.Core.Bool.{Bool, true, false, cond}
-use mathlib.Core.List.{List, [], _∷_, List·Memᴰ, List·Memᴰ·head, List·Memᴰ·tail}
-use Prim.Native.Nat.{ℕ, _≤_, _<_}
-use native.Mathlib.Decide.{decLt}
-use native.Mathlib.Omega.{arith}
-use lib.ListN.{getD, set, length, replicate, length-set, length-replicate}
-use lib.Seq.{set-out}
-use lib.Dec.{eqb}
+use Rattle.property.proofs.Basics.{_≡_, refl, _∙_, ⊎-elim, Bool, true, false, cond, List, [], _∷_, List·Memᴰ, List·Memᴰ·head, List·Memᴰ·tail, ℕ, _≤_, _<_, decLt, arith, getD, set, length, replicate, length-set, length-replicate, set-out, eqb}
 use Rattle.property.specs.Property.{M, Property}
 use Rattle.property.specs.Laws.{Laws, Joins}
 use Rattle.graph.specs.Edge.{Edge, range}

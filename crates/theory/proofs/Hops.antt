@@ -3,16 +3,7 @@
 --   valuesFrom P es n s == the words of a row of source s, opened and settled on the edges es of n vertices
 --   Level j      == some vertex below n has the word j
 --   under j      == which of the n vertices have a word below j, as a list
-use mathlib.Core.Path.{_≡_, refl, sym, _∙_}
-use mathlib.Core.Logic.{⊎-elim}
-use mathlib.Core.Bool.{Bool, true, false, true≢false, false≢true}
-use mathlib.Core.List.{List, [], _∷_, map}
-use Prim.Native.Nat.{ℕ, zero, suc, _≤_, _<_}
-use native.Mathlib.Decide.{decLt}
-use native.Mathlib.Omega.{arith}
-use lib.ListN.{getD, set, length, List·getD-eq-default}
-use lib.Dec.{ltb}
-use borrow.Author.Tests.{eqb-true, ltb-true, lt-ltb, le-ltb}
+use Rattle.property.proofs.Basics.{_≡_, refl, sym, _∙_, ⊎-elim, Bool, true, false, true≢false, false≢true, List, [], _∷_, map, ℕ, zero, suc, _≤_, _<_, decLt, arith, getD, set, length, List·getD-eq-default, ltb, eqb-true, ltb-true, lt-ltb, le-ltb}
 use Rattle.property.specs.Property.{Property, plus, bfs}
 use Rattle.property.specs.Laws.{Laws}
 use Rattle.property.proofs.Instances.{bfs-laws}

@@ -3,16 +3,7 @@
 --
 --   by P l t             == the word to t by way of landmark l: the word to l joined with the word on from it
 --   Bounded P ls t v     == v is the no-route word, or the word to t by way of one of the landmarks
-use mathlib.Core.Path.{_≡_, refl, sym, _∙_}
-use mathlib.Core.Logic.{_⊎_, inl, inr, ⊎-elim, _≢_}
-use mathlib.Core.Bool.{Bool, true, false, cond, true≢false}
-use mathlib.Core.List.{List, [], _∷_, List·Memᴰ, List·Memᴰ·head, List·Memᴰ·tail, List·Memᴰ·cases-cons, List·Memᴰ·not-nil}
-use Prim.Native.Nat.{ℕ, _≤_, _<_}
-use native.Mathlib.Decide.{ℕ-discrete, decLt}
-use native.Mathlib.Omega.{arith}
-use lib.ListN.{replicate, length-set, length-replicate, List·getD-eq-default}
-use lib.Dec.{eqb}
-use borrow.Author.Tests.{eq-eqb, ne-eqb}
+use Rattle.property.proofs.Basics.{_≡_, refl, sym, _∙_, _⊎_, inl, inr, ⊎-elim, _≢_, Bool, true, false, cond, true≢false, List, [], _∷_, List·Memᴰ, List·Memᴰ·head, List·Memᴰ·tail, List·Memᴰ·cases-cons, List·Memᴰ·not-nil, ℕ, _≤_, _<_, ℕ-discrete, decLt, arith, replicate, length-set, length-replicate, List·getD-eq-default, eqb, eq-eqb, ne-eqb}
 use Rattle.property.specs.Property.{Property}
 use Rattle.property.specs.Laws.{Laws, Joins}
 use Rattle.graph.specs.Edge.{Edge}

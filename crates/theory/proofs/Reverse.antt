@@ -1,7 +1,5 @@
 -- Backward rows: best values of the reversed edges are best values the other way round. Assumes nothing.
-use mathlib.Core.Logic.{inl, inr, ⊎-elim}
-use mathlib.Core.List.{List, map, List·Memᴰ}
-use Prim.Native.Nat.{ℕ}
+use Rattle.property.proofs.Basics.{inl, inr, ⊎-elim, List, map, List·Memᴰ, ℕ}
 use Rattle.property.specs.Property.{Property}
 use Rattle.property.specs.Laws.{Joins}
 use Rattle.graph.specs.Edge.{Edge, reverse}

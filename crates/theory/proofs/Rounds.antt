@@ -1,8 +1,5 @@
 -- Rounds without a bound, and at most k of them. Assumes nothing.
-use mathlib.Core.Path.{_≡_, refl, sym, _∙_}
-use mathlib.Core.Bool.{Bool, true, false, true≢false}
-use mathlib.Core.List.{List}
-use Prim.Native.Nat.{ℕ, zero, suc}
+use Rattle.property.proofs.Basics.{_≡_, refl, sym, _∙_, Bool, true, false, true≢false, List, ℕ, zero, suc}
 use Rattle.property.specs.Property.{Property}
 use Rattle.frontier.specs.Waiting.{anyOf}
 use Rattle.graph.specs.Edge.{Edge}

@@ -4,12 +4,7 @@
 --   Lasting P n w  == routes of fewer than n edges, of weights 1 to w, have values better than no route: `floor k` is a value than
 --                     which a route of k edges is no worse
 --   Weighty w es   == weights are 1 to w
-use mathlib.Core.Path.{_≡_, sym, _∙_, subst}
-use mathlib.Core.Logic.{_⊎_, inl, inr, ⊎-elim}
-use mathlib.Core.Bool.{true, false, true≢false}
-use mathlib.Core.List.{List, List·Memᴰ}
-use Prim.Native.Nat.{ℕ, zero, suc, _*_, _≤_, _<_}
-use native.Mathlib.Omega.{arith}
+use Rattle.property.proofs.Basics.{_≡_, sym, _∙_, subst, _⊎_, inl, inr, ⊎-elim, true, false, true≢false, List, List·Memᴰ, ℕ, zero, suc, _*_, _≤_, _<_, arith}
 use Rattle.property.specs.Property.{M, plus, Property, sssp, bfs, sswp, ssnp, ssr, property}
 use Rattle.property.specs.Laws.{Laws}
 use Rattle.property.proofs.Instances.{bfs-laws, property-laws}

@@ -5,13 +5,7 @@
 --   tights                 == the tight edges
 --   Crossing u             == an edge from a vertex that tight edges reach to one that they do not, no worse than u at its end
 --   Stray e                == the head of e has a walk, but none of tight edges
-use mathlib.Core.Path.{_≡_, refl, sym, ap, _∙_}
-use mathlib.Core.Logic.{_⊎_, inl, inr, ⊎-elim, _≢_}
-use mathlib.Core.Bool.{Bool, true, false}
-use mathlib.Core.List.{List, [], _∷_, List·Memᴰ, List·Memᴰ·head, List·Memᴰ·tail, List·Memᴰ·cases-cons, List·Memᴰ·not-nil}
-use Prim.Native.Nat.{ℕ}
-use native.Mathlib.Decide.{ℕ-discrete}
-use borrow.Author.Tests.{eqb-true, eq-eqb}
+use Rattle.property.proofs.Basics.{_≡_, refl, sym, ap, _∙_, _⊎_, inl, inr, ⊎-elim, _≢_, Bool, true, false, List, [], _∷_, List·Memᴰ, List·Memᴰ·head, List·Memᴰ·tail, List·Memᴰ·cases-cons, List·Memᴰ·not-nil, ℕ, ℕ-discrete, eqb-true, eq-eqb}
 use Rattle.property.specs.Property.{Property}
 use Rattle.property.specs.Laws.{Laws}
 use Rattle.graph.specs.Edge.{Edge, keep}

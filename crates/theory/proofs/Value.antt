@@ -3,13 +3,7 @@
 --   from P v              == the property P with v as its value at the source
 --   Way P es s v t u      == a route from s to t along edges of es that has v at s and u at t
 --   Attained P es s t v   == v is the value of a route from s to t, or there is none and v is the no-route word
-use mathlib.Core.Path.{_≡_, refl, sym, ap, _∙_}
-use mathlib.Core.Logic.{_⊎_, inl, inr, ⊎-elim}
-use mathlib.Core.Bool.{false, true, true≢false}
-use mathlib.Core.List.{List, List·Memᴰ}
-use Prim.Native.Nat.{ℕ, _≤_, _<_}
-use lib.ListN.{set, length, replicate, length-set, length-replicate}
-use lib.Seq.{getD-set-other}
+use Rattle.property.proofs.Basics.{_≡_, refl, sym, ap, _∙_, _⊎_, inl, inr, ⊎-elim, false, true, true≢false, List, List·Memᴰ, ℕ, _≤_, _<_, set, length, replicate, length-set, length-replicate, getD-set-other}
 use Rattle.property.specs.Property.{M, Property}
 use Rattle.property.specs.Laws.{Laws}
 use Rattle.frontier.specs.Waiting.{anyOf}

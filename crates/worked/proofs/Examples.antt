@@ -2,10 +2,7 @@
 -- which nearby reading it shuts out; the numbers are worked out by hand. Assumes nothing.
 --
 -- A table of examples lists what a definition gives beside what document 01 says; one equation holds for all of its lines.
-use mathlib.Core.Path.{_≡_, refl}
-use mathlib.Core.List.{List, [], _∷_, _++_, map}
-use Prim.Native.Nat.{ℕ, _-_, _*_, _%_}
-use lib.ListN.{length, replicate, set}
+use Rattle.property.proofs.Basics.{_≡_, refl, List, [], _∷_, _++_, map, ℕ, _-_, _*_, _%_, length, replicate, set}
 use lib.ListN as list
 use Rattle.property.specs.Property.{M, property}
 use Rattle.frontier.specs.Waiting.{anyOf, countOf}

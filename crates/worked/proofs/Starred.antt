@@ -1,5 +1,5 @@
 -- The starred lines of document 01, computed. Assumes nothing.
-use mathlib.Core.Path.{refl}
+use Rattle.property.proofs.Basics.{refl}
 use Rattle.property.specs.Property.{property}
 use Rattle.frontier.specs.Waiting.{anyOf, countOf}
 use Rattle.graph.specs.Refusal.{_▷_, refuseIf, replied, choose}

@@ -1,12 +1,5 @@
 -- Numbers in base ten from the last digit to the first. Assumes nothing.
-use mathlib.Core.Path.{_≡_, refl, ap, _∙_}
-use mathlib.Core.Bool.{Bool, true, false}
-use mathlib.Core.List.{List, [], _∷_, _++_}
-use Prim.Native.Nat.{ℕ, zero, suc, _+_, _/_, _%_, _≤_, _<_}
-use native.Mathlib.Omega.{arith}
-use lib.Dec.{ltb}
-use lib.ListN.{length, length-append}
-use borrow.Author.Tests.{ltb-true, ltb-false}
+use Rattle.property.proofs.Basics.{_≡_, refl, ap, _∙_, Bool, true, false, List, [], _∷_, _++_, ℕ, zero, suc, _+_, _/_, _%_, _≤_, _<_, arith, ltb, length, length-append, ltb-true, ltb-false}
 use Rattle.dimacs.specs.Decimal.{digits}
 use Rattle.dimacs.proofs.Digits.{digits-small, digits-big}
 use Rattle.dimacs.proofs.Widths.{width-big}

@@ -1,11 +1,5 @@
 -- Numbers after single spaces: one more, and how many bytes they take. Assumes nothing.
-use mathlib.Core.Path.{_≡_, ap}
-use mathlib.Core.List.{List, [], _∷_, _++_}
-use Prim.Native.Nat.{ℕ, _+_, _^_, _≤_, _<_}
-use native.Mathlib.Numerals.{add-one}
-use native.Mathlib.Omega.{arith}
-use lib.ListN.{length, getD, drop, length-append, drop-of-length-le}
-use lib.Seq.{drop-cons}
+use Rattle.property.proofs.Basics.{_≡_, ap, List, [], _∷_, _++_, ℕ, _+_, _^_, _≤_, _<_, add-one, arith, length, getD, drop, length-append, drop-of-length-le, drop-cons}
 use Rattle.dimacs.specs.Decimal.{digits}
 use Rattle.dimacs.specs.Lines.{fieldsOf}
 use Rattle.dimacs.proofs.Widths.{width-most}

@@ -1,13 +1,8 @@
 -- Text laid into a buffer, piece after piece. Assumes nothing.
 --
 --   Pending text at out left r mid   == text is being laid into out from at: left is still to be laid, from r of the buffer mid
-use mathlib.Core.Path.{_≡_, refl, sym, ap, _∙_}
-use mathlib.Core.List.{List, [], _∷_, _++_, append-nil}
-use Prim.Native.Nat.{ℕ, suc, _+_, _-_, _/_, _%_, _≤_, _<_}
-use native.Mathlib.Omega.{arith}
-use native.Mathlib.Nat.{add-zero}
-use lib.ListN.{length, set, length-append, take-append-drop}
-use lib.Seq.{sets, sets-eq, length-sets, set-comm, paste, take-length}
+use Rattle.property.proofs.Basics.{_≡_, refl, sym, ap, _∙_, List, [], _∷_, _++_, append-nil, ℕ, suc, _+_, _-_, _/_, _%_, _≤_, _<_, arith, add-zero, length, set, length-append, take-append-drop, sets, paste}
+use lib.Seq.{sets-eq, length-sets, set-comm, take-length}
 use Rattle.writer.specs.Code.{laid, Fits, Wrote}
 use Rattle.writer.proofs.Digits.{pad, length-pad}
 

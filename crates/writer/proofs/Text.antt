@@ -1,10 +1,5 @@
 -- The text of a network as the code writes it: a p line, then a line for each record of the table. Assumes nothing.
-use mathlib.Core.Path.{_≡_, refl, ap, _∙_}
-use mathlib.Core.List.{List, [], _∷_, _++_, append-assoc}
-use Prim.Native.Nat.{ℕ, _+_, _≤_, _<_}
-use native.Mathlib.Numerals.{add-one}
-use native.Mathlib.Omega.{arith}
-use lib.ListN.{length, drop, length-append}
+use Rattle.property.proofs.Basics.{_≡_, refl, ap, _∙_, List, [], _∷_, _++_, append-assoc, ℕ, _+_, _≤_, _<_, add-one, arith, length, drop, length-append}
 use Rattle.graph.specs.Edge.{Edge, edge, edges}
 use Rattle.graph.specs.Code.{Room, edgeAt}
 use Rattle.graph.proofs.Records.{edges-length, edges-more, edges-none}

@@ -1,11 +1,5 @@
 -- `apply::apply` meets its contract. Assumes nothing.
-use borrow.Author.Needs.{needs}
-use native.Mathlib.Omega.{arith}
-use mathlib.Core.Path.{_≡_, refl, sym}
-use mathlib.Core.List.{List}
-use Prim.Native.Nat.{ℕ, _+_, _*_, _<_, _≤_}
-use lib.ListN.{length, take, replicate, length-replicate}
-use lib.Seq.{length-take-le}
+use Rattle.property.proofs.Basics.{needs, arith, _≡_, refl, sym, List, ℕ, _+_, _*_, _<_, _≤_, length, take, replicate, length-replicate, length-take-le}
 use Rattle.graph.specs.Limits.{maxVertices, maxEdges}
 use Rattle.graph.specs.Edge.{edges}
 use Rattle.graph.specs.Index.{Indexable}

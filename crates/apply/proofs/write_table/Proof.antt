@@ -1,5 +1,5 @@
 -- `apply::write_table` meets its contract. Assumes nothing.
-use borrow.Author.Needs.{needs}
+use Rattle.property.proofs.Basics.{needs}
 use Rattle.apply.proofs.Writing.{table-written}
 use Rattle.apply.proofs.write_table.Statement.{statement}
 use Rattle.apply.proofs.write_table.Tie as tie

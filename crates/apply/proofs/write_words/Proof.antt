@@ -1,5 +1,5 @@
 -- `apply::write_words` meets its contract. Assumes nothing.
-use borrow.Author.Needs.{needs}
+use Rattle.property.proofs.Basics.{needs}
 use Rattle.apply.proofs.Writing.{words-written}
 use Rattle.apply.proofs.write_words.Statement.{statement}
 use Rattle.apply.proofs.write_words.Tie as tie

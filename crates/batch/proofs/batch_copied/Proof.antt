@@ -1,9 +1,5 @@
 -- `batch::batch_copied` meets its contract. Assumes nothing.
-use borrow.Author.Needs.{needs}
-use native.Mathlib.Omega.{arith}
-use mathlib.Core.Path.{sym, ap, _∙_}
-use lib.ListN.{length}
-use lib.Seq.{length-take-le}
+use Rattle.property.proofs.Basics.{needs, arith, sym, ap, _∙_, length, length-take-le}
 use Rattle.network.specs.Batch.{batchCall}
 use Rattle.calls.specs.Code.{network}
 use Rattle.plain_batch.proofs.Calling.{call-faulty, faults-long}

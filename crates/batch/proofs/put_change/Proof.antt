@@ -1,7 +1,5 @@
 -- `batch::put_change` meets its contract. Assumes nothing.
-use borrow.Author.Needs.{needs}
-use native.Mathlib.Omega.{arith}
-use lib.ListN.{length-set}
+use Rattle.property.proofs.Basics.{needs, arith, length-set}
 use Rattle.batch.proofs.put_change.Statement.{statement}
 use Rattle.batch.proofs.put_change.Tie as tie
 

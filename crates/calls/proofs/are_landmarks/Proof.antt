@@ -1,9 +1,5 @@
 -- `calls::are_landmarks` meets its contract: what is left of the list decides. Assumes nothing.
-use borrow.Author.Needs.{needs}
-use native.Mathlib.Omega.{arith}
-use Prim.Native.Nat.{_-_, _≤_}
-use mathlib.Core.Path.{_≡_, refl, sym, _∙_}
-use lib.ListN.{length, getD, drop}
+use Rattle.property.proofs.Basics.{needs, arith, _-_, _≤_, _≡_, refl, sym, _∙_, length, getD, drop}
 use Rattle.network.specs.Network.{areLandmarks}
 use Rattle.calls.proofs.Judging.{landmark-high, landmark-twice, landmark-more, landmark-none}
 use Rattle.calls.proofs.are_landmarks.Statement.{statement}

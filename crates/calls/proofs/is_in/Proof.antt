@@ -1,8 +1,5 @@
 -- `calls::is_in` meets its contract: what is left of the list decides. Assumes nothing.
-use borrow.Author.Needs.{needs}
-use Prim.Native.Nat.{_-_}
-use mathlib.Core.Path.{_≡_, refl}
-use lib.ListN.{length, drop}
+use Rattle.property.proofs.Basics.{needs, _-_, _≡_, refl, length, drop}
 use Rattle.network.specs.Network.{isIn}
 use Rattle.calls.proofs.Judging.{in-found, in-more, in-none}
 use Rattle.calls.proofs.is_in.Statement.{statement}

@@ -1,5 +1,5 @@
 -- `calls::is_property` meets its contract. Assumes nothing.
-use borrow.Author.Tests.{lt-ltb, le-ltb}
+use Rattle.property.proofs.Basics.{lt-ltb, le-ltb}
 use Rattle.calls.proofs.is_property.Statement.{statement}
 use Rattle.calls.proofs.is_property.Tie as tie
 

@@ -1,7 +1,5 @@
 -- `calls::is_short` meets its contract. Assumes nothing.
-use borrow.Author.Needs.{needs}
-use native.Mathlib.Omega.{arith}
-use Prim.Native.Nat.{_<_}
+use Rattle.property.proofs.Basics.{needs, arith, _<_}
 use Rattle.calls.proofs.Judging.{short-none, short-some}
 use Rattle.calls.proofs.is_short.Statement.{statement}
 use Rattle.calls.proofs.is_short.Tie as tie

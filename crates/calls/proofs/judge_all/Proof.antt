@@ -1,6 +1,5 @@
 -- `calls::judge_all` meets its contract. Assumes nothing.
-use borrow.Author.Needs.{needs}
-use mathlib.Core.Path.{_∙_}
+use Rattle.property.proofs.Basics.{needs, _∙_}
 use Rattle.graph.proofs.Verdicts.{then-accept, then-assoc}
 use Rattle.graph.proofs.Judging.{lengths-accept, then-refused, then-judged, fine-accept}
 use Rattle.calls.proofs.judge_all.Statement.{statement}

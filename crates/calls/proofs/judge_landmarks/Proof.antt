@@ -1,11 +1,5 @@
 -- `calls::judge_landmarks` meets its contract. Assumes nothing.
-use borrow.Author.Needs.{needs}
-use borrow.Author.Tests.{eq-eqb, ne-eqb}
-use mathlib.Core.Path.{_≡_, sym, ap, _∙_}
-use mathlib.Core.Logic.{⊎-elim}
-use mathlib.Core.Bool.{Bool, not, _||_}
-use lib.Dec.{eqb, ltb}
-use lib.ListN.{length}
+use Rattle.property.proofs.Basics.{needs, eq-eqb, ne-eqb, _≡_, sym, ap, _∙_, ⊎-elim, Bool, not, _||_, eqb, ltb, length}
 use Rattle.graph.specs.Limits.{maxLandmarks}
 use Rattle.graph.specs.Refusal.{refuseIf}
 use Rattle.graph.proofs.Flags.{or-taken, or-left, or-nest}

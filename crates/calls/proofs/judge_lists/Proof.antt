@@ -1,5 +1,5 @@
 -- `calls::judge_lists` meets its contract. Assumes nothing.
-use borrow.Author.Needs.{needs}
+use Rattle.property.proofs.Basics.{needs}
 use Rattle.graph.proofs.Judging.{then-refused, then-judged}
 use Rattle.calls.proofs.judge_lists.Statement.{statement}
 use Rattle.calls.proofs.judge_lists.Tie as tie

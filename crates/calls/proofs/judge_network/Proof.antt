@@ -1,5 +1,5 @@
 -- `calls::judge_network` meets its contract. Assumes nothing.
-use borrow.Author.Needs.{needs}
+use Rattle.property.proofs.Basics.{needs}
 use Rattle.graph.proofs.Judging.{then-refused, then-judged}
 use Rattle.calls.proofs.judge_network.Statement.{statement}
 use Rattle.calls.proofs.judge_network.Tie as tie

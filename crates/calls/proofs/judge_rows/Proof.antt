@@ -1,11 +1,5 @@
 -- `calls::judge_rows` meets its contract. Assumes nothing.
-use borrow.Author.Needs.{needs}
-use mathlib.Core.Path.{_≡_, sym, ap, _∙_}
-use mathlib.Core.Logic.{⊎-elim}
-use mathlib.Core.Bool.{Bool, _||_}
-use Prim.Native.Nat.{_*_}
-use lib.Dec.{ltb}
-use lib.ListN.{length}
+use Rattle.property.proofs.Basics.{needs, _≡_, sym, ap, _∙_, ⊎-elim, Bool, _||_, _*_, ltb, length}
 use Rattle.graph.specs.Refusal.{refuseIf}
 use Rattle.graph.proofs.Flags.{or-taken, or-left}
 use Rattle.network.specs.Network.{rowCount}

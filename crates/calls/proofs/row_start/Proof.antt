@@ -1,6 +1,5 @@
 -- `calls::row_start` meets its contract. Assumes nothing.
-use borrow.Author.Needs.{needs}
-use native.Mathlib.Omega.{arith}
+use Rattle.property.proofs.Basics.{needs, arith}
 use Rattle.calls.proofs.Rows.{row-fits}
 use Rattle.calls.proofs.row_start.Statement.{statement}
 use Rattle.calls.proofs.row_start.Tie as tie

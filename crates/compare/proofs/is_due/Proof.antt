@@ -1,8 +1,5 @@
 -- `compare::is_due` meets its contract. Assumes nothing.
-use borrow.Author.Needs.{needs}
-use mathlib.Core.Path.{ap}
-use mathlib.Core.Bool.{not}
-use borrow.Author.Tests.{lt-ltb, le-ltb}
+use Rattle.property.proofs.Basics.{needs, ap, not, lt-ltb, le-ltb}
 use Rattle.compare.proofs.is_due.Statement.{statement}
 use Rattle.compare.proofs.is_due.Tie as tie
 

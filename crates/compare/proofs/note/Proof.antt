@@ -1,10 +1,5 @@
 -- `compare::note` meets its contract. Assumes nothing.
-use borrow.Author.Needs.{needs}
-use mathlib.Core.Path.{_≡_, sym, ap}
-use mathlib.Core.Bool.{cond}
-use Prim.Native.Nat.{_+_, _*_}
-use lib.ListN.{set}
-use borrow.Author.Tests.{eq-eqb, ne-eqb}
+use Rattle.property.proofs.Basics.{needs, _≡_, sym, ap, cond, _+_, _*_, set, eq-eqb, ne-eqb}
 use Rattle.compare.proofs.Walking.{stored}
 use Rattle.compare.proofs.note.Statement.{statement}
 use Rattle.compare.proofs.note.Tie as tie

@@ -1,8 +1,5 @@
 -- `compare::past` meets its contract. Assumes nothing.
-use borrow.Author.Needs.{needs}
-use mathlib.Core.Path.{sym, ap}
-use mathlib.Core.Bool.{cond}
-use Prim.Native.Nat.{_+_}
+use Rattle.property.proofs.Basics.{needs, sym, ap, cond, _+_}
 use Rattle.compare.proofs.past.Statement.{statement}
 use Rattle.compare.proofs.past.Tie as tie
 

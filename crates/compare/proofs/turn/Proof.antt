@@ -1,9 +1,5 @@
 -- `compare::turn` meets its contract. Assumes nothing.
-use borrow.Author.Needs.{needs}
-use native.Mathlib.Omega.{arith}
-use mathlib.Core.Path.{_≡_, refl, _∙_}
-use Prim.Native.Nat.{_+_, _-_, _*_, _<_, _≤_}
-use lib.ListN.{length, length-set}
+use Rattle.property.proofs.Basics.{needs, arith, _≡_, refl, _∙_, _+_, _-_, _*_, _<_, _≤_, length, length-set}
 use Rattle.compare.specs.Code.{pairs}
 use Rattle.compare.proofs.Reversed.{Turned, turned-none, turned-turn, turned-net, turned-inside}
 use Rattle.compare.proofs.turn.Statement.{statement}

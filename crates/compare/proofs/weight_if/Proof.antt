@@ -1,9 +1,5 @@
 -- `compare::weight_if` meets its contract. Assumes nothing.
-use borrow.Author.Needs.{needs}
-use native.Mathlib.Omega.{arith}
-use mathlib.Core.Path.{sym, ap}
-use mathlib.Core.Bool.{cond}
-use lib.ListN.{getD}
+use Rattle.property.proofs.Basics.{needs, arith, sym, ap, cond, getD}
 use Rattle.compare.proofs.weight_if.Statement.{statement}
 use Rattle.compare.proofs.weight_if.Tie as tie
 

@@ -1,10 +1,5 @@
 -- `frontier::clear` meets its contract. Assumes nothing.
-use mathlib.Core.Path.{_≡_, ap, _∙_}
-use mathlib.Core.Bool.{false}
-use Prim.Native.Nat.{ℕ, _*_}
-use native.Mathlib.Omega.{arith}
-use borrow.Author.Needs.{needs}
-use lib.ListN.{length, replicate}
+use Rattle.property.proofs.Basics.{_≡_, ap, _∙_, false, ℕ, _*_, arith, needs, length, replicate}
 use Rattle.frontier.specs.Waiting.{capacity}
 use Rattle.frontier.proofs.clear.Statement.{statement}
 use Rattle.frontier.proofs.clear.Tie as tie

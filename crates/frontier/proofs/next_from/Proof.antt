@@ -1,6 +1,5 @@
 -- `frontier::next_from` meets its contract. Assumes nothing.
-use native.Mathlib.Omega.{arith}
-use borrow.Author.Needs.{needs}
+use Rattle.property.proofs.Basics.{arith, needs}
 use Rattle.frontier.proofs.Laws.{waiting-length}
 use Rattle.frontier.proofs.next_from.Statement.{statement}
 use Rattle.frontier.proofs.next_from.Tie as tie

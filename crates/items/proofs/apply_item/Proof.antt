@@ -1,7 +1,5 @@
 -- `items::apply_item` meets its contract. Assumes nothing.
-use borrow.Author.Needs.{needs}
-use mathlib.Core.Path.{_≡_, refl, sym, ap, _∙_}
-use Prim.Native.Nat.{ℕ}
+use Rattle.property.proofs.Basics.{needs, _≡_, refl, sym, ap, _∙_, ℕ}
 use Rattle.network.specs.Change.{words}
 use Rattle.graph.specs.Refusal.{accept}
 use Rattle.graph.specs.Code.{told}

@@ -1,10 +1,6 @@
 -- `items::apply_items` meets its contract: what is left of the changes gives, from here, the verdict and the edges of all.
 -- Assumes nothing.
-use borrow.Author.Needs.{needs}
-use native.Mathlib.Omega.{arith}
-use mathlib.Core.Path.{_≡_, refl, sym, ap, _∙_}
-use Prim.Native.Nat.{_-_, _≤_, _<_}
-use lib.ListN.{length, drop, drop-of-length-le}
+use Rattle.property.proofs.Basics.{needs, arith, _≡_, refl, sym, ap, _∙_, _-_, _≤_, _<_, length, drop, drop-of-length-le}
 use Rattle.graph.specs.Edge.{edges}
 use Rattle.network.specs.Change.{edits, items}
 use Rattle.items.specs.Code.{changes, verdict}

@@ -1,8 +1,5 @@
 -- `items::insert_item` meets its contract. Assumes nothing.
-use borrow.Author.Needs.{needs}
-use native.Mathlib.Omega.{arith}
-use mathlib.Core.Path.{_≡_, refl, sym, _∙_}
-use lib.ListN.{length}
+use Rattle.property.proofs.Basics.{needs, arith, _≡_, refl, sym, _∙_, length}
 use Rattle.graph.specs.declared.Found.the-variants.{Absent}
 use Rattle.graph.specs.Limits.{maxEdges}
 use Rattle.graph.specs.Edge.{edge, edges}

@@ -1,6 +1,5 @@
 -- `items::is_suited` meets its contract. Assumes nothing.
-use borrow.Author.Needs.{needs}
-use borrow.Author.Tests.{eq-eqb, ne-eqb}
+use Rattle.property.proofs.Basics.{needs, eq-eqb, ne-eqb}
 use Rattle.items.proofs.is_suited.Statement.{statement}
 use Rattle.items.proofs.is_suited.Tie as tie
 

@@ -1,10 +1,5 @@
 -- `items::judge_words` meets its contract. Assumes nothing.
-use borrow.Author.Needs.{needs}
-use borrow.Author.Tests.{leb-true, leb-false, eqb-true, eqb-false, not-true, not-false}
-use Prim.Native.Nat.{_<_}
-use mathlib.Core.Path.{_≡_, ap, _∙_}
-use mathlib.Core.Logic.{_⊎_, inl, inr, ⊎-elim}
-use mathlib.Core.Bool.{Bool, not}
+use Rattle.property.proofs.Basics.{needs, leb-true, leb-false, eqb-true, eqb-false, not-true, not-false, _<_, _≡_, ap, _∙_, _⊎_, inl, inr, ⊎-elim, Bool, not}
 use Rattle.graph.specs.Refusal.{refuseIf}
 use Rattle.graph.specs.Code.{told}
 use Rattle.items.proofs.Editing.{words-outside, words-unkind, words-loop, words-rest}

@@ -1,10 +1,5 @@
 -- `open::open` meets its contract. Assumes nothing.
-use mathlib.Core.Path.{_≡_, sym}
-use Prim.Native.Nat.{ℕ, _*_, _≤_}
-use native.Mathlib.Omega.{arith}
-use lib.ListN.{replicate}
-use lib.Seq.{length-take-le}
-use borrow.Author.Needs.{needs}
+use Rattle.property.proofs.Basics.{_≡_, sym, ℕ, _*_, _≤_, arith, replicate, length-take-le, needs}
 use Rattle.property.specs.Property.{properties}
 use Rattle.graph.proofs.Judging.{fine-accept}
 use Rattle.graph.specs.Limits.{maxVertices, maxLandmarks}

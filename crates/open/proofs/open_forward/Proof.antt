@@ -1,6 +1,5 @@
 -- `open::open_forward` meets its contract. Assumes nothing.
-use native.Mathlib.Omega.{arith}
-use borrow.Author.Needs.{needs}
+use Rattle.property.proofs.Basics.{arith, needs}
 use Rattle.open.proofs.open_forward.Statement.{statement}
 use Rattle.open.proofs.open_forward.Tie as tie
 

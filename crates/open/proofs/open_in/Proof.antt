@@ -1,9 +1,5 @@
 -- `open::open_in` meets its contract. Assumes nothing.
-use mathlib.Core.Path.{_≡_, refl, sym, _∙_}
-use Prim.Native.Nat.{_*_, _≤_}
-use native.Mathlib.Omega.{arith}
-use lib.ListN.{length}
-use borrow.Author.Needs.{needs}
+use Rattle.property.proofs.Basics.{_≡_, refl, sym, _∙_, _*_, _≤_, arith, length, needs}
 use Rattle.network.specs.Network.{rowCount}
 use Rattle.calls.specs.Code.{Openable}
 use Rattle.open.proofs.Opening.{open-accept, open-unsettled, open-written}

@@ -1,6 +1,5 @@
 -- `open::open_row` meets its contract. Assumes nothing.
-use native.Mathlib.Omega.{arith}
-use borrow.Author.Needs.{needs}
+use Rattle.property.proofs.Basics.{arith, needs}
 use Rattle.open.proofs.Opening.{row-settled}
 use Rattle.open.proofs.open_row.Statement.{statement}
 use Rattle.open.proofs.open_row.Tie as tie

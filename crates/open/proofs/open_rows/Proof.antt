@@ -1,11 +1,6 @@
 -- `open::open_rows` meets its contract. The loop's invariant: the rows so far stand one after the other in the list, and the answer is whether
 -- some vertex waits in one of them. Assumes nothing.
-use mathlib.Core.Path.{_≡_, refl, _∙_}
-use mathlib.Core.List.{List, map}
-use Prim.Native.Nat.{_+_, _-_, _*_, _≤_}
-use native.Mathlib.Omega.{arith}
-use lib.ListN.{length, take}
-use borrow.Author.Needs.{needs}
+use Rattle.property.proofs.Basics.{_≡_, refl, _∙_, List, map, _+_, _-_, _*_, _≤_, arith, length, take, needs}
 use borrow.Rule.Slice.PartMut.{same-len-mid}
 use Rattle.graph.specs.Edge.{Edge, range}
 use Rattle.graph.specs.Index.{Own}

@@ -1,5 +1,5 @@
 -- `plain_batch::copy_table` meets its contract. Assumes nothing.
-use borrow.Author.Needs.{needs}
+use Rattle.property.proofs.Basics.{needs}
 use Rattle.plain_batch.proofs.Calling.{edges-copied}
 use Rattle.plain_batch.proofs.copy_table.Statement.{statement}
 use Rattle.plain_batch.proofs.copy_table.Tie as tie

@@ -1,6 +1,5 @@
 -- `plain_batch::count_changes` meets its contract. Assumes nothing.
-use borrow.Author.Needs.{needs}
-use mathlib.Core.Path.{_∙_}
+use Rattle.property.proofs.Basics.{needs, _∙_}
 use Rattle.plain_batch.proofs.Calling.{changes-length}
 use Rattle.plain_batch.proofs.count_changes.Statement.{statement}
 use Rattle.plain_batch.proofs.count_changes.Tie as tie

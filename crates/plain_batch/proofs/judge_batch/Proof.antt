@@ -1,5 +1,5 @@
 -- `plain_batch::judge_batch` meets its contract. Assumes nothing.
-use borrow.Author.Needs.{needs}
+use Rattle.property.proofs.Basics.{needs}
 use Rattle.graph.specs.Code.{told}
 use Rattle.plain_batch.proofs.Calling.{faults-long, faults-rest}
 use Rattle.plain_batch.proofs.judge_batch.Statement.{statement}

@@ -1,6 +1,5 @@
 -- `plate_track::plate_track_choose` meets its contract. Assumes nothing.
-use borrow.Author.Needs.{needs}
-use mathlib.Core.Path.{refl}
+use Rattle.property.proofs.Basics.{needs, refl}
 use Rattle.spelling.specs.Code.{choiceWords}
 use Rattle.plate_track.proofs.Spelling.{spelled-short, spelled-told}
 use Rattle.plate_track.proofs.plate_track_choose.Statement.{statement}

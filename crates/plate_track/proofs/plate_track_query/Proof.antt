@@ -1,5 +1,5 @@
 -- `plate_track::plate_track_query` meets its contract. Assumes nothing.
-use borrow.Author.Needs.{needs}
+use Rattle.property.proofs.Basics.{needs}
 use Rattle.spelling.specs.Code.{tallyWords}
 use Rattle.plate_track.proofs.Spelling.{spelled-short, spelled-told}
 use Rattle.plate_track.proofs.plate_track_query.Statement.{statement}

@@ -1,9 +1,5 @@
 -- `plate_track::plate_track_row` meets its contract. Assumes nothing.
-use borrow.Author.Needs.{needs}
-use native.Mathlib.Omega.{arith}
-use mathlib.Core.Path.{ap, _∙_}
-use mathlib.Core.List.{[], _∷_}
-use Prim.Native.Nat.{ℕ, _*_}
+use Rattle.property.proofs.Basics.{needs, arith, ap, _∙_, [], _∷_, ℕ, _*_}
 use Rattle.network.specs.Query.{rowAt}
 use Rattle.inspect.proofs.LookupLaws.{Shown, lookup-accept}
 use Rattle.spelling.specs.Code.{oneWord}

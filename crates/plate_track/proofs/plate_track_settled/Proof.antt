@@ -1,6 +1,5 @@
 -- `plate_track::plate_track_settled` meets its contract. Assumes nothing.
-use borrow.Author.Needs.{needs}
-use mathlib.Core.Path.{ap}
+use Rattle.property.proofs.Basics.{needs, ap}
 use Rattle.plate_track.specs.Code.{alone}
 use Rattle.spelling.specs.Code.{checkWords}
 use Rattle.plate_track.proofs.Spelling.{spelled-short, spelled-told}

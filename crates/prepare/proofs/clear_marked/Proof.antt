@@ -1,13 +1,10 @@
 -- `prepare::clear_marked` meets its contract. The loop's invariant is `Given`. Assumes nothing.
-use mathlib.Core.Path.{sym, _∙_}
-use Prim.Native.Nat.{_-_, _<_}
-use native.Mathlib.Omega.{arith}
+use Rattle.property.proofs.Basics.{sym, _∙_, _-_, _<_, arith, needs}
 use Rattle.property.specs.Property.{property}
 use Rattle.frontier.specs.Waiting.{waitingOf}
 use Rattle.frontier.proofs.Laws.{First, next-first, next-none}
 use Rattle.run.proofs.States.{marks-within}
 use Rattle.prepare.proofs.Starts.{Given, give-start, give-turn, give-done}
-use borrow.Author.Needs.{needs}
 use Rattle.prepare.proofs.clear_marked.Statement.{statement}
 use Rattle.prepare.proofs.clear_marked.Tie as tie
 

@@ -1,12 +1,9 @@
 -- `prepare::copy_cleared` meets its contract. Assumes nothing.
-use mathlib.Core.Path.{ap, _∙_}
-use Prim.Native.Nat.{ℕ}
-use mathlib.Core.List.{List}
+use Rattle.property.proofs.Basics.{ap, _∙_, ℕ, List, needs}
 use Rattle.property.specs.Property.{property}
 use Rattle.graph.proofs.Copies.{paste-whole}
 use Rattle.run.specs.Code.{bits}
 use Rattle.affected.specs.Prepared as start
-use borrow.Author.Needs.{needs}
 use Rattle.prepare.proofs.copy_cleared.Statement.{statement}
 use Rattle.prepare.proofs.copy_cleared.Tie as tie
 

@@ -1,10 +1,5 @@
 -- `prepare::is_held` meets its contract. Assumes nothing.
-use mathlib.Core.Path.{_≡_, sym, _∙_}
-use mathlib.Core.Bool.{not}
-use Prim.Native.Nat.{ℕ}
-use borrow.Author.Needs.{needs}
-use borrow.Author.Tests.{eq-eqb, ne-eqb}
-use lib.Dec.{eqb}
+use Rattle.property.proofs.Basics.{_≡_, sym, _∙_, not, ℕ, needs, eq-eqb, ne-eqb, eqb}
 use Rattle.property.specs.Property.{Property, property}
 use Rattle.prepare.specs.Code.{holds}
 use Rattle.prepare.proofs.is_held.Statement.{statement}

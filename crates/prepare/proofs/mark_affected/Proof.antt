@@ -1,7 +1,7 @@
 -- `prepare::mark_affected` meets its contract. Assumes nothing.
 use Rattle.property.specs.Property.{property}
 use Rattle.prepare.proofs.Spreading.{going-clear, marks-found}
-use borrow.Author.Needs.{needs}
+use Rattle.property.proofs.Basics.{needs}
 use Rattle.prepare.proofs.mark_affected.Statement.{statement}
 use Rattle.prepare.proofs.mark_affected.Tie as tie
 

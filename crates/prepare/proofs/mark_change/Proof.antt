@@ -1,10 +1,6 @@
 -- `prepare::mark_change` meets its contract. Assumes nothing.
-use native.Mathlib.Omega.{arith}
-use mathlib.Core.Path.{_≡_, sym, ap, _∙_}
-use Prim.Native.Nat.{_+_, _*_}
-use lib.Dec.{ltb}
+use Rattle.property.proofs.Basics.{arith, _≡_, sym, ap, _∙_, _+_, _*_, ltb, needs}
 use Rattle.compare.specs.Code.{before}
-use borrow.Author.Needs.{needs}
 use Rattle.prepare.proofs.mark_change.Statement.{statement}
 use Rattle.prepare.proofs.mark_change.Tie as tie
 

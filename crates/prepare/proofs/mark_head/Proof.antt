@@ -1,7 +1,5 @@
 -- `prepare::mark_head` meets its contract. Assumes nothing.
-use mathlib.Core.Path.{_≡_, sym, ap, _∙_}
-use mathlib.Core.Bool.{true, false, not, _&&_, cond}
-use lib.ListN.{set}
+use Rattle.property.proofs.Basics.{_≡_, sym, ap, _∙_, true, false, not, _&&_, cond, set, needs}
 use Rattle.property.specs.Property.{property}
 use Rattle.frontier.specs.Waiting.{waitingOf}
 use Rattle.graph.specs.Edge.{edge}
@@ -10,7 +8,6 @@ use Rattle.affected.specs.Affected.{held, marked}
 use Rattle.prepare.specs.Code.{marksHead}
 use Rattle.compare.proofs.Tests.{and-off}
 use Rattle.prepare.proofs.Spreading.{same-held}
-use borrow.Author.Needs.{needs}
 use Rattle.prepare.proofs.mark_head.Statement.{statement}
 use Rattle.prepare.proofs.mark_head.Tie as tie
 

@@ -1,13 +1,9 @@
 -- `prepare::mark_removed_heads` meets its contract. The loop's invariant is `HeadsMarked`. Assumes nothing.
-use mathlib.Core.Path.{_≡_, refl}
-use Prim.Native.Nat.{_+_, _-_, _*_, _≤_}
-use native.Mathlib.Omega.{arith}
-use lib.Dec.{ltb}
+use Rattle.property.proofs.Basics.{_≡_, refl, _+_, _-_, _*_, _≤_, arith, ltb, needs}
 use Rattle.property.specs.Property.{property}
 use Rattle.compare.specs.Code.{before, pairs}
 use Rattle.prepare.specs.Code.{HeadsMarked}
 use Rattle.prepare.proofs.Spreading.{heads-start, heads-turn, heads-as}
-use borrow.Author.Needs.{needs}
 use Rattle.prepare.proofs.mark_removed_heads.Statement.{statement}
 use Rattle.prepare.proofs.mark_removed_heads.Tie as tie
 

@@ -1,13 +1,11 @@
 -- `prepare::prepare` meets its contract. Assumes nothing.
-use mathlib.Core.Path.{_≡_, ap, _∙_}
-use native.Mathlib.Omega.{arith}
+use Rattle.property.proofs.Basics.{_≡_, ap, _∙_, arith, needs}
 use Rattle.property.specs.Property.{property}
 use Rattle.frontier.specs.Waiting.{countOf}
 use Rattle.frontier.proofs.Counts.{count-le}
 use Rattle.run.specs.Code.{bits}
 use Rattle.prepare.proofs.Bits.{bits-count, bits-length}
 use Rattle.prepare.proofs.Starts.{prepared-made}
-use borrow.Author.Needs.{needs}
 use Rattle.prepare.proofs.prepare.Statement.{statement}
 use Rattle.prepare.proofs.prepare.Tie as tie
 

@@ -1,7 +1,7 @@
 -- `prepare::reopen` meets its contract. Assumes nothing.
 use Rattle.run.proofs.States.{marks-clear, marks-within}
 use Rattle.prepare.proofs.Starts.{reopen-done}
-use borrow.Author.Needs.{needs}
+use Rattle.property.proofs.Basics.{needs}
 use Rattle.prepare.proofs.reopen.Statement.{statement}
 use Rattle.prepare.proofs.reopen.Tie as tie
 

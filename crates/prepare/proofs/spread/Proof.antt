@@ -1,7 +1,7 @@
 -- `prepare::spread` meets its contract. Assumes nothing.
 use Rattle.property.specs.Property.{property}
 use Rattle.property.proofs.Instances.{property-rest}
-use borrow.Author.Needs.{needs}
+use Rattle.property.proofs.Basics.{needs}
 use Rattle.prepare.proofs.spread.Statement.{statement}
 use Rattle.prepare.proofs.spread.Tie as tie
 

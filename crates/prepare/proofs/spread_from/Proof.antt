@@ -1,12 +1,9 @@
 -- `prepare::spread_from` meets its contract. The loop's invariant is `Along`. Assumes nothing.
-use Prim.Native.Nat.{_+_, _-_, _≤_, _<_}
-use native.Mathlib.Omega.{arith}
-use lib.ListN.{length, getD}
+use Rattle.property.proofs.Basics.{_+_, _-_, _≤_, _<_, arith, length, getD, needs}
 use Rattle.property.specs.Property.{property}
 use Rattle.graph.specs.Arc.{arcHead}
 use Rattle.prepare.specs.Code.{Along}
 use Rattle.prepare.proofs.Spreading.{along-start, along-turn, along-as}
-use borrow.Author.Needs.{needs}
 use Rattle.prepare.proofs.spread_from.Statement.{statement}
 use Rattle.prepare.proofs.spread_from.Tie as tie
 

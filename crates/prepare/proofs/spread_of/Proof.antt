@@ -1,9 +1,6 @@
 -- `prepare::spread_of` meets its contract. The loop's invariant is `Spreads`; what falls is twice the vertices without a mark and once
 -- those to do. Assumes nothing.
-use mathlib.Core.Path.{sym, _∙_}
-use mathlib.Core.List.{List}
-use Prim.Native.Nat.{_+_, _-_, _*_, _<_}
-use native.Mathlib.Omega.{arith}
+use Rattle.property.proofs.Basics.{sym, _∙_, List, _+_, _-_, _*_, _<_, arith, needs}
 use Rattle.property.specs.Property.{property}
 use Rattle.frontier.specs.Waiting.{waitingOf, capacity, countOf}
 use Rattle.frontier.proofs.Laws.{First, next-first, next-none}
@@ -12,7 +9,6 @@ use Rattle.graph.specs.Index.{Own}
 use Rattle.run.proofs.States.{marks-within}
 use Rattle.prepare.specs.Code.{Going, Spreads}
 use Rattle.prepare.proofs.Spreading.{spreads-none, spreads-turn, spreads-then, spread-falls, taken-going}
-use borrow.Author.Needs.{needs}
 use Rattle.prepare.proofs.spread_of.Statement.{statement}
 use Rattle.prepare.proofs.spread_of.Tie as tie
 

@@ -1,15 +1,11 @@
 -- `prepare::wake_added` meets its contract. The loop's invariant is `Raised`. Assumes nothing.
-use mathlib.Core.Path.{_≡_, refl}
-use Prim.Native.Nat.{_-_, _*_, _≤_}
-use native.Mathlib.Omega.{arith}
-use lib.Dec.{ltb}
+use Rattle.property.proofs.Basics.{_≡_, refl, _-_, _*_, _≤_, arith, ltb, needs}
 use Rattle.frontier.specs.Waiting.{waitingOf}
 use Rattle.run.specs.Code.{Marks}
 use Rattle.compare.specs.Code.{after, pairs}
 use Rattle.prepare.specs.Code.{Raised, Woken}
 use Rattle.prepare.proofs.Bits.{marks-if}
 use Rattle.prepare.proofs.Starts.{raised-none, raised-change}
-use borrow.Author.Needs.{needs}
 use Rattle.prepare.proofs.wake_added.Statement.{statement}
 use Rattle.prepare.proofs.wake_added.Tie as tie
 

@@ -1,15 +1,11 @@
 -- `prepare::wake_into` meets its contract. The loop's invariant is `Raised`. Assumes nothing.
-use mathlib.Core.Path.{_≡_}
-use Prim.Native.Nat.{_+_, _-_, _≤_, _<_}
-use native.Mathlib.Omega.{arith}
-use lib.ListN.{length, getD}
+use Rattle.property.proofs.Basics.{_≡_, _+_, _-_, _≤_, _<_, arith, length, getD, needs}
 use Rattle.frontier.specs.Waiting.{waitingOf}
 use Rattle.graph.specs.Arc.{arcHead}
 use Rattle.run.specs.Code.{Marks}
 use Rattle.run.proofs.States.{marks-set}
 use Rattle.prepare.specs.Code.{Raised, Entering}
 use Rattle.prepare.proofs.Starts.{raised-none, raised-part}
-use borrow.Author.Needs.{needs}
 use Rattle.prepare.proofs.wake_into.Statement.{statement}
 use Rattle.prepare.proofs.wake_into.Tie as tie
 

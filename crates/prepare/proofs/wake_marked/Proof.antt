@@ -1,15 +1,12 @@
 -- `prepare::wake_marked` meets its contract. The loop's invariant: the tails of the edges into the marked vertices below `i` are set.
 -- Assumes nothing.
-use mathlib.Core.Path.{sym, _∙_}
-use Prim.Native.Nat.{_-_, _≤_, _<_}
-use native.Mathlib.Omega.{arith}
+use Rattle.property.proofs.Basics.{sym, _∙_, _-_, _≤_, _<_, arith, needs}
 use Rattle.frontier.specs.Waiting.{waitingOf}
 use Rattle.frontier.proofs.Laws.{First, next-first, next-none}
 use Rattle.run.specs.Code.{Marks}
 use Rattle.run.proofs.States.{marks-within}
 use Rattle.prepare.specs.Code.{Raised}
 use Rattle.prepare.proofs.Starts.{Behind, raised-none, raised-behind, raised-over}
-use borrow.Author.Needs.{needs}
 use Rattle.prepare.proofs.wake_marked.Statement.{statement}
 use Rattle.prepare.proofs.wake_marked.Tie as tie
 

@@ -1,6 +1,5 @@
 -- `property::along` meets its contract: each arm is the property of its number. Assumes nothing.
-use borrow.Author.Needs.{needs}
-use mathlib.Core.Path.{refl}
+use Rattle.property.proofs.Basics.{needs, refl}
 use Rattle.property.specs.Property.{property}
 use Rattle.property.proofs.Instances.{property-rest}
 use Rattle.property.proofs.along.Statement.{statement}

@@ -1,5 +1,5 @@
 -- `property::join` meets its contract: each arm is the property of its number. Assumes nothing.
-use borrow.Author.Needs.{needs}
+use Rattle.property.proofs.Basics.{needs}
 use Rattle.property.specs.Property.{property}
 use Rattle.property.proofs.Instances.{property-rest}
 use Rattle.property.proofs.join.Statement.{statement}

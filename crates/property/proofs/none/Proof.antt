@@ -1,5 +1,5 @@
 -- `property::none` meets its contract: each arm is the property of its number. Assumes nothing.
-use mathlib.Core.Path.{refl}
+use Rattle.property.proofs.Basics.{refl}
 use Rattle.property.specs.Property.{property}
 use Rattle.property.proofs.Instances.{property-rest}
 use Rattle.property.proofs.none.Statement.{statement}

@@ -1,5 +1,5 @@
 -- `property::sum` meets its contract: what is left above `a` says whether the sum is a word below the greatest. Assumes nothing.
-use native.Mathlib.Omega.{arith}
+use Rattle.property.proofs.Basics.{arith}
 use Rattle.property.proofs.sum.Statement.{statement}
 use Rattle.property.proofs.sum.Tie as tie
 

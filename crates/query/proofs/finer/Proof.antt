@@ -1,6 +1,5 @@
 -- `query::finer` meets its contract. Assumes nothing.
-use borrow.Author.Needs.{needs}
-use mathlib.Core.Path.{sym, _∙_}
+use Rattle.property.proofs.Basics.{needs, sym, _∙_}
 use Rattle.query.proofs.finer.Statement.{statement}
 use Rattle.query.proofs.finer.Tie as tie
 

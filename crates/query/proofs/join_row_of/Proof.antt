@@ -1,11 +1,5 @@
 -- `query::join_row_of` meets its contract. Assumes nothing.
-use borrow.Author.Needs.{needs}
-use native.Mathlib.Omega.{arith}
-use mathlib.Core.Path.{_≡_, refl, sym, ap, _∙_}
-use mathlib.Core.Logic.{⊎-elim}
-use Prim.Native.Nat.{ℕ, _+_, _-_, _<_, _≤_}
-use lib.ListN.{length, getD, length-set}
-use lib.Seq.{getD-set-other}
+use Rattle.property.proofs.Basics.{needs, arith, _≡_, refl, sym, ap, _∙_, ⊎-elim, ℕ, _+_, _-_, _<_, _≤_, length, getD, length-set, getD-set-other}
 use Rattle.property.specs.Property.{property}
 use Rattle.graph.proofs.Lists.{at-set}
 use Rattle.run.specs.Start.{finer}

@@ -1,10 +1,5 @@
 -- `query::judge_outputs` meets its contract. Assumes nothing.
-use borrow.Author.Needs.{needs}
-use borrow.Author.Tests.{lt-ltb, le-ltb}
-use mathlib.Core.Path.{_≡_, ap, _∙_}
-use mathlib.Core.Logic.{⊎-elim}
-use mathlib.Core.Bool.{Bool, _||_}
-use lib.Dec.{ltb}
+use Rattle.property.proofs.Basics.{needs, lt-ltb, le-ltb, _≡_, ap, _∙_, ⊎-elim, Bool, _||_, ltb}
 use Rattle.graph.specs.Refusal.{refuseIf}
 use Rattle.graph.proofs.Flags.{or-taken, or-left}
 use Rattle.query.proofs.judge_outputs.Statement.{statement}

@@ -1,8 +1,7 @@
 -- `query::judge_query` meets its contract. Assumes nothing.
-use mathlib.Core.Path.{_∙_}
+use Rattle.property.proofs.Basics.{_∙_, needs}
 use Rattle.graph.proofs.Verdicts.{then-accept}
 use Rattle.graph.proofs.Judging.{lengths-accept, then-refused, then-judged, fine-accept}
-use borrow.Author.Needs.{needs}
 use Rattle.query.proofs.AskingFaults.{faults-flat}
 use Rattle.query.proofs.judge_query.Statement.{statement}
 use Rattle.query.proofs.judge_query.Tie as tie

@@ -1,10 +1,5 @@
 -- `query::judge_request` meets its contract. Assumes nothing.
-use borrow.Author.Needs.{needs}
-use borrow.Author.Tests.{lt-ltb, le-ltb}
-use native.Mathlib.Omega.{arith}
-use mathlib.Core.Path.{sym, ap, _∙_}
-use mathlib.Core.Bool.{not}
-use lib.Dec.{ltb}
+use Rattle.property.proofs.Basics.{needs, lt-ltb, le-ltb, arith, sym, ap, _∙_, not, ltb}
 use Rattle.graph.proofs.Judging.{if-refused, if-judged}
 use Rattle.property.specs.Property.{isProperty}
 use Rattle.query.proofs.judge_request.Statement.{statement}

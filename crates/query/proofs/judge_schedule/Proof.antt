@@ -1,9 +1,5 @@
 -- `query::judge_schedule` meets its contract. Assumes nothing.
-use borrow.Author.Needs.{needs}
-use native.Mathlib.Omega.{arith}
-use mathlib.Core.Path.{_≡_, refl}
-use Prim.Native.Nat.{_-_, _≤_}
-use lib.ListN.{length, drop}
+use Rattle.property.proofs.Basics.{needs, arith, _≡_, refl, _-_, _≤_, length, drop}
 use Rattle.network.specs.Query.{scheduled}
 use Rattle.query.proofs.Asking.{schedule-more, schedule-broken, schedule-none}
 use Rattle.query.proofs.judge_schedule.Statement.{statement}

@@ -1,5 +1,5 @@
 -- `query::judge_sizes` meets its contract. Assumes nothing.
-use borrow.Author.Needs.{needs}
+use Rattle.property.proofs.Basics.{needs}
 use Rattle.graph.proofs.Judging.{then-refused, then-judged}
 use Rattle.query.proofs.judge_sizes.Statement.{statement}
 use Rattle.query.proofs.judge_sizes.Tie as tie

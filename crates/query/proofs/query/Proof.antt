@@ -1,10 +1,5 @@
 -- `query::query` meets its contract. Assumes nothing.
-use borrow.Author.Needs.{needs}
-use native.Mathlib.Omega.{arith}
-use mathlib.Core.Path.{_≡_, sym}
-use Prim.Native.Nat.{ℕ}
-use lib.ListN.{length, replicate}
-use lib.Seq.{length-take-le}
+use Rattle.property.proofs.Basics.{needs, arith, _≡_, sym, ℕ, length, replicate, length-take-le}
 use Rattle.graph.proofs.Judging.{fine-accept}
 use Rattle.graph.proofs.Records.{room-less}
 use Rattle.graph.specs.Limits.{maxVertices}

@@ -1,9 +1,5 @@
 -- `query::query_in` meets its contract. Assumes nothing.
-use borrow.Author.Needs.{needs}
-use native.Mathlib.Omega.{arith}
-use mathlib.Core.Path.{_≡_, sym, ap, _∙_}
-use mathlib.Core.List.{List}
-use Prim.Native.Nat.{ℕ}
+use Rattle.property.proofs.Basics.{needs, arith, _≡_, sym, ap, _∙_, List, ℕ}
 use Rattle.property.specs.Property.{property}
 use Rattle.graph.specs.Edge.{edges}
 use Rattle.graph.specs.Index.{Own}

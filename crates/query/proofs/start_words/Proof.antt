@@ -1,10 +1,5 @@
 -- `query::start_words` meets its contract. The loop's invariant: the words are the bounds over the landmarks from i on. Assumes nothing.
-use borrow.Author.Needs.{needs}
-use native.Mathlib.Omega.{arith}
-use mathlib.Core.Path.{_≡_, refl, sym, ap, _∙_}
-use mathlib.Core.Logic.{⊎-elim}
-use Prim.Native.Nat.{ℕ, _+_, _-_, _<_, _≤_}
-use lib.ListN.{length, getD, set, replicate, length-set, length-replicate}
+use Rattle.property.proofs.Basics.{needs, arith, _≡_, refl, sym, ap, _∙_, ⊎-elim, ℕ, _+_, _-_, _<_, _≤_, length, getD, set, replicate, length-set, length-replicate}
 use Rattle.property.specs.Property.{property}
 use Rattle.graph.proofs.Lists.{at-set, getD-within, replicate-at}
 use Rattle.run.specs.Start.{Landmark, asked}

@@ -1,9 +1,5 @@
 -- `replay::apply_part` meets its contract. Assumes nothing.
-use borrow.Author.Needs.{needs}
-use native.Mathlib.Omega.{arith}
-use mathlib.Core.Path.{_≡_, ap, _∙_}
-use Prim.Native.Nat.{_-_, _≤_, min}
-use lib.ListN.{length}
+use Rattle.property.proofs.Basics.{needs, arith, _≡_, ap, _∙_, _-_, _≤_, min, length}
 use Rattle.network.specs.Batch.{batchCall}
 use Rattle.calls.specs.Code.{network}
 use Rattle.items.specs.Code.{changes}

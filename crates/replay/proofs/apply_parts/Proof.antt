@@ -1,10 +1,5 @@
 -- `replay::apply_parts` meets its contract: what is left of the batches gives, from here, the outcome of all. Assumes nothing.
-use borrow.Author.Needs.{needs}
-use native.Mathlib.Omega.{arith}
-use mathlib.Core.Path.{_≡_, refl, _∙_}
-use mathlib.Core.Logic.{⊎-elim}
-use Prim.Native.Nat.{_+_, _-_, _≤_}
-use lib.ListN.{length, drop}
+use Rattle.property.proofs.Basics.{needs, arith, _≡_, refl, _∙_, ⊎-elim, _+_, _-_, _≤_, length, drop}
 use Rattle.calls.specs.Code.{network}
 use Rattle.items.specs.Code.{changes}
 use Rattle.replay.specs.Replay.{batches, batchesFrom}

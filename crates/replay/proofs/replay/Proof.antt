@@ -1,5 +1,5 @@
 -- `replay::replay` meets its contract. Assumes nothing.
-use borrow.Author.Needs.{needs}
+use Rattle.property.proofs.Basics.{needs}
 use Rattle.replay.proofs.Replaying.{replay-refused, replay-done, replay-ends}
 use Rattle.replay.proofs.replay.Statement.{statement}
 use Rattle.replay.proofs.replay.Tie as tie

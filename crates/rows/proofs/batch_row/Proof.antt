@@ -1,7 +1,5 @@
 -- `rows::batch_row` meets its contract. Assumes nothing.
-use borrow.Author.Needs.{needs}
-use native.Mathlib.Omega.{arith}
-use mathlib.Core.Path.{refl, _∙_}
+use Rattle.property.proofs.Basics.{needs, arith, refl, _∙_}
 use Rattle.rows.proofs.Row.{row-done}
 use Rattle.rows.proofs.batch_row.Statement.{statement}
 use Rattle.rows.proofs.batch_row.Tie as tie

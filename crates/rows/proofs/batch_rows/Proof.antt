@@ -1,10 +1,5 @@
 -- `rows::batch_rows` meets its contract. Assumes nothing.
-use borrow.Author.Needs.{needs}
-use native.Mathlib.Omega.{arith}
-use mathlib.Core.Path.{refl, sym, _∙_}
-use Prim.Native.Nat.{_+_, _-_, _*_, _≤_}
-use lib.ListN.{length}
-use mathlib.Core.List.{List}
+use Rattle.property.proofs.Basics.{needs, arith, refl, sym, _∙_, _+_, _-_, _*_, _≤_, length, List}
 use Rattle.graph.specs.Edge.{Edge}
 use Rattle.network.specs.Network.{rowCount}
 use Rattle.calls.proofs.Flat.{row-size}

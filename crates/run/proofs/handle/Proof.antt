@@ -1,12 +1,6 @@
 -- `run::handle` meets its contract. The loop's invariant: the edges that are left, from the state now, come to what all edges of the vertex come
 -- to from the state in which its bit is cleared; and the vertex keeps its word, which is read once. Assumes nothing.
-use mathlib.Core.Path.{_≡_, refl, sym, ap, _∙_}
-use mathlib.Core.Bool.{false}
-use mathlib.Core.List.{foldl}
-use Prim.Native.Nat.{ℕ, _+_, _-_, _≤_, _<_}
-use native.Mathlib.Omega.{arith}
-use borrow.Author.Needs.{needs}
-use lib.ListN.{getD, length}
+use Rattle.property.proofs.Basics.{_≡_, refl, sym, ap, _∙_, false, foldl, ℕ, _+_, _-_, _≤_, _<_, arith, needs, getD, length}
 use Rattle.property.specs.Property.{property, M}
 use Rattle.property.proofs.Instances.{property-laws}
 use Rattle.graph.specs.Limits.{maxEdges}

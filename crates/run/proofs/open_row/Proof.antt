@@ -1,6 +1,5 @@
 -- `run::open_row` meets its contract. Assumes nothing.
-use borrow.Author.Needs.{needs}
-use lib.ListN.{length}
+use Rattle.property.proofs.Basics.{needs, length}
 use Rattle.property.specs.Property.{property}
 use Rattle.run.proofs.Starts.{opened-state, opened-sized}
 use Rattle.run.proofs.open_row.Statement.{statement}

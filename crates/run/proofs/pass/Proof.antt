@@ -1,11 +1,6 @@
 -- `run::pass` meets its contract. The loop's invariant: the entries that are left, from the state now, come to what the schedule comes to from the
 -- state at entry. Assumes nothing.
-use mathlib.Core.Path.{_≡_, refl}
-use mathlib.Core.List.{List, foldl}
-use Prim.Native.Nat.{_-_, _*_, _≤_}
-use native.Mathlib.Omega.{arith}
-use borrow.Author.Needs.{needs}
-use lib.ListN.{length, drop, drop-of-length-le}
+use Rattle.property.proofs.Basics.{_≡_, refl, List, foldl, _-_, _*_, _≤_, arith, needs, length, drop, drop-of-length-le}
 use Rattle.property.specs.Property.{property}
 use Rattle.graph.specs.Limits.{maxEdges}
 use Rattle.graph.specs.Edge.{Edge}

@@ -1,7 +1,5 @@
 -- `run::relax` meets its contract. Assumes nothing.
-use mathlib.Core.Path.{sym, _∙_}
-use native.Mathlib.Omega.{arith}
-use borrow.Author.Needs.{needs}
+use Rattle.property.proofs.Basics.{sym, _∙_, arith, needs}
 use Rattle.property.specs.Property.{property}
 use Rattle.run.proofs.States.{ran-none, ran-store, relax-stores, relax-keeps}
 use Rattle.run.proofs.relax.Statement.{statement}

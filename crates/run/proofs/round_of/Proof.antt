@@ -1,11 +1,6 @@
 -- `run::round_of` meets its contract. The loop's invariant: the vertices from `i` on, visited from the state now, come to what all come to from the
 -- state in which the round begins. Assumes nothing.
-use mathlib.Core.Path.{_≡_, sym, _∙_}
-use mathlib.Core.List.{List, foldl}
-use Prim.Native.Nat.{_-_, _*_, _≤_, _<_}
-use native.Mathlib.Nat.{sub-zero}
-use native.Mathlib.Omega.{arith}
-use borrow.Author.Needs.{needs}
+use Rattle.property.proofs.Basics.{_≡_, sym, _∙_, List, foldl, _-_, _*_, _≤_, _<_, sub-zero, arith, needs}
 use Rattle.property.specs.Property.{property}
 use Rattle.frontier.specs.Waiting.{waitingOf}
 use Rattle.frontier.proofs.Laws.{First, next-first, next-none}

@@ -1,7 +1,5 @@
 -- `run::run_from` meets its contract. Assumes nothing.
-use borrow.Author.Needs.{needs}
-use native.Mathlib.Omega.{arith}
-use mathlib.Core.Path.{ap, _∙_}
+use Rattle.property.proofs.Basics.{needs, arith, ap, _∙_}
 use Rattle.property.specs.Property.{property}
 use Rattle.run.specs.Run.{settle}
 use Rattle.run.proofs.States.{ran-then}

@@ -1,6 +1,5 @@
 -- `run::run_unscheduled` meets its contract: nothing is gone through. Assumes nothing.
-use borrow.Author.Needs.{needs}
-use native.Mathlib.Omega.{arith}
+use Rattle.property.proofs.Basics.{needs, arith}
 use Rattle.run.specs.Run.{pass}
 use Rattle.run.proofs.States.{ran-within}
 use Rattle.run.proofs.run_unscheduled.Statement.{statement}

@@ -1,12 +1,6 @@
 -- `run::settle` meets its contract. The loop's invariant: the rounds that are left, from the state now, come to what `n` rounds come to from the
 -- state at entry. Assumes nothing.
-use mathlib.Core.Path.{_≡_, sym, _∙_}
-use mathlib.Core.List.{List}
-use Prim.Native.Nat.{_-_, _*_, _≤_}
-use native.Mathlib.Nat.{sub-zero}
-use native.Mathlib.Omega.{arith}
-use borrow.Author.Needs.{needs}
-use borrow.Author.Tests.{not-true, not-false}
+use Rattle.property.proofs.Basics.{_≡_, sym, _∙_, List, _-_, _*_, _≤_, sub-zero, arith, needs, not-true, not-false}
 use Rattle.property.specs.Property.{property}
 use Rattle.graph.specs.Limits.{maxVertices, maxEdges}
 use Rattle.graph.specs.Edge.{Edge}

@@ -1,5 +1,5 @@
 -- `run::start_at` meets its contract. Assumes nothing.
-use borrow.Author.Needs.{needs}
+use Rattle.property.proofs.Basics.{needs}
 use Rattle.run.proofs.Starts.{started-bits, started-marks}
 use Rattle.run.proofs.start_at.Statement.{statement}
 use Rattle.run.proofs.start_at.Tie as tie

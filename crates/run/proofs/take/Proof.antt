@@ -1,7 +1,5 @@
 -- `run::take` meets its contract. Assumes nothing.
-use mathlib.Core.Path.{sym, _∙_}
-use native.Mathlib.Omega.{arith}
-use borrow.Author.Needs.{needs}
+use Rattle.property.proofs.Basics.{sym, _∙_, arith, needs}
 use Rattle.property.specs.Property.{property}
 use Rattle.graph.specs.Limits.{maxEdges}
 use Rattle.run.proofs.States.{ran-none, take-waiting, take-idle, ran-taken}

@@ -1,10 +1,5 @@
 -- `scanner::begins` meets its contract: what is left of the mark, from here on in the line, comes to the same. Assumes nothing.
-use borrow.Author.Needs.{needs}
-use native.Mathlib.Omega.{arith}
-use mathlib.Core.Path.{_≡_, refl, sym, _∙_}
-use Prim.Native.Nat.{_-_, _≤_}
-use borrow.Author.Tests.{not-true, not-false}
-use lib.ListN.{length, drop}
+use Rattle.property.proofs.Basics.{needs, arith, _≡_, refl, sym, _∙_, _-_, _≤_, not-true, not-false, length, drop}
 use Rattle.dimacs.specs.Read.{after}
 use Rattle.scanner.proofs.Fields.{mark-more, mark-other, mark-done}
 use Rattle.scanner.proofs.begins.Statement.{statement}

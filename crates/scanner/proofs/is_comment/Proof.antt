@@ -1,6 +1,5 @@
 -- `scanner::is_comment` meets its contract. Assumes nothing.
-use borrow.Author.Needs.{needs}
-use mathlib.Core.Path.{_∙_}
+use Rattle.property.proofs.Basics.{needs, _∙_}
 use Rattle.scanner.proofs.Fields.{comment-short, comment-space}
 use Rattle.scanner.proofs.is_comment.Statement.{statement}
 use Rattle.scanner.proofs.is_comment.Tie as tie

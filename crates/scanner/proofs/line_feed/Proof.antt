@@ -1,9 +1,5 @@
 -- `scanner::line_feed` meets its contract: no byte passed is a line feed. Assumes nothing.
-use native.Mathlib.Omega.{arith}
-use mathlib.Core.Path.{_≡_, sym}
-use mathlib.Core.Bool.{true}
-use Prim.Native.Nat.{_-_, _≤_}
-use lib.ListN.{length, take, drop}
+use Rattle.property.proofs.Basics.{arith, _≡_, sym, true, _-_, _≤_, length, take, drop}
 use Rattle.dimacs.specs.Lines.{plain}
 use Rattle.dimacs.proofs.Positions.{feed-start, feed-more, feed-ends, feed-open}
 use Rattle.scanner.proofs.line_feed.Statement.{statement}

@@ -1,11 +1,7 @@
 -- `sides::batch_sides` meets its contract. Assumes nothing.
-use native.Mathlib.Omega.{arith}
-use mathlib.Core.Path.{_≡_, refl, sym, _∙_}
-use Prim.Native.Nat.{_*_}
-use lib.ListN.{length}
+use Rattle.property.proofs.Basics.{arith, _≡_, refl, sym, _∙_, _*_, length, needs}
 use Rattle.network.specs.Network.{rowCount}
 use Rattle.sides.proofs.Turning.{side-forward, side-backward, sides-waiting, sides-written}
-use borrow.Author.Needs.{needs}
 use Rattle.sides.proofs.batch_sides.Statement.{statement}
 use Rattle.sides.proofs.batch_sides.Tie as tie
 

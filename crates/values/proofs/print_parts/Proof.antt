@@ -1,9 +1,5 @@
 -- `values::print_parts` meets its contract: no piece is past the last. Assumes nothing.
-use borrow.Author.Needs.{needs}
-use mathlib.Core.Path.{_≡_, sym}
-use Prim.Native.Nat.{_+_, _-_, _≤_}
-use lib.ListN.{length}
-use lib.Seq.{length-take-le}
+use Rattle.property.proofs.Basics.{needs, _≡_, sym, _+_, _-_, _≤_, length, length-take-le}
 use Rattle.values.proofs.print_parts.Statement.{statement}
 use Rattle.values.proofs.print_parts.Tie as tie
 

@@ -1,8 +1,5 @@
 -- `frontier::slices::any` meets its contract. Assumes nothing.
-use mathlib.Core.Path.{ap, _∙_}
-use mathlib.Core.Bool.{not}
-use borrow.Author.Needs.{needs}
-use lib.Dec.{eqb}
+use Rattle.property.proofs.Basics.{ap, _∙_, not, needs, eqb}
 use Rattle.frontier.specs.Waiting.{waitingOf}
 use Rattle.frontier.proofs.Counts.{any-count}
 use Rattle.frontier.proofs.slices.any.Statement.{statement}

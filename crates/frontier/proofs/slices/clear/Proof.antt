@@ -1,11 +1,6 @@
 -- `frontier::slices::clear` meets its contract. The loop's invariant: the words below `k` are 0, and the others as they were. Assumes nothing.
-use mathlib.Core.Path.{_≡_, ap, _∙_}
-use mathlib.Core.List.{List, _++_}
-use Prim.Native.Nat.{ℕ, _-_, _≤_}
-use native.Mathlib.Omega.{arith}
-use borrow.Author.Needs.{needs}
+use Rattle.property.proofs.Basics.{_≡_, ap, _∙_, List, _++_, ℕ, _-_, _≤_, arith, needs, length, set, drop, replicate, length-set}
 use borrow.Author.Fill.{fill-none, fill-more}
-use lib.ListN.{length, set, drop, replicate, length-set}
 use Rattle.frontier.proofs.Laws.{waiting-cleared}
 use Rattle.frontier.proofs.slices.clear.Statement.{statement}
 use Rattle.frontier.proofs.slices.clear.Tie as tie

@@ -1,5 +1,5 @@
 -- `frontier::slices::contains` meets its contract. Assumes nothing.
-use borrow.Author.Needs.{needs}
+use Rattle.property.proofs.Basics.{needs}
 use Rattle.frontier.proofs.Words.{waiting-test}
 use Rattle.frontier.proofs.slices.contains.Statement.{statement}
 use Rattle.frontier.proofs.slices.contains.Tie as tie

@@ -1,12 +1,7 @@
 -- `frontier::slices::count` meets its contract. The loop's invariant: what was counted, and what waits from word `k` on, make up the whole.
 -- Assumes nothing.
-use mathlib.Core.Path.{_≡_, sym}
-use Prim.Native.Nat.{_+_, _-_}
-use native.Mathlib.Nat.{zero-add}
-use native.Mathlib.Omega.{arith}
-use borrow.Author.Needs.{needs}
+use Rattle.property.proofs.Basics.{_≡_, sym, _+_, _-_, zero-add, arith, needs, length, getD, drop}
 use lib.Count.{ones}
-use lib.ListN.{length, getD, drop}
 use Rattle.frontier.specs.Waiting.{waitingOf, countOf}
 use Rattle.frontier.proofs.Counts.{count-word, count-end, count-words-le}
 use Rattle.frontier.proofs.slices.count.Statement.{statement}

@@ -1,5 +1,5 @@
 -- `frontier::slices::insert` meets its contract. Assumes nothing.
-use borrow.Author.Needs.{needs}
+use Rattle.property.proofs.Basics.{needs}
 use Rattle.frontier.proofs.Words.{waiting-insert}
 use Rattle.frontier.proofs.slices.insert.Statement.{statement}
 use Rattle.frontier.proofs.slices.insert.Tie as tie

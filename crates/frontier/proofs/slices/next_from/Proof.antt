@@ -1,13 +1,7 @@
 -- `frontier::slices::next_from` meets its contract. The loop's invariant is `Turn`. Assumes nothing.
-use mathlib.Core.Path.{_≡_, refl, sym, ap, _∙_}
-use mathlib.Core.List.{List}
-use Prim.Native.Nat.{ℕ, _+_, _-_, _*_, _%_, _^_, _<_}
-use native.Mathlib.Nat.{div-add-mod'}
-use native.Mathlib.Omega.{arith}
-use borrow.Author.Needs.{needs}
+use Rattle.property.proofs.Basics.{_≡_, refl, sym, ap, _∙_, List, ℕ, _+_, _-_, _*_, _%_, _^_, _<_, div-add-mod', arith, needs, length, getD}
 use lib.Bits.{bitAnd}
 use lib.Count.{trailing-le}
-use lib.ListN.{length, getD}
 use Rattle.frontier.specs.Waiting.{waitingOf, nextFrom}
 use Rattle.frontier.proofs.Word.{high-mask}
 use Rattle.frontier.proofs.Seek.{next-end, next-here, next-later}

@@ -1,5 +1,5 @@
 -- `frontier::slices::remove` meets its contract. Assumes nothing.
-use borrow.Author.Needs.{needs}
+use Rattle.property.proofs.Basics.{needs}
 use Rattle.frontier.proofs.Words.{waiting-remove}
 use Rattle.frontier.proofs.slices.remove.Statement.{statement}
 use Rattle.frontier.proofs.slices.remove.Tie as tie

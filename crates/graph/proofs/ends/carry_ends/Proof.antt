@@ -1,11 +1,5 @@
 -- `graph::ends::carry_ends` meets its contract. Assumes nothing.
-use borrow.Author.Needs.{needs}
-use native.Mathlib.Omega.{arith}
-use mathlib.Core.Path.{_≡_, refl, _∙_}
-use mathlib.Core.List.{List}
-use Prim.Native.Nat.{ℕ, _+_, _-_, _<_, _≤_}
-use lib.ListN.{length, getD, length-set}
-use lib.Seq.{getD-set-other}
+use Rattle.property.proofs.Basics.{needs, arith, _≡_, refl, _∙_, List, ℕ, _+_, _-_, _<_, _≤_, length, getD, length-set, getD-set-other}
 use Rattle.graph.specs.Parted.{Ends, Parted}
 use Rattle.graph.proofs.Parted.{parted-first, carry-turn}
 use Rattle.graph.proofs.ends.carry_ends.Statement.{statement}

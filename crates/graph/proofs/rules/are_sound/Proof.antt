@@ -1,10 +1,5 @@
 -- `graph::rules::are_sound` meets its contract. Assumes nothing.
-use borrow.Author.Needs.{needs}
-use native.Mathlib.Omega.{arith}
-use mathlib.Core.Path.{_≡_, refl, sym, _∙_}
-use mathlib.Core.Bool.{true}
-use Prim.Native.Nat.{_-_, _≤_}
-use lib.ListN.{drop}
+use Rattle.property.proofs.Basics.{needs, arith, _≡_, refl, sym, _∙_, true, _-_, _≤_, drop}
 use Rattle.graph.specs.Edge.{edges}
 use Rattle.graph.specs.Table.{follow, rules}
 use Rattle.graph.specs.Code.{edgeAt}

@@ -1,6 +1,5 @@
 -- `graph::rules::follows` meets its contract. Assumes nothing.
-use borrow.Author.Needs.{needs}
-use mathlib.Core.Path.{sym, _∙_}
+use Rattle.property.proofs.Basics.{needs, sym, _∙_}
 use Rattle.graph.specs.Table.{isEdge}
 use Rattle.graph.specs.Code.{edgeAt}
 use Rattle.graph.proofs.Flags.{and-taken, and-left}

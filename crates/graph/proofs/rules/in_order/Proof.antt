@@ -1,5 +1,5 @@
 -- `graph::rules::in_order` meets its contract. Assumes nothing.
-use borrow.Author.Tests.{lt-ltb, le-ltb, eq-eqb, ne-eqb}
+use Rattle.property.proofs.Basics.{lt-ltb, le-ltb, eq-eqb, ne-eqb}
 use Rattle.graph.proofs.rules.in_order.Statement.{statement}
 use Rattle.graph.proofs.rules.in_order.Tie as tie
 

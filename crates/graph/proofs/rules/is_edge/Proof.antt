@@ -1,11 +1,5 @@
 -- `graph::rules::is_edge` meets its contract. Assumes nothing.
-use borrow.Author.Needs.{needs}
-use borrow.Author.Tests.{lt-ltb, le-ltb}
-use mathlib.Core.Path.{_≡_, sym, _∙_}
-use mathlib.Core.Logic.{⊎-elim}
-use mathlib.Core.Bool.{Bool, not, _&&_}
-use Prim.Native.Nat.{ℕ}
-use lib.Dec.{eqb, ltb}
+use Rattle.property.proofs.Basics.{needs, lt-ltb, le-ltb, _≡_, sym, _∙_, ⊎-elim, Bool, not, _&&_, ℕ, eqb, ltb}
 use Rattle.graph.specs.Edge.{edge}
 use Rattle.graph.specs.Table.{isWeight, isEdge}
 use Rattle.graph.proofs.Flags.{and-taken, and-left, and-nest}

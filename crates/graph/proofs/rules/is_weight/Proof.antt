@@ -1,5 +1,5 @@
 -- `graph::rules::is_weight` meets its contract. Assumes nothing.
-use borrow.Author.Tests.{lt-ltb, le-ltb}
+use Rattle.property.proofs.Basics.{lt-ltb, le-ltb}
 use Rattle.graph.proofs.rules.is_weight.Statement.{statement}
 use Rattle.graph.proofs.rules.is_weight.Tie as tie
 

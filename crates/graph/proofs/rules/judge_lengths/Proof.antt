@@ -1,11 +1,5 @@
 -- `graph::rules::judge_lengths` meets its contract. Assumes nothing.
-use borrow.Author.Needs.{needs}
-use borrow.Author.Tests.{lt-ltb, le-ltb}
-use mathlib.Core.Path.{_≡_, sym, ap, _∙_}
-use mathlib.Core.Logic.{⊎-elim}
-use mathlib.Core.Bool.{Bool, _||_}
-use lib.Dec.{ltb}
-use lib.ListN.{length}
+use Rattle.property.proofs.Basics.{needs, lt-ltb, le-ltb, _≡_, sym, ap, _∙_, ⊎-elim, Bool, _||_, ltb, length}
 use Rattle.graph.specs.Limits.{maxEdges}
 use Rattle.graph.specs.Refusal.{refuseIf}
 use Rattle.graph.proofs.Flags.{or-taken, or-left, or-nest}

@@ -1,5 +1,5 @@
 -- `graph::rules::judge_records` meets its contract. Assumes nothing.
-use borrow.Author.Needs.{needs}
+use Rattle.property.proofs.Basics.{needs}
 use Rattle.graph.specs.Code.{told}
 use Rattle.graph.proofs.rules.judge_records.Statement.{statement}
 use Rattle.graph.proofs.rules.judge_records.Tie as tie

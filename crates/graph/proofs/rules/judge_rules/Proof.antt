@@ -1,10 +1,5 @@
 -- `graph::rules::judge_rules` meets its contract. Assumes nothing.
-use borrow.Author.Needs.{needs}
-use borrow.Author.Tests.{not-true, not-false}
-use native.Mathlib.Omega.{arith}
-use mathlib.Core.Path.{_≡_, sym, _∙_}
-use Prim.Native.Nat.{_-_, _≤_}
-use lib.ListN.{drop}
+use Rattle.property.proofs.Basics.{needs, not-true, not-false, arith, _≡_, sym, _∙_, _-_, _≤_, drop}
 use Rattle.graph.specs.Edge.{edges}
 use Rattle.graph.specs.Table.{follow, rules}
 use Rattle.graph.specs.Code.{edgeAt}

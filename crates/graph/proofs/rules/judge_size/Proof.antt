@@ -1,10 +1,5 @@
 -- `graph::rules::judge_size` meets its contract. Assumes nothing.
-use borrow.Author.Needs.{needs}
-use borrow.Author.Tests.{eq-eqb, ne-eqb}
-use mathlib.Core.Path.{_≡_, ap, _∙_}
-use mathlib.Core.Logic.{⊎-elim}
-use mathlib.Core.Bool.{Bool, _||_}
-use lib.Dec.{eqb, ltb}
+use Rattle.property.proofs.Basics.{needs, eq-eqb, ne-eqb, _≡_, ap, _∙_, ⊎-elim, Bool, _||_, eqb, ltb}
 use Rattle.graph.specs.Refusal.{refuseIf}
 use Rattle.graph.proofs.Flags.{or-taken, or-left}
 use Rattle.graph.proofs.rules.judge_size.Statement.{statement}

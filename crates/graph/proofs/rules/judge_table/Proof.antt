@@ -1,5 +1,5 @@
 -- `graph::rules::judge_table` meets its contract. Assumes nothing.
-use borrow.Author.Needs.{needs}
+use Rattle.property.proofs.Basics.{needs}
 use Rattle.graph.proofs.Judging.{table-judged, table-crowded}
 use Rattle.graph.proofs.rules.judge_table.Statement.{statement}
 use Rattle.graph.proofs.rules.judge_table.Tie as tie

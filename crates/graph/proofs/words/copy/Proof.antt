@@ -1,10 +1,5 @@
 -- `graph::words::copy` meets its contract: the words below i are copied. Assumes nothing.
-use borrow.Author.Needs.{needs}
-use native.Mathlib.Omega.{arith}
-use Prim.Native.Nat.{ℕ, _-_, _≤_}
-use mathlib.Core.Path.{_≡_, refl, ap, _∙_}
-use lib.ListN.{length, length-set}
-use lib.Seq.{paste, paste-zero}
+use Rattle.property.proofs.Basics.{needs, arith, ℕ, _-_, _≤_, _≡_, refl, ap, _∙_, length, length-set, paste, paste-zero}
 use Rattle.graph.proofs.Copies.{copy-turn}
 use Rattle.graph.proofs.words.copy.Statement.{statement}
 use Rattle.graph.proofs.words.copy.Tie as tie

@@ -1,9 +1,5 @@
 -- `graph::words::fill` meets its contract: the words below i are filled. Assumes nothing.
-use borrow.Author.Needs.{needs}
-use native.Mathlib.Omega.{arith}
-use Prim.Native.Nat.{_-_, _≤_}
-use mathlib.Core.Path.{_≡_, refl}
-use lib.ListN.{length, take, replicate, length-set}
+use Rattle.property.proofs.Basics.{needs, arith, _-_, _≤_, _≡_, refl, length, take, replicate, length-set}
 use Rattle.graph.proofs.Copies.{fill-turn, fill-done}
 use Rattle.graph.proofs.words.fill.Statement.{statement}
 use Rattle.graph.proofs.words.fill.Tie as tie

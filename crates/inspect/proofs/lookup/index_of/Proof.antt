@@ -1,9 +1,5 @@
 -- `inspect::lookup::index_of` meets its contract: what is left of the list decides. Assumes nothing.
-use borrow.Author.Needs.{needs}
-use native.Mathlib.Nat.{zero-add}
-use Prim.Native.Nat.{_+_, _-_}
-use mathlib.Core.Path.{_≡_}
-use lib.ListN.{length, drop}
+use Rattle.property.proofs.Basics.{needs, zero-add, _+_, _-_, _≡_, length, drop}
 use Rattle.network.specs.Lookup.{indexOf}
 use Rattle.inspect.proofs.LookupLaws.{index-found, index-more, index-none}
 use Rattle.inspect.proofs.lookup.index_of.Statement.{statement}

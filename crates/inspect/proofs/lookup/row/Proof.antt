@@ -1,9 +1,5 @@
 -- `inspect::lookup::row` meets its contract. Assumes nothing.
-use borrow.Author.Needs.{needs}
-use native.Mathlib.Omega.{arith}
-use mathlib.Core.Path.{_≡_, ap, _∙_}
-use Prim.Native.Nat.{ℕ, _+_, _*_, _≤_}
-use lib.ListN.{length}
+use Rattle.property.proofs.Basics.{needs, arith, _≡_, ap, _∙_, ℕ, _+_, _*_, _≤_, length}
 use Rattle.network.specs.Query.{rowAt}
 use Rattle.network.specs.Lookup.{indexOf}
 use Rattle.inspect.proofs.LookupLaws.{Shown, lookup-accept, row-refused, row-forward, row-backward, part-refused, part-forward, part-backward}

@@ -1,9 +1,5 @@
 -- `inspect::lookup::row_number` meets its contract: one refusal after the other. Assumes nothing.
-use borrow.Author.Needs.{needs}
-use mathlib.Core.Path.{_≡_, sym, ap, _∙_}
-use mathlib.Core.Logic.{⊎-elim}
-use mathlib.Core.Bool.{Bool, not, _||_}
-use lib.Dec.{ltb}
+use Rattle.property.proofs.Basics.{needs, _≡_, sym, ap, _∙_, ⊎-elim, Bool, not, _||_, ltb}
 use Rattle.graph.proofs.Judging.{then-refused, then-judged, if-refused, if-judged}
 use Rattle.property.specs.Property.{isProperty}
 use Rattle.graph.specs.declared.Judged.{Judged}

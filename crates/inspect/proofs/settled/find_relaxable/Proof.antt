@@ -1,5 +1,5 @@
 -- `inspect::settled::find_relaxable` meets its contract. Assumes nothing.
-use borrow.Author.Needs.{needs}
+use Rattle.property.proofs.Basics.{needs}
 use Rattle.graph.proofs.Judging.{fine-accept}
 use Rattle.network.specs.Settled.{settledCall}
 use Rattle.inspect.proofs.Checking.{checking-refused, checking-accepted}

@@ -1,14 +1,6 @@
 -- `inspect::settled::first_spot` meets its contract: each loop's invariant says that what is left from here on gives the whole
 -- check. Assumes nothing.
-use borrow.Author.Needs.{needs}
-use native.Mathlib.Omega.{arith}
-use Prim.Native.Nat.{_+_, _-_, _<_, _≤_}
-use mathlib.Core.Path.{_≡_, refl, sym, _∙_}
-use mathlib.Core.Bool.{cond}
-use mathlib.Core.List.{List}
-use Prim.Native.Nat.{ℕ}
-use lib.ListN.{drop}
-use lib.Dec.{eqb}
+use Rattle.property.proofs.Basics.{needs, arith, _+_, _-_, _<_, _≤_, _≡_, refl, sym, _∙_, cond, List, ℕ, drop, eqb}
 use Rattle.graph.specs.Edge.{edges, range}
 use Rattle.graph.proofs.Records.{room-less}
 use Rattle.inspect.specs.declared.Checked.the-variants as checked

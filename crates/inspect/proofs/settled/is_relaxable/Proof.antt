@@ -1,5 +1,5 @@
 -- `inspect::settled::is_relaxable` meets its contract. Assumes nothing.
-use borrow.Author.Needs.{needs}
+use Rattle.property.proofs.Basics.{needs}
 use Rattle.inspect.proofs.Checking.{relaxable-told}
 use Rattle.inspect.proofs.settled.is_relaxable.Statement.{statement}
 use Rattle.inspect.proofs.settled.is_relaxable.Tie as tie

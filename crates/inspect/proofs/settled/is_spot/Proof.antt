@@ -1,6 +1,5 @@
 -- `inspect::settled::is_spot` meets its contract. Assumes nothing.
-use borrow.Author.Needs.{needs}
-use mathlib.Core.Path.{_∙_}
+use Rattle.property.proofs.Basics.{needs, _∙_}
 use Rattle.graph.specs.Code.{edgeAt}
 use Rattle.network.specs.Network.{propertyOf}
 use Rattle.inspect.proofs.Checking.{spot-forward, spot-backward}

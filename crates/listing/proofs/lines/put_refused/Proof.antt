@@ -1,6 +1,5 @@
 -- `listing::lines::put_refused` meets its contract. Assumes nothing.
-use borrow.Author.Needs.{needs}
-use native.Mathlib.Omega.{arith}
+use Rattle.property.proofs.Basics.{needs, arith}
 use Rattle.listing.proofs.Rows.{refused-fields, refused-most}
 use Rattle.listing.proofs.lines.put_refused.Statement.{statement}
 use Rattle.listing.proofs.lines.put_refused.Tie as tie

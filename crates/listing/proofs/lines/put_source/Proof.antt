@@ -1,9 +1,5 @@
 -- `listing::lines::put_source` meets its contract. Assumes nothing.
-use borrow.Author.Needs.{needs}
-use mathlib.Core.Path.{_≡_, sym}
-use Prim.Native.Nat.{ℕ}
-use lib.ListN.{length, replicate, take}
-use lib.Seq.{length-take-le}
+use Rattle.property.proofs.Basics.{needs, _≡_, sym, ℕ, length, replicate, take, length-take-le}
 use Rattle.graph.specs.Limits.{maxVertices}
 use Rattle.listing.proofs.lines.put_source.Statement.{statement}
 use Rattle.listing.proofs.lines.put_source.Tie as tie

@@ -1,7 +1,5 @@
 -- `listing::lines::put_source_in` meets its contract: a row for each property, and the lines by them. Assumes nothing.
-use borrow.Author.Needs.{needs}
-use native.Mathlib.Omega.{arith}
-use mathlib.Core.Path.{refl, _∙_}
+use Rattle.property.proofs.Basics.{needs, arith, refl, _∙_}
 use Rattle.network.specs.Network.{Network}
 use Rattle.calls.specs.Code.{network}
 use Rattle.listing.specs.Listing.{graph}

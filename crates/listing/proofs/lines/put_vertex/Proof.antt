@@ -1,6 +1,5 @@
 -- `listing::lines::put_vertex` meets its contract. Assumes nothing.
-use borrow.Author.Needs.{needs}
-use native.Mathlib.Omega.{arith}
+use Rattle.property.proofs.Basics.{needs, arith}
 use Rattle.listing.proofs.Rows.{line-fields}
 use Rattle.listing.proofs.lines.put_vertex.Statement.{statement}
 use Rattle.listing.proofs.lines.put_vertex.Tie as tie

@@ -1,9 +1,5 @@
 -- `listing::lines::put_vertices` meets its contract: the lines from vertex t on are still to be put. Assumes nothing.
-use borrow.Author.Needs.{needs}
-use native.Mathlib.Omega.{arith}
-use mathlib.Core.Path.{_≡_}
-use mathlib.Core.List.{List, [], _∷_}
-use Prim.Native.Nat.{ℕ, _+_, _-_, _≤_}
+use Rattle.property.proofs.Basics.{needs, arith, _≡_, List, [], _∷_, ℕ, _+_, _-_, _≤_}
 use Rattle.graph.specs.Edge.{range}
 use Rattle.writer.proofs.Laid.{Pending, pending-start, pending-fits, pending-turn, pending-done}
 use Rattle.listing.specs.Code.{rowsLine, rowsLines}

@@ -1,9 +1,5 @@
 -- `listing::lines::settle_row` meets its contract. Assumes nothing.
-use borrow.Author.Needs.{needs}
-use mathlib.Core.Path.{refl, sym, ap, _∙_}
-use Prim.Native.Nat.{ℕ}
-use lib.ListN.{replicate}
-use lib.Seq.{length-take-le}
+use Rattle.property.proofs.Basics.{needs, refl, sym, ap, _∙_, ℕ, replicate, length-take-le}
 use Rattle.graph.specs.Limits.{maxVertices}
 use Rattle.calls.specs.Code.{network}
 use Rattle.listing.proofs.Rows.{row-settled}

@@ -1,8 +1,5 @@
 -- `listing::parts::part_count` meets its contract. Assumes nothing.
-use borrow.Author.Needs.{needs}
-use native.Mathlib.Omega.{arith}
-use mathlib.Core.Path.{sym, ap}
-use lib.ListN.{length}
+use Rattle.property.proofs.Basics.{needs, arith, sym, ap, length}
 use Rattle.listing.proofs.Pieces.{parts-refused, fine-accepts, parts-count}
 use Rattle.listing.proofs.parts.part_count.Statement.{statement}
 use Rattle.listing.proofs.parts.part_count.Tie as tie

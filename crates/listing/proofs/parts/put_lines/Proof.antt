@@ -1,9 +1,5 @@
 -- `listing::parts::put_lines` meets its contract. Assumes nothing.
-use borrow.Author.Needs.{needs}
-use native.Mathlib.Omega.{arith}
-use mathlib.Core.Path.{sym}
-use Prim.Native.Nat.{ℕ, _*_, _≤_}
-use lib.Seq.{length-take-le}
+use Rattle.property.proofs.Basics.{needs, arith, sym, ℕ, _*_, _≤_, length-take-le}
 use Rattle.property.specs.Property.{properties}
 use Rattle.dimacs.specs.Network.{readNetwork}
 use Rattle.dimacs.specs.Call.{edgesRead}

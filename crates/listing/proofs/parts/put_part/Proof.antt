@@ -1,8 +1,5 @@
 -- `listing::parts::put_part` meets its contract: a refusal, the header, or the lines of a source. Assumes nothing.
-use borrow.Author.Needs.{needs}
-use native.Mathlib.Omega.{arith}
-use mathlib.Core.Path.{_≡_}
-use Prim.Native.Nat.{_+_, _-_}
+use Rattle.property.proofs.Basics.{needs, arith, _≡_, _+_, _-_}
 use Rattle.listing.specs.Code.{parts}
 use Rattle.listing.proofs.Pieces.{parts-refused, fine-accepts, parts-accepted, piece-only, piece-first}
 use Rattle.listing.proofs.parts.put_part.Statement.{statement}

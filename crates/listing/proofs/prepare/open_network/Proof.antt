@@ -1,11 +1,5 @@
 -- `listing::prepare::open_network` meets its contract: the landmarks of choice, and rows of zeros that the opening writes. Assumes nothing.
-use borrow.Author.Needs.{needs}
-use native.Mathlib.Omega.{arith}
-use mathlib.Core.Path.{_≡_, sym, ap, _∙_}
-use mathlib.Core.List.{List}
-use Prim.Native.Nat.{ℕ, _*_, _≤_}
-use lib.ListN.{length, take}
-use lib.Seq.{length-take-le}
+use Rattle.property.proofs.Basics.{needs, arith, _≡_, sym, ap, _∙_, List, ℕ, _*_, _≤_, length, take, length-take-le}
 use Rattle.property.specs.Property.{properties}
 use Rattle.graph.specs.Code.{columns}
 use Rattle.graph.specs.Limits.{maxLandmarks}

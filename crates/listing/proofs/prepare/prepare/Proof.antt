@@ -1,8 +1,5 @@
 -- `listing::prepare::prepare` meets its contract: deck.gr, deck.ss, and the opening. Assumes nothing.
-use borrow.Author.Needs.{needs}
-use native.Mathlib.Omega.{arith}
-use mathlib.Core.Path.{refl, ap, _∙_}
-use Prim.Native.Nat.{ℕ, _≤_}
+use Rattle.property.proofs.Basics.{needs, arith, refl, ap, _∙_, ℕ, _≤_}
 use Rattle.graph.specs.Limits.{maxVertices}
 use Rattle.graph.proofs.Judging.{size-accept}
 use Rattle.reader.specs.declared.network_text.ReadReply.the-variants as graphs

@@ -1,7 +1,5 @@
 -- `listing::prepare::read_graph` meets its contract: a file that is not too long is read into lists of zeros. Assumes nothing.
-use borrow.Author.Needs.{needs}
-use native.Mathlib.Omega.{arith}
-use mathlib.Core.Path.{ap, _∙_}
+use Rattle.property.proofs.Basics.{needs, arith, ap, _∙_}
 use Rattle.graph.specs.Table.{Columns}
 use Rattle.dimacs.specs.Call.{readCall}
 use Rattle.listing.proofs.Reading.{zero-columns, graph-long, graph-read}

@@ -1,6 +1,5 @@
 -- `listing::prepare::read_list` meets its contract. Assumes nothing.
-use borrow.Author.Needs.{needs}
-use native.Mathlib.Omega.{arith}
+use Rattle.property.proofs.Basics.{needs, arith}
 use Rattle.listing.proofs.Reading.{sources-long, sources-read}
 use Rattle.listing.proofs.prepare.read_list.Statement.{statement}
 use Rattle.listing.proofs.prepare.read_list.Tie as tie

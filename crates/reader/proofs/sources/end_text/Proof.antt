@@ -1,6 +1,5 @@
 -- `reader::sources::end_text` meets its contract. Assumes nothing.
-use borrow.Author.Needs.{needs}
-use native.Mathlib.Omega.{arith}
+use Rattle.property.proofs.Basics.{needs, arith}
 use Rattle.reader.specs.SourcesCode.{readOf}
 use Rattle.reader.proofs.SourcesSteps.{held-inside, end-early, end-short, end-whole}
 use Rattle.reader.proofs.sources.end_text.Statement.{statement}

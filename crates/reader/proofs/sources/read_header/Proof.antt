@@ -1,6 +1,5 @@
 -- `reader::sources::read_header` meets its contract. Assumes nothing.
-use mathlib.Core.Path.{sym, ap, _∙_}
-use borrow.Author.Needs.{needs}
+use Rattle.property.proofs.Basics.{sym, ap, _∙_, needs}
 use Rattle.dimacs.specs.Sources.{headerFrom}
 use Rattle.reader.specs.Capped.{capSources}
 use Rattle.scanner.specs.Code.{oneOf}

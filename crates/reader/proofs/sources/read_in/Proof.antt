@@ -1,10 +1,5 @@
 -- `reader::sources::read_in` meets its contract. Assumes nothing.
-use borrow.Author.Needs.{needs}
-use native.Mathlib.Omega.{arith}
-use mathlib.Core.Path.{_≡_, sym, ap, _∙_}
-use Prim.Native.Nat.{_≤_, _<_}
-use lib.ListN.{length}
-use lib.Seq.{length-take-le}
+use Rattle.property.proofs.Basics.{needs, arith, _≡_, sym, ap, _∙_, _≤_, _<_, length, length-take-le}
 use Rattle.graph.specs.Refusal.{accept}
 use Rattle.graph.specs.Table.{size}
 use Rattle.graph.specs.Code.{told}

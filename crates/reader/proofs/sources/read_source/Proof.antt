@@ -1,10 +1,5 @@
 -- `reader::sources::read_source` meets its contract. Assumes nothing.
-use native.Mathlib.Omega.{arith}
-use mathlib.Core.Path.{_≡_, sym, ap, _∙_}
-use mathlib.Core.List.{[], _∷_}
-use mathlib.Core.Option.{bind}
-use lib.ListN.{drop}
-use borrow.Author.Needs.{needs}
+use Rattle.property.proofs.Basics.{arith, _≡_, sym, ap, _∙_, [], _∷_, bind, drop, needs}
 use Rattle.dimacs.specs.Read.{fields}
 use Rattle.dimacs.specs.Sources.{sourceFrom}
 use Rattle.reader.specs.Capped.{capSources}

@@ -1,6 +1,5 @@
 -- `reader::sources::take_header` meets its contract. Assumes nothing.
-use borrow.Author.Needs.{needs}
-use native.Mathlib.Omega.{arith}
+use Rattle.property.proofs.Basics.{needs, arith}
 use Rattle.reader.specs.SourcesCode.{stepOf}
 use Rattle.reader.proofs.SourcesSteps.{header-late, header-stop, header-next}
 use Rattle.reader.proofs.sources.take_header.Statement.{statement}

@@ -1,7 +1,5 @@
 -- `reader::sources::take_item` meets its contract, kind by kind. Assumes nothing.
-use borrow.Author.Needs.{needs}
-use mathlib.Core.Path.{sym, ap, _∙_}
-use mathlib.Core.Option.{bind}
+use Rattle.property.proofs.Basics.{needs, sym, ap, _∙_, bind}
 use Rattle.dimacs.specs.Sources.{act}
 use Rattle.reader.specs.SourcesCode.{itemSaid, stateOf, stepOf}
 use Rattle.reader.proofs.sources.take_item.Statement.{statement}

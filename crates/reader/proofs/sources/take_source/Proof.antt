@@ -1,8 +1,5 @@
 -- `reader::sources::take_source` meets its contract. Assumes nothing.
-use borrow.Author.Needs.{needs}
-use native.Mathlib.Omega.{arith}
-use Prim.Native.Nat.{_≤_, _<_}
-use lib.ListN.{length, length-set}
+use Rattle.property.proofs.Basics.{needs, arith, _≤_, _<_, length, length-set}
 use Rattle.reader.specs.SourcesCode.{stepOf}
 use Rattle.reader.proofs.SourcesSteps.{held-inside, source-early, source-full, source-broken, source-next}
 use Rattle.reader.proofs.sources.take_source.Statement.{statement}

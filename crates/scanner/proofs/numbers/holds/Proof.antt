@@ -1,8 +1,6 @@
 -- `scanner::numbers::holds` meets its contract. Assumes nothing.
-use native.Mathlib.Omega.{arith}
-use mathlib.Core.Path.{sym}
+use Rattle.property.proofs.Basics.{arith, sym, needs}
 use Rattle.scanner.proofs.Fields.{starts-end, starts-at}
-use borrow.Author.Needs.{needs}
 use Rattle.scanner.proofs.numbers.holds.Statement.{statement}
 use Rattle.scanner.proofs.numbers.holds.Tie as tie
 

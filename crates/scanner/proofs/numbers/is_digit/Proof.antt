@@ -1,5 +1,5 @@
 -- `scanner::numbers::is_digit` meets its contract. Assumes nothing.
-use borrow.Author.Tests.{le-leb, lt-leb}
+use Rattle.property.proofs.Basics.{le-leb, lt-leb}
 use Rattle.dimacs.specs.Decimal.{isDigit}
 use Rattle.scanner.proofs.numbers.is_digit.Statement.{statement}
 use Rattle.scanner.proofs.numbers.is_digit.Tie as tie

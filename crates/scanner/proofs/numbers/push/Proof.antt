@@ -1,6 +1,5 @@
 -- `scanner::numbers::push` meets its contract. Assumes nothing.
-use borrow.Author.Needs.{needs}
-use native.Mathlib.Omega.{arith}
+use Rattle.property.proofs.Basics.{needs, arith}
 use Rattle.dimacs.proofs.Digits.{is-digit}
 use Rattle.scanner.proofs.numbers.push.Statement.{statement}
 use Rattle.scanner.proofs.numbers.push.Tie as tie

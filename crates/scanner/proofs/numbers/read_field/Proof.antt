@@ -1,10 +1,7 @@
 -- `scanner::numbers::read_field` meets its contract. Assumes nothing.
-use native.Mathlib.Omega.{arith}
-use mathlib.Core.Path.{sym, ap, _∙_}
-use borrow.Author.Tests.{not-true, not-false}
+use Rattle.property.proofs.Basics.{arith, sym, ap, _∙_, not-true, not-false, needs}
 use Rattle.scanner.specs.Capped.{capNumber}
 use Rattle.scanner.proofs.Fields.{field-not, field-at, starts-inside}
-use borrow.Author.Needs.{needs}
 use Rattle.scanner.proofs.numbers.read_field.Statement.{statement}
 use Rattle.scanner.proofs.numbers.read_field.Tie as tie
 

@@ -1,11 +1,5 @@
 -- `scanner::numbers::read_number` meets its contract: each way out is a law of `number`. Assumes nothing.
-use native.Mathlib.Omega.{arith}
-use mathlib.Core.Path.{sym, ap, _∙_}
-use mathlib.Core.List.{List}
-use mathlib.Core.Option.{some}
-use Prim.Native.Nat.{ℕ}
-use borrow.Author.Tests.{not-true, not-false}
-use borrow.Author.Needs.{needs}
+use Rattle.property.proofs.Basics.{arith, sym, ap, _∙_, List, some, ℕ, not-true, not-false, needs}
 use Rattle.dimacs.proofs.Digits.{is-digit}
 use Rattle.dimacs.proofs.Positions.{number-end, number-zero, number-bad, number-scan}
 use Rattle.scanner.specs.Capped.{capNumber, capScan}

@@ -1,6 +1,5 @@
 -- `scanner::numbers::read_one` meets its contract. Assumes nothing.
-use mathlib.Core.Path.{sym, ap, _∙_}
-use borrow.Author.Needs.{needs}
+use Rattle.property.proofs.Basics.{sym, ap, _∙_, needs}
 use Rattle.scanner.specs.Code.{parsed}
 use Rattle.scanner.proofs.Fields.{put, fields-none, fields-more, fields-over, fields-long}
 use Rattle.scanner.proofs.numbers.read_one.Statement.{statement}

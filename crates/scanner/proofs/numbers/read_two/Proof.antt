@@ -1,6 +1,5 @@
 -- `scanner::numbers::read_two` meets its contract. Assumes nothing.
-use mathlib.Core.Path.{sym, ap, _∙_}
-use borrow.Author.Needs.{needs}
+use Rattle.property.proofs.Basics.{sym, ap, _∙_, needs}
 use Rattle.scanner.specs.Code.{parsed, oneOf}
 use Rattle.scanner.proofs.Fields.{put, fields-none, fields-more}
 use Rattle.scanner.proofs.numbers.read_two.Statement.{statement}

@@ -1,10 +1,5 @@
 -- `scanner::numbers::scan` meets its contract: what is left to read, from the value so far, comes to the same. Assumes nothing.
-use borrow.Author.Needs.{needs}
-use native.Mathlib.Omega.{arith}
-use mathlib.Core.Path.{_≡_, refl, sym, ap, _∙_}
-use Prim.Native.Nat.{ℕ, _+_, _-_, _≤_}
-use borrow.Author.Tests.{not-true, not-false}
-use lib.ListN.{length, drop}
+use Rattle.property.proofs.Basics.{needs, arith, _≡_, refl, sym, ap, _∙_, ℕ, _+_, _-_, _≤_, not-true, not-false, length, drop}
 use Rattle.scanner.specs.Capped.{capScan}
 use Rattle.scanner.proofs.Caps.{scan-more, scan-stop, scan-end}
 use Rattle.scanner.proofs.numbers.scan.Statement.{statement}

@@ -1,7 +1,5 @@
 -- `spelling::spell::spell_batch` meets its contract. Assumes nothing.
-use mathlib.Core.List.{[], _∷_}
-use borrow.Author.Needs.{needs}
-use native.Mathlib.Omega.{arith}
+use Rattle.property.proofs.Basics.{[], _∷_, needs, arith}
 use Rattle.apply.specs.Code.{applying, reporting}
 use Rattle.spelling.specs.Code.{reportWords}
 use Rattle.spelling.proofs.Telling.{setAll-over, setAll-within, refused-tells, accepted-tells}

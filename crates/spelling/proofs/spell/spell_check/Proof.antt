@@ -1,7 +1,5 @@
 -- `spelling::spell::spell_check` meets its contract. Assumes nothing.
-use mathlib.Core.List.{[], _∷_}
-use borrow.Author.Needs.{needs}
-use native.Mathlib.Omega.{arith}
+use Rattle.property.proofs.Basics.{[], _∷_, needs, arith}
 use Rattle.network.specs.Settled.{settled, found}
 use Rattle.inspect.specs.Code.{checking}
 use Rattle.spelling.specs.Code.{checkWords}

@@ -1,8 +1,5 @@
 -- `spelling::spell::spell_choice` meets its contract. Assumes nothing.
-use mathlib.Core.List.{[], _∷_}
-use borrow.Author.Needs.{needs}
-use native.Mathlib.Omega.{arith}
-use lib.ListN.{getD}
+use Rattle.property.proofs.Basics.{[], _∷_, needs, arith, getD}
 use Rattle.spelling.proofs.Telling.{setAll-within}
 use Rattle.spelling.proofs.Choosing.{choice-refused, choice-accepted}
 use Rattle.spelling.proofs.spell.spell_choice.Statement.{statement}

@@ -1,7 +1,5 @@
 -- `spelling::spell::spell_open` meets its contract. Assumes nothing.
-use borrow.Author.Needs.{needs}
-use mathlib.Core.Path.{refl}
-use native.Mathlib.Omega.{arith}
+use Rattle.property.proofs.Basics.{needs, refl, arith}
 use Rattle.open.specs.Code.{opening}
 use Rattle.spelling.specs.Code.{openWords}
 use Rattle.spelling.proofs.Telling.{refused-tells, accepted-tells}

@@ -1,7 +1,5 @@
 -- `spelling::spell::spell_query` meets its contract. Assumes nothing.
-use mathlib.Core.List.{[], _∷_}
-use borrow.Author.Needs.{needs}
-use native.Mathlib.Omega.{arith}
+use Rattle.property.proofs.Basics.{[], _∷_, needs, arith}
 use Rattle.run.specs.Code.{counts}
 use Rattle.query.specs.Code.{answering}
 use Rattle.spelling.specs.Code.{tallyWords}

@@ -1,7 +1,5 @@
 -- `spelling::spell::spell_write` meets its contract. Assumes nothing.
-use mathlib.Core.List.{[], _∷_}
-use borrow.Author.Needs.{needs}
-use native.Mathlib.Omega.{arith}
+use Rattle.property.proofs.Basics.{[], _∷_, needs, arith}
 use Rattle.writer.specs.Code.{writing}
 use Rattle.spelling.specs.Code.{oneWord}
 use Rattle.spelling.proofs.Telling.{setAll-over, refused-tells, accepted-tells}

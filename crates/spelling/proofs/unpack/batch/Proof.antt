@@ -1,9 +1,5 @@
 -- `spelling::unpack::batch` meets its contract. Assumes nothing.
-use borrow.Author.Needs.{needs}
-use mathlib.Core.Path.{ap, _∙_}
-use mathlib.Core.List.{List}
-use Prim.Native.Nat.{ℕ}
-use lib.ListN.{replicate}
+use Rattle.property.proofs.Basics.{needs, ap, _∙_, List, ℕ, replicate}
 use Rattle.graph.specs.Limits.{maxBatch}
 use Rattle.network.specs.Change.{Change}
 use Rattle.network.specs.Batch.{batchCall}

@@ -1,10 +1,5 @@
 -- `spelling::unpack::column` meets its contract: the words below i are copied. Assumes nothing.
-use borrow.Author.Needs.{needs}
-use native.Mathlib.Omega.{arith}
-use Prim.Native.Nat.{ℕ, _-_, _≤_}
-use mathlib.Core.Path.{_≡_, refl, ap, _∙_}
-use lib.ListN.{length, length-set}
-use lib.Seq.{paste, paste-zero}
+use Rattle.property.proofs.Basics.{needs, arith, ℕ, _-_, _≤_, _≡_, refl, ap, _∙_, length, length-set, paste, paste-zero}
 use Rattle.graph.proofs.Copies.{paste-over}
 use Rattle.spelling.specs.Code.{wordsAt}
 use Rattle.spelling.proofs.Unpacking.{words-length, column-turn}

@@ -1,9 +1,5 @@
 -- `writer::network_text::arcs_width` meets its contract: the lines below k are summed. Assumes nothing.
-use borrow.Author.Needs.{needs}
-use native.Mathlib.Omega.{arith}
-use mathlib.Core.Path.{_≡_}
-use Prim.Native.Nat.{_+_, _*_, _-_, _≤_}
-use lib.ListN.{length, drop}
+use Rattle.property.proofs.Basics.{needs, arith, _≡_, _+_, _*_, _-_, _≤_, length, drop}
 use Rattle.graph.specs.Edge.{edges}
 use Rattle.writer.specs.Code.{arcsOf}
 use Rattle.writer.proofs.Text.{arcs-sum, arcs-all}

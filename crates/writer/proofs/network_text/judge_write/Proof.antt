@@ -1,5 +1,5 @@
 -- `writer::network_text::judge_write` meets its contract: one refusal after the other. Assumes nothing.
-use borrow.Author.Needs.{needs}
+use Rattle.property.proofs.Basics.{needs}
 use Rattle.graph.proofs.Judging.{lengths-accept, then-refused, then-judged, fine-accept}
 use Rattle.writer.proofs.network_text.judge_write.Statement.{statement}
 use Rattle.writer.proofs.network_text.judge_write.Tie as tie

@@ -1,9 +1,5 @@
 -- `writer::network_text::problem_width` meets its contract. Assumes nothing.
-use borrow.Author.Needs.{needs}
-use native.Mathlib.Omega.{arith}
-use mathlib.Core.Path.{sym, ap, _∙_}
-use mathlib.Core.List.{[], _∷_}
-use lib.ListN.{length}
+use Rattle.property.proofs.Basics.{needs, arith, sym, ap, _∙_, [], _∷_, length}
 use Rattle.dimacs.specs.Lines.{fieldsOf}
 use Rattle.dimacs.specs.Network.{problemMark}
 use Rattle.writer.proofs.Text.{problem-fields, line-length}

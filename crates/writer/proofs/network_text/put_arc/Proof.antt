@@ -1,5 +1,5 @@
 -- `writer::network_text::put_arc` meets its contract. Assumes nothing.
-use borrow.Author.Needs.{needs}
+use Rattle.property.proofs.Basics.{needs}
 use Rattle.writer.proofs.Text.{arc-fields}
 use Rattle.writer.proofs.network_text.put_arc.Statement.{statement}
 use Rattle.writer.proofs.network_text.put_arc.Tie as tie

@@ -1,8 +1,5 @@
 -- `writer::network_text::put_arcs` meets its contract: the lines from k on are still to be put. Assumes nothing.
-use borrow.Author.Needs.{needs}
-use native.Mathlib.Omega.{arith}
-use Prim.Native.Nat.{_+_, _-_, _≤_}
-use lib.ListN.{drop}
+use Rattle.property.proofs.Basics.{needs, arith, _+_, _-_, _≤_, drop}
 use Rattle.graph.specs.Edge.{edges}
 use Rattle.graph.specs.Code.{edgeAt}
 use Rattle.writer.specs.Code.{arcsOf}

@@ -1,5 +1,5 @@
 -- `writer::network_text::put_problem` meets its contract. Assumes nothing.
-use borrow.Author.Needs.{needs}
+use Rattle.property.proofs.Basics.{needs}
 use Rattle.writer.proofs.Text.{problem-fields}
 use Rattle.writer.proofs.network_text.put_problem.Statement.{statement}
 use Rattle.writer.proofs.network_text.put_problem.Tie as tie

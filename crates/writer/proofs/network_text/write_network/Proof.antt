@@ -1,10 +1,5 @@
 -- `writer::network_text::write_network` meets its contract: judged, measured, and written from the start of the buffer. Assumes nothing.
-use borrow.Author.Needs.{needs}
-use native.Mathlib.Omega.{arith}
-use mathlib.Core.Path.{_≡_, ap}
-use mathlib.Core.List.{List, _++_}
-use Prim.Native.Nat.{ℕ, _+_}
-use lib.ListN.{length, length-append}
+use Rattle.property.proofs.Basics.{needs, arith, _≡_, ap, List, _++_, ℕ, _+_, length, length-append}
 use Rattle.graph.proofs.Judging.{fine-accept}
 use Rattle.graph.specs.Refusal.{accept}
 use Rattle.graph.specs.Edge.{edges}

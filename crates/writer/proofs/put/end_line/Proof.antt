@@ -1,7 +1,5 @@
 -- `writer::put::end_line` meets its contract. Assumes nothing.
-use borrow.Author.Needs.{needs}
-use mathlib.Core.Path.{refl}
-use mathlib.Core.List.{[], _∷_}
+use Rattle.property.proofs.Basics.{needs, refl, [], _∷_}
 use Rattle.dimacs.specs.Lines.{fieldsOf}
 use Rattle.writer.proofs.Laid.{pending-start, pending-fits, pending-turn, pending-last}
 use Rattle.writer.proofs.put.end_line.Statement.{statement}

@@ -1,9 +1,5 @@
 -- `writer::put::fields_width` meets its contract: the bytes of the numbers below i are summed. Assumes nothing.
-use borrow.Author.Needs.{needs}
-use native.Mathlib.Omega.{arith}
-use mathlib.Core.Path.{_≡_}
-use Prim.Native.Nat.{_+_, _*_, _-_, _≤_}
-use lib.ListN.{length, getD, drop}
+use Rattle.property.proofs.Basics.{needs, arith, _≡_, _+_, _*_, _-_, _≤_, length, getD, drop}
 use Rattle.dimacs.specs.Decimal.{digits}
 use Rattle.dimacs.specs.Lines.{fieldsOf}
 use Rattle.writer.proofs.Fields.{width-word, fields-sum, fields-all}

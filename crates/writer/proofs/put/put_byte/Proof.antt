@@ -1,7 +1,5 @@
 -- `writer::put::put_byte` meets its contract. Assumes nothing.
-use borrow.Author.Needs.{needs}
-use mathlib.Core.Path.{refl, sym}
-use mathlib.Core.List.{[], _∷_}
+use Rattle.property.proofs.Basics.{needs, refl, sym, [], _∷_}
 use Rattle.writer.proofs.Laid.{laid-sets}
 use Rattle.writer.proofs.put.put_byte.Statement.{statement}
 use Rattle.writer.proofs.put.put_byte.Tie as tie

@@ -1,7 +1,5 @@
 -- `writer::put::put_field` meets its contract. Assumes nothing.
-use borrow.Author.Needs.{needs}
-use mathlib.Core.Path.{refl}
-use mathlib.Core.List.{[], _∷_}
+use Rattle.property.proofs.Basics.{needs, refl, [], _∷_}
 use Rattle.writer.proofs.Laid.{pending-start, pending-turn, pending-last}
 use Rattle.writer.proofs.put.put_field.Statement.{statement}
 use Rattle.writer.proofs.put.put_field.Tie as tie

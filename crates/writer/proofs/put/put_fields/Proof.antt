@@ -1,8 +1,5 @@
 -- `writer::put::put_fields` meets its contract: the numbers from i on are still to be put. Assumes nothing.
-use borrow.Author.Needs.{needs}
-use native.Mathlib.Omega.{arith}
-use Prim.Native.Nat.{_+_, _-_, _≤_}
-use lib.ListN.{length, drop}
+use Rattle.property.proofs.Basics.{needs, arith, _+_, _-_, _≤_, length, drop}
 use Rattle.dimacs.specs.Lines.{fieldsOf}
 use Rattle.writer.proofs.Laid.{Pending, pending-start, pending-fits, pending-turn, pending-done}
 use Rattle.writer.proofs.Fields.{fields-more, fields-none}

@@ -1,8 +1,5 @@
 -- `writer::put::put_line` meets its contract. Assumes nothing.
-use borrow.Author.Needs.{needs}
-use mathlib.Core.Path.{_≡_}
-use mathlib.Core.List.{List, [], _∷_, _++_, append-assoc}
-use Prim.Native.Nat.{ℕ}
+use Rattle.property.proofs.Basics.{needs, _≡_, List, [], _∷_, _++_, append-assoc, ℕ}
 use Rattle.dimacs.specs.Lines.{fieldsOf}
 use Rattle.writer.proofs.Laid.{Pending, pending-start, pending-fits, pending-turn, pending-last}
 use Rattle.writer.proofs.put.put_line.Statement.{statement}

@@ -1,10 +1,5 @@
 -- `writer::put::put_number` meets its contract: what is still to store from here comes to the same. Assumes nothing.
-use native.Mathlib.Omega.{arith}
-use mathlib.Core.Path.{_≡_, refl, sym, ap, _∙_}
-use mathlib.Core.List.{List}
-use Prim.Native.Nat.{ℕ, _+_, _-_, _≤_}
-use lib.ListN.{length, length-set}
-use lib.Seq.{sets}
+use Rattle.property.proofs.Basics.{arith, _≡_, refl, sym, ap, _∙_, List, ℕ, _+_, _-_, _≤_, length, length-set, sets}
 use Rattle.dimacs.specs.Decimal.{digits}
 use Rattle.writer.proofs.Digits.{pad, digits-pad}
 use Rattle.writer.proofs.Laid.{laid-sets, pad-turn, pad-done}

@@ -1,9 +1,6 @@
 -- `writer::put::put_numbers` meets its contract. Assumes nothing.
-use borrow.Author.Needs.{needs}
+use Rattle.property.proofs.Basics.{needs, _≡_, List, [], _∷_, _++_, append-assoc, ℕ}
 use Rattle.dimacs.specs.Decimal.{digits}
-use mathlib.Core.Path.{_≡_}
-use mathlib.Core.List.{List, [], _∷_, _++_, append-assoc}
-use Prim.Native.Nat.{ℕ}
 use Rattle.dimacs.specs.Lines.{fieldsOf}
 use Rattle.writer.proofs.Laid.{Pending, pending-start, pending-fits, pending-turn, pending-last}
 use Rattle.writer.proofs.put.put_numbers.Statement.{statement}

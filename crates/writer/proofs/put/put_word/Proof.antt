@@ -1,10 +1,5 @@
 -- `writer::put::put_word` meets its contract: the bytes below i are put. Assumes nothing.
-use borrow.Author.Needs.{needs}
-use native.Mathlib.Omega.{arith}
-use mathlib.Core.Path.{_≡_, refl}
-use Prim.Native.Nat.{_-_, _≤_}
-use lib.ListN.{length, length-set}
-use lib.Seq.{paste, paste-zero}
+use Rattle.property.proofs.Basics.{needs, arith, _≡_, refl, _-_, _≤_, length, length-set, paste, paste-zero}
 use Rattle.graph.proofs.Copies.{copy-turn}
 use Rattle.writer.proofs.Laid.{paste-wrote}
 use Rattle.writer.proofs.put.put_word.Statement.{statement}

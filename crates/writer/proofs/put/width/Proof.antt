@@ -1,8 +1,5 @@
 -- `writer::put::width` meets its contract: a number from ten on has one digit more than its tenth. Assumes nothing.
-use native.Mathlib.Omega.{arith}
-use mathlib.Core.Path.{_≡_, refl}
-use Prim.Native.Nat.{_+_, _≤_, _<_}
-use lib.ListN.{length}
+use Rattle.property.proofs.Basics.{arith, _≡_, refl, _+_, _≤_, _<_, length}
 use Rattle.dimacs.specs.Decimal.{digits}
 use Rattle.dimacs.proofs.Widths.{width-small, width-big}
 use Rattle.writer.proofs.put.width.Statement.{statement}
