@@ -22,7 +22,7 @@ use Rattle.graph.proofs.Lists.{mem-index}
 use Rattle.graph.proofs.Lookup.{find-same, find-other}
 use Rattle.graph.proofs.Own.{tails-below, heads-below, weights-range}
 use Rattle.graph.proofs.Records.{edges-length, edges-at, edges-mem}
-use Rattle.affected.specs.Affected.{removed}
+use Rattle.affected.specs.Affected.{absent}
 use Rattle.compare.specs.Code.{before, after, Inside, Lists, Net, Passed, Tables}
 use Rattle.compare.proofs.Among.{found-among, none-among}
 use Rattle.compare.proofs.Listing.{passed-none, passed-more, passed-next, passed-position}
@@ -73,8 +73,8 @@ module _ (n m : ℕ) (ts hs ws : List ℕ) (r : Room m ts hs ws) (a : rules n (e
     place = passed-position n ts′ hs′ ws′ m′ (getD ts i 0) (getD hs i 0) j r′ a′ p (due-first i m ts hs j m′ ts′ hs′ d .1)
 
     -- the edge stands nowhere in the other table
-    lone-removed : due j m′ ts′ hs′ i m ts hs ≡ false → removed (edges ts′ hs′ ws′ m′) (edgeAt ts hs ws i) ≡ true
-    lone-removed e =
+    lone-absent : due j m′ ts′ hs′ i m ts hs ≡ false → absent (edges ts′ hs′ ws′ m′) (edgeAt ts hs ws i) ≡ true
+    lone-absent e =
         let f = find-other ts′ hs′ ws′ m′ r′ n a′ (getD ts i 0) (getD hs i 0) j place (λ l x y. apart l x y) in
         sym (ap not (none-among n ts′ hs′ ws′ m′ r′ a′ (getD ts i 0) (getD hs i 0) (getD ws i 0) (sym f)))
       where
@@ -86,8 +86,8 @@ module _ (n m : ℕ) (ts hs ws : List ℕ) (r : Room m ts hs ws) (a : rules n (e
             true≢false (sym o ∙ q)
 
     -- the weight decides
-    met-removed : due j m′ ts′ hs′ i m ts hs ≡ true → removed (edges ts′ hs′ ws′ m′) (edgeAt ts hs ws i) ≡ not (eqb (getD ws i 0) (getD ws′ j 0))
-    met-removed e =
+    met-absent : due j m′ ts′ hs′ i m ts hs ≡ true → absent (edges ts′ hs′ ws′ m′) (edgeAt ts hs ws i) ≡ not (eqb (getD ws i 0) (getD ws′ j 0))
+    met-absent e =
         let q = met-pair d e in
         let f = find-same ts′ hs′ ws′ m′ r′ n a′ (getD ts i 0) (getD hs i 0) j place (due-first j m′ ts′ hs′ i m ts hs e .0) (q .0) (q .1) in
         sym (ap not (found-among n ts′ hs′ ws′ m′ r′ a′ (getD ts i 0) (getD hs i 0) (getD ws i 0) j (sym f)))
@@ -159,15 +159,15 @@ module _ (n m : ℕ) (ts hs ws : List ℕ) (m′ : ℕ) (ts′ hs′ ws′ : Lis
 
 pub record Half (fs : List Edge) (i g : ℕ) (f A : ℕ → Edge) : Type 0 where
   pub among : (k : ℕ) → k < g → 0 < f k .weight → (a : ℕ) × (a < i) × (A a ≡ f k)
-  pub lacks : (k : ℕ) → k < g → 0 < f k .weight → removed fs (f k) ≡ true
-  pub all : (a : ℕ) → a < i → removed fs (A a) ≡ true → (k : ℕ) × (k < g) × (f k ≡ A a)
+  pub lacks : (k : ℕ) → k < g → 0 < f k .weight → absent fs (f k) ≡ true
+  pub all : (a : ℕ) → a < i → absent fs (A a) ≡ true → (k : ℕ) × (k < g) × (f k ≡ A a)
 
 pub half-none : (fs : List Edge) (f A : ℕ → Edge) → Half fs 0 0 f A
 half-none fs f A = record { among = λ k l. absurd (omega arith); lacks = λ k l. absurd (omega arith); all = λ a l. absurd (omega arith) }
 
 -- what was listed stays, one change more is listed, and i′ edges are gone past
 module _ (fs : List Edge) (i i′ g : ℕ) (f h A : ℕ → Edge) (up : i ≤ i′) (s : (k : ℕ) → k < g → h k ≡ f k) (t : Half fs i g f A) where
-  half-more : (0 < h g .weight → ((a : ℕ) × (a < i′) × (A a ≡ h g)) × (removed fs (h g) ≡ true)) → ((a : ℕ) → i ≤ a → a < i′ → removed fs (A a) ≡ true → h g ≡ A a) → Half fs i′ (g + 1) h A
+  half-more : (0 < h g .weight → ((a : ℕ) × (a < i′) × (A a ≡ h g)) × (absent fs (h g) ≡ true)) → ((a : ℕ) → i ≤ a → a < i′ → absent fs (A a) ≡ true → h g ≡ A a) → Half fs i′ (g + 1) h A
   half-more z y = record {
     among = λ k l w. old k l w (decLt k g);
     lacks = λ k l w. out k l w (decLt k g);
@@ -181,23 +181,23 @@ module _ (fs : List Edge) (i i′ g : ℕ) (f h A : ℕ → Edge) (up : i ≤ i�
       old k l w (yes b) = let x = s k b in let q = t .among k b (rw x at w) in (q .0, (let o : q .0 < i = q .1 in omega arith), q .2 ∙ sym x)
       old k l w (no d) = let e = end k l d in rw e (z (rw e at w) .0)
 
-      out : (k : ℕ) → k < g + 1 → 0 < h k .weight → Dec (k < g) → removed fs (h k) ≡ true
-      out k l w (yes b) = let x = s k b in ap (removed fs) x ∙ t .lacks k b (rw x at w)
+      out : (k : ℕ) → k < g + 1 → 0 < h k .weight → Dec (k < g) → absent fs (h k) ≡ true
+      out k l w (yes b) = let x = s k b in ap (absent fs) x ∙ t .lacks k b (rw x at w)
       out k l w (no d) = let e = end k l d in rw e (z (rw e at w) .1)
 
-      every : (a : ℕ) → a < i′ → removed fs (A a) ≡ true → Dec (a < i) → (k : ℕ) × (k < g + 1) × (h k ≡ A a)
+      every : (a : ℕ) → a < i′ → absent fs (A a) ≡ true → Dec (a < i) → (k : ℕ) × (k < g + 1) × (h k ≡ A a)
       every a l r (yes b) = let q = t .all a b r in (q .0, (let o : q .0 < g = q .1 in omega arith), s (q .0) (q .1) ∙ q .2)
       every a l r (no d) = (g, omega arith, y a (omega arith) l r)
 
   -- none is listed more, and those that are gone past are not absent
-  half-same : ((a : ℕ) → i ≤ a → a < i′ → removed fs (A a) ≡ false) → Half fs i′ g h A
+  half-same : ((a : ℕ) → i ≤ a → a < i′ → absent fs (A a) ≡ false) → Half fs i′ g h A
   half-same y = record {
     among = λ k b w. let x = s k b in let q = t .among k b (rw x at w) in (q .0, (let o : q .0 < i = q .1 in omega arith), q .2 ∙ sym x);
-    lacks = λ k b w. let x = s k b in ap (removed fs) x ∙ t .lacks k b (rw x at w);
+    lacks = λ k b w. let x = s k b in ap (absent fs) x ∙ t .lacks k b (rw x at w);
     all = λ a l r. every a l r (decLt a i);
   }
     where
-      every : (a : ℕ) → a < i′ → removed fs (A a) ≡ true → Dec (a < i) → (k : ℕ) × (k < g) × (h k ≡ A a)
+      every : (a : ℕ) → a < i′ → absent fs (A a) ≡ true → Dec (a < i) → (k : ℕ) × (k < g) × (h k ≡ A a)
       every a l r (yes b) = let q = t .all a b r in (q .0, q .1, s (q .0) (q .1) ∙ q .2)
       every a l r (no d) = absurd (true≢false (sym r ∙ y a (omega arith) l))
 
@@ -206,11 +206,11 @@ module _ (fs : List Edge) (i g : ℕ) (f h A : ℕ → Edge) (s : (k : ℕ) → 
   this : (a : ℕ) → i ≤ a → a < i + 1 → i ≡ a
   this a l b = omega arith
 
-  half-list : removed fs (A i) ≡ true → h g ≡ A i → Half fs (i + 1) (g + 1) h A
-  half-list r e = half-more fs i (i + 1) g f h A (omega arith) s t (λ w. ((i, omega arith, sym e), ap (removed fs) e ∙ r)) (λ a l b q. e ∙ ap A (this a l b))
+  half-list : absent fs (A i) ≡ true → h g ≡ A i → Half fs (i + 1) (g + 1) h A
+  half-list r e = half-more fs i (i + 1) g f h A (omega arith) s t (λ w. ((i, omega arith, sym e), ap (absent fs) e ∙ r)) (λ a l b q. e ∙ ap A (this a l b))
 
-  half-skip : removed fs (A i) ≡ false → Half fs (i + 1) g h A
-  half-skip r = half-same fs i (i + 1) g f h A (omega arith) s t (λ a l b. ap (λ (x : ℕ). removed fs (A x)) (sym (this a l b)) ∙ r)
+  half-skip : absent fs (A i) ≡ false → Half fs (i + 1) g h A
+  half-skip r = half-same fs i (i + 1) g f h A (omega arith) s t (λ a l b. ap (λ (x : ℕ). absent fs (A x)) (sym (this a l b)) ∙ r)
 
   -- none is, and what is listed more has no weight
   half-stay : h g .weight ≡ 0 → Half fs i (g + 1) h A
@@ -334,11 +334,11 @@ module _ (n m : ℕ) (ts hs ws : List ℕ) (m′ : ℕ) (ts′ hs′ ws′ : Lis
         pair : (f .tail ≡ e .tail) × (f .head ≡ e .head)
         pair = met-pair n m ts hs ws (t .old .1) (t .old .2) m′ ts′ hs′ ws′ (t .new .1) (t .new .2) i j d h
 
-        gone : removed (edges ts′ hs′ ws′ m′) e ≡ not (eqb (e .weight) (f .weight))
-        gone = met-removed n m ts hs ws (t .old .1) (t .old .2) m′ ts′ hs′ ws′ (t .new .1) (t .new .2) i j (wk .behind li) d h
+        gone : absent (edges ts′ hs′ ws′ m′) e ≡ not (eqb (e .weight) (f .weight))
+        gone = met-absent n m ts hs ws (t .old .1) (t .old .2) m′ ts′ hs′ ws′ (t .new .1) (t .new .2) i j (wk .behind li) d h
 
-        come : removed (edges ts hs ws m) f ≡ not (eqb (f .weight) (e .weight))
-        come = met-removed n m′ ts′ hs′ ws′ (t .new .1) (t .new .2) m ts hs ws (t .old .1) (t .old .2) j i (wk .ahead lj) h d
+        come : absent (edges ts hs ws m) f ≡ not (eqb (f .weight) (e .weight))
+        come = met-absent n m′ ts′ hs′ ws′ (t .new .1) (t .new .2) m ts hs ws (t .old .1) (t .old .2) j i (wk .ahead lj) h d
 
         pick : (q : Bool) → eqb (e .weight) (f .weight) ≡ q → Walk n m ts hs ws m′ ts′ hs′ ws′ (stored xs g (e .tail) (e .head) (e .weight) (f .weight)) (i + 1) (j + 1) (cond q g (g + 1))
         pick true k =
@@ -366,7 +366,7 @@ module _ (n m : ℕ) (ts hs ws : List ℕ) (m′ : ℕ) (ts′ hs′ ws′ : Lis
         rw k
         (made true false d h (e .tail) (e .head) (e .weight) 0 (g + 1) lx ly (omega arith) (let z = wk .few in omega arith)
         (half-list _ i g (before xs) _ (edgeAt ts hs ws) (kept-before xs g (e .tail) (e .head) (e .weight) 0 long (omega arith) (omega arith)) (wk .old)
-        (lone-removed n m ts hs ws (t .old .1) (t .old .2) m′ ts′ hs′ ws′ (t .new .1) (t .new .2) i j (wk .behind li) d h) (stored-before xs g (e .tail) (e .head) (e .weight) 0 long (omega arith) (omega arith)))
+        (lone-absent n m ts hs ws (t .old .1) (t .old .2) m′ ts′ hs′ ws′ (t .new .1) (t .new .2) i j (wk .behind li) d h) (stored-before xs g (e .tail) (e .head) (e .weight) 0 long (omega arith) (omega arith)))
         (half-stay _ j g (after xs) _ (edgeAt ts′ hs′ ws′) (kept-after xs g (e .tail) (e .head) (e .weight) 0 long (omega arith) (omega arith)) (wk .new)
         (ap (λ (x : Edge). x .weight) (stored-after xs g (e .tail) (e .head) (e .weight) 0 long (omega arith) (omega arith)))))
 
@@ -385,7 +385,7 @@ module _ (n m : ℕ) (ts hs ws : List ℕ) (m′ : ℕ) (ts′ hs′ ws′ : Lis
         (half-stay _ i g (before xs) _ (edgeAt ts hs ws) (kept-before xs g (f .tail) (f .head) 0 (f .weight) long (omega arith) (omega arith)) (wk .old)
         (ap (λ (x : Edge). x .weight) (stored-before xs g (f .tail) (f .head) 0 (f .weight) long (omega arith) (omega arith))))
         (half-list _ j g (after xs) _ (edgeAt ts′ hs′ ws′) (kept-after xs g (f .tail) (f .head) 0 (f .weight) long (omega arith) (omega arith)) (wk .new)
-        (lone-removed n m′ ts′ hs′ ws′ (t .new .1) (t .new .2) m ts hs ws (t .old .1) (t .old .2) j i (wk .ahead lj) h d) (stored-after xs g (f .tail) (f .head) 0 (f .weight) long (omega arith) (omega arith))))
+        (lone-absent n m′ ts′ hs′ ws′ (t .new .1) (t .new .2) m ts hs ws (t .old .1) (t .old .2) j i (wk .ahead lj) h d) (stored-after xs g (f .tail) (f .head) 0 (f .weight) long (omega arith) (omega arith))))
 
     -- any step
     pub walk-turn : (b c : Bool) → b ≡ due i m ts hs j m′ ts′ hs′ → c ≡ due j m′ ts′ hs′ i m ts hs → (x y o w : ℕ) → x ≡ cond b (e .tail) (f .tail) → y ≡ cond b (e .head) (f .head) → o ≡ cond b (e .weight) 0 → w ≡ cond c (f .weight) 0
@@ -402,12 +402,12 @@ half-done : (ts hs ws : List ℕ) (m : ℕ) (r : Room m ts hs ws) (n : ℕ) → 
     → Half fs m g f (edgeAt ts hs ws) → Lists (edges ts hs ws m) fs j k
 half-done ts hs ws m r n a fs g f k j q s t = rw q (record {
   among = λ i b w. let x = s i b in let z = t .among i b (rw x at w) in rw (x, sym (z .2)) (edges-mem ts hs ws m r (z .0) (z .1));
-  lacks = λ i b w. let x = s i b in ap (removed fs) x ∙ t .lacks i b (rw x at w);
+  lacks = λ i b w. let x = s i b in ap (absent fs) x ∙ t .lacks i b (rw x at w);
   all = λ e i b.
       let z = mem-index (edge 0 0 0) i in
       let l : z .0 < m = (let y = z .1 in omega (arith, edges-length ts hs ws m r)) in
       let p : edgeAt ts hs ws (z .0) ≡ e = sym (edges-at ts hs ws m r (z .0) l) ∙ z .2 in
-      let y = t .all (z .0) l (ap (removed fs) p ∙ b) in
+      let y = t .all (z .0) l (ap (absent fs) p ∙ b) in
       let u = s (y .0) (y .1) ∙ y .2 in
       (y .0, y .1, u ∙ p, rw u (weights-range n m ts hs ws r a (z .0) l .0));
 })

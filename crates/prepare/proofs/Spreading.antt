@@ -105,7 +105,7 @@ module _ (P : Property) (n s : ℕ) (vs : List ℕ) (e : Edge) (head : e .head <
   mark-grown = counted hit refl
 
   -- a removed edge, or one from a marked vertex, marks an affected vertex
-  pub mark-named : (es fs : List Edge) → List·Memᴰ e es → (removed fs e || marked (waitingOf bs) (e .tail)) ≡ true → Named P es fs s vs (waitingOf bs)
+  pub mark-named : (es fs : List Edge) → List·Memᴰ e es → (removed P fs e || marked (waitingOf bs) (e .tail)) ≡ true → Named P es fs s vs (waitingOf bs)
       → Named P es fs s vs (waitingOf bs′)
   mark-named es fs m r g t k =
       ⊎-elim (g t)
@@ -192,7 +192,7 @@ module _ {P : Property} {n s : ℕ} {is : List ℕ} {u j : ℕ} {vs bs ds : List
           going = mark-going P n s vs y head cs es cs′ es′ (at .going) p q;
           grown = grown-then (at .grown) z;
           named = λ xs fs i d.
-              mark-named P n s vs y head cs es cs′ es′ (at .going) p q xs fs (i k low (omega arith)) (or-right (removed fs y) (at .grown .keeps u on))
+              mark-named P n s vs y head cs es cs′ es′ (at .going) p q xs fs (i k low (omega arith)) (or-right (removed P fs y) (at .grown .keeps u on))
               (at .named xs fs (λ o a b. i o a (omega arith)) d);
           along = λ i a b c. pick i c (ℕ-discrete i k) (λ e. at .along i a (omega arith) c);
         }
@@ -303,9 +303,9 @@ module _ (P : Property) (n s : ℕ) (xs vs : List ℕ) (bs ds bs′ ds′ bs″ 
     marks-found heads d =
         closed-exact P es fs s vs n heads (bits n bs″) (bits-length n bs″ (go .marks))
         (λ t h. sp .named fs (k .named es fs (pairs xs) (omega arith) d (λ i h. absurd (false≢true (sym (unmarked i) ∙ h)))) t (sym (bits-all n bs″ (go .marks) t) ∙ h))
-        (λ e i h. bits-all n bs″ (go .marks) (e .head) ∙ shut e i (both (held P s vs e) _ h .0) (removed fs e) refl (both (held P s vs e) _ h .1))
+        (λ e i h. bits-all n bs″ (go .marks) (e .head) ∙ shut e i (both (held P s vs e) _ h .0) (removed P fs e) refl (both (held P s vs e) _ h .1))
       where
-        shut : (e : Edge) → List·Memᴰ e es → held P s vs e ≡ true → (b : Bool) → removed fs e ≡ b → (b || marked (bits n bs″) (e .tail)) ≡ true
+        shut : (e : Edge) → List·Memᴰ e es → held P s vs e ≡ true → (b : Bool) → removed P fs e ≡ b → (b || marked (bits n bs″) (e .tail)) ≡ true
             → marked (waitingOf bs″) (e .head) ≡ true
         shut e i h false r c =
             ⊎-elim (λ a. a) (λ a. absurd (false≢true (sym (idle (e .tail)) ∙ a))) (covered e i h (sym (bits-all n bs″ (go .marks) (e .tail)) ∙ c))

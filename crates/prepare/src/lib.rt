@@ -9,7 +9,7 @@ ghost use mathlib.Core.List.{List};
 ghost use Prim.Native.Nat.{ℕ, _+_, _*_, _<_, _≤_};
 ghost use lib.ListN.{length, getD, set};
 ghost use lib.Dec.{ltb};
-ghost use Rattle.property.specs.Property.{property};
+ghost use Rattle.property.specs.Property.{Property, property};
 ghost use Rattle.frontier.specs.Waiting.{waitingOf, countOf};
 ghost use Rattle.graph.specs.Limits.{maxVertices};
 ghost use Rattle.graph.specs.Arc.{arcHead};
@@ -300,7 +300,7 @@ fn wake_marked(n: usize, into: &[u32], marks: &Words, waiting: &mut Words)
 // Who waits: the tails of all added edges, and of all new edges into marked vertices.
 fn reopen(n: usize, net: &[u32], into: &[u32], marks: &Words, waiting: &mut Words)
     requires { ⌜ Inside n (now net) × Fit n (now into) × Marks n (now marks) ⌝ }
-    ensures { λ _. ⌜ ((es fs : List Edge) (is : List ℕ) → Batched n es fs is (now (into .entry)) (now (net .entry)) → bits n (now (waiting .exit)) ≡ start.reopened es fs (bits n (now (marks .entry))) n) ⌝ }
+    ensures { λ _. ⌜ ((P : Property) (es fs : List Edge) (is : List ℕ) → Batched n es fs is (now (into .entry)) (now (net .entry)) → bits n (now (waiting .exit)) ≡ start.reopened P es fs (bits n (now (marks .entry))) n) ⌝ }
     ensures { λ _. ⌜ Marks n (now (waiting .exit)) ⌝ }
 {
     frontier::clear(waiting);

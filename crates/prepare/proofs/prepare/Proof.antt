@@ -27,7 +27,7 @@ returns c =
     let a = s .args in
     let ms = m .mark-affected .last .1 .1 .1 .1 .1 .1 .0 in
     let k = bits-count (a .n) ms (m .mark-affected .ensures .1) in (
-      (λ es fs d. prepared-made (property (a .p)) es fs (a .s) (a .n) (a .words .now) (m .mark-affected .ensures .0 es fs _ d) (w .copy-cleared .ensures) (o .reopen .ensures .0 es fs _ d)),
+      (λ es fs d. prepared-made (property (a .p)) es fs (a .s) (a .n) (a .words .now) (m .mark-affected .ensures .0 es fs _ d) (w .copy-cleared .ensures) (o .reopen .ensures .0 (property (a .p)) es fs _ d)),
       (
         (λ es fs d. c .count .ensures ∙ k ∙ ap countOf (m .mark-affected .ensures .0 es fs _ d)),
         (o .reopen .ensures .1, (let x = count-le (bits (a .n) ms) in let y = bits-length (a .n) ms (m .mark-affected .ensures .1) in omega (arith, c .count .ensures, k, s .pre .1 .few))),
