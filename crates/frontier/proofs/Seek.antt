@@ -5,12 +5,21 @@
 use Rattle.property.proofs.Basics.{_≡_, sym, ap, ap₂, _∙_, List, _++_, ℕ, _+_, _-_, _*_, _^_, _≤_, _<_, arith, length, getD, drop, drop-of-length-le}
 use native.Mathlib.Nat.{pos-of-ne-zero}
 use lib.Bits.{bitAnd}
-use lib.Count.{trailingZeros}
+use lib.Count.{trailingZeros, trailing-le}
+use mir.Syntax.{w64}
+use mir.Val.{Fits}
 use Rattle.frontier.specs.Waiting.{bitsOf, waitingOf, seek, nextFrom}
 use Rattle.frontier.specs.declared.Next.{Next}
 use Rattle.frontier.specs.declared.Next.the-variants.{At, None}
 use Rattle.frontier.proofs.Word.{seek-mask, seek-word, seek-zero}
 use Rattle.frontier.proofs.Words.{bits-all-length, bits-all-drop, bits-all-word, bits-all-from}
+
+-- the place of a set bit, in its word and in all words, is a `usize`
+pub bit-fits : (w : ℕ) → Fits w64 (trailingZeros 64 w)
+bit-fits w = omega (arith, trailing-le 64 w)
+
+pub place-fits : (q w : ℕ) {m : ℕ} → q < m → 64 * m < 2 ^ 64 → Fits w64 (q * 64 + trailingZeros 64 w)
+place-fits q w l h = omega (arith, trailing-le 64 w)
 
 -- past the last word there is none
 pub next-end : (ws : List ℕ) (q : ℕ) → length ws ≤ q → nextFrom (waitingOf ws) (q * 64) ≡ None

@@ -1,10 +1,9 @@
 -- `frontier::slices::next_from` meets its contract. Assumes nothing.
 use Rattle.property.proofs.Basics.{_≡_, sym, ap, _∙_, List, ℕ, _+_, _-_, _*_, _/_, _%_, _^_, _<_, div-add-mod', lt-of-le-of-lt, arith, needs, length, getD}
 use lib.Bits.{bitAnd, and-le-l}
-use lib.Count.{trailing-le}
 use Rattle.frontier.specs.Waiting.{waitingOf, nextFrom}
 use Rattle.frontier.proofs.Word.{high-mask}
-use Rattle.frontier.proofs.Seek.{first, next-masked, first-here, first-later}
+use Rattle.frontier.proofs.Seek.{bit-fits, place-fits, first, next-masked, first-here, first-later}
 use Rattle.frontier.proofs.slices.next_from.Statement.{statement}
 use Rattle.frontier.proofs.slices.next_from.Tie as tie
 
@@ -14,12 +13,6 @@ masked ws i = bitAnd (getD ws (i / 64) 0) ((2 ^ 64 - 1) * 2 ^ (i % 64) % 2 ^ 64)
 
 here : (ws : List ℕ) (i : ℕ) (l : i / 64 < length ws) → nextFrom (waitingOf ws) i ≡ first ws (i / 64) l (masked ws i)
 here ws i l = ap (nextFrom (waitingOf ws)) (sym (div-add-mod' i 64)) ∙ next-masked ws (i / 64) l (i % 64) _ (omega arith) (high-mask 64 (i % 64) (omega arith))
-
-cast-t14 : tie.Need-cast-t14
-cast-t14 c = let a = c .before .before .before .args in omega (arith, trailing-le 64 (masked (a .ws .now) (a .i)))
-
-add-t15 : tie.Need-add-t15
-add-t15 c = let a = c .before .before .before .args in omega (arith, trailing-le 64 (masked (a .ws .now) (a .i)))
 
 returns : tie.Need-returns
 returns c =
@@ -45,8 +38,8 @@ next-from-spec =
     (λ c. search needs)
     (λ c. search needs)
     (λ c. search needs)
-    cast-t14
-    add-t15
+    (λ c. bit-fits _)
+    (λ c. place-fits _ _ (omega (arith, c .before .before .before .pre .0)) (c .before .before .before .pre .1))
     returns
     (λ c. search needs)
     (λ c κs. search needs)

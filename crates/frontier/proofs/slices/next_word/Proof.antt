@@ -1,8 +1,7 @@
 -- `frontier::slices::next_word` meets its contract. The loop's invariant: nobody waits from word `from` on before word `k`. Assumes nothing.
-use Rattle.property.proofs.Basics.{_≡_, refl, sym, _∙_, _-_, _*_, arith, needs, length, getD}
-use lib.Count.{trailing-le}
+use Rattle.property.proofs.Basics.{_≡_, refl, sym, _∙_, _-_, _*_, needs, length, getD}
 use Rattle.frontier.specs.Waiting.{waitingOf, nextFrom}
-use Rattle.frontier.proofs.Seek.{next-end, next-whole, first-here, first-later}
+use Rattle.frontier.proofs.Seek.{bit-fits, place-fits, next-end, next-whole, first-here, first-later}
 use Rattle.frontier.proofs.slices.next_word.Statement.{statement}
 use Rattle.frontier.proofs.slices.next_word.Tie as tie
 
@@ -11,12 +10,6 @@ Inv-loop ws from k₀ k = nextFrom (waitingOf ws) (from * 64) ≡ nextFrom (wait
 
 abbrev μ-loop : tie.MeasureT-loop
 μ-loop ws from k₀ k = length ws - k
-
-cast-t11 : tie.Need-cast-t11 Inv-loop μ-loop
-cast-t11 c = omega (arith, trailing-le 64 (getD (c .before .before .before .before .args .ws .now) (c .before .before .before .loop .k) 0))
-
-add-t12 : tie.Need-add-t12 Inv-loop μ-loop
-add-t12 c = omega (arith, trailing-le 64 (getD (c .before .before .before .before .args .ws .now) (c .before .before .before .loop .k) 0))
 
 returns : tie.Need-returns Inv-loop μ-loop
 returns c =
@@ -45,8 +38,8 @@ next-word-spec =
     (λ c. search needs)
     (λ c. search needs)
     (λ c. search needs)
-    cast-t11
-    add-t12
+    (λ c. bit-fits _)
+    (λ c. place-fits _ _ (c .before .before .loop-test .taken) (c .before .before .before .before .pre))
     returns
     (λ c. search needs)
     (λ c. search needs)
