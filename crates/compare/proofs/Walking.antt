@@ -10,7 +10,7 @@
 use Rattle.property.proofs.Basics.{_≡_, refl, sym, ap, _∙_, _⊎_, ⊎-elim, Bool, true, false, not, _&&_, cond, true≢false, false≢true, List, List·Memᴰ, ℕ, _+_, _*_, _/_, _≤_, _<_, ℕ-discrete, decLt, arith, length, getD, set, take, length-set, getD-set-same, getD-set-other, length-take-le, getD-take, eqb, ltb, ltb-true, ltb-false, lt-ltb, eqb-true, eqb-false, eq-eqb, ne-eqb, not-true, not-false}
 use Rattle.graph.specs.Limits.{maxVertices, maxEdges, maxWeight}
 use Rattle.graph.specs.Refusal.{accept}
-use Rattle.graph.specs.Arc.{arcHeads, arc, arcHead, arcWeight}
+use Rattle.graph.specs.Arc.{arcWeights, arc, arcHead, arcWeight}
 use Rattle.graph.specs.Edge.{Edge, edge, edges, alike, precedes, among}
 use Rattle.graph.specs.Table.{rules}
 use Rattle.graph.specs.Code.{Room, edgeAt, position}
@@ -221,7 +221,7 @@ module _ (fs : List Edge) (i g : ℕ) (f h A : ℕ → Edge) (s : (k : ℕ) → 
 abbrev pub stored : List ℕ → ℕ → ℕ → ℕ → ℕ → ℕ → List ℕ
 stored xs g t h o w = set (set xs (2 * g) (arc t o)) (2 * g + 1) (arc h w)
 
-module _ (xs : List ℕ) (g t h o w : ℕ) (long : 2 * g + 1 < length xs) (small : t < arcHeads) (short : h < arcHeads) where
+module _ (xs : List ℕ) (g t h o w : ℕ) (long : 2 * g + 1 < length xs) (small : o < arcWeights) (short : w < arcWeights) where
   abbrev here : List ℕ
   here = stored xs g t h o w
 
@@ -286,15 +286,15 @@ module _ (n m : ℕ) (ts hs ws : List ℕ) (m′ : ℕ) (ts′ hs′ ws′ : Lis
     abbrev f : Edge
     f = edgeAt ts′ hs′ ws′ j
 
-    made : (b c : Bool) → due i m ts hs j m′ ts′ hs′ ≡ b → due j m′ ts′ hs′ i m ts hs ≡ c → (x y o w g′ : ℕ) → x < n → y < n → g′ ≤ g + 1 → g′ ≤ cond b (i + 1) i + cond c (j + 1) j
+    made : (b c : Bool) → due i m ts hs j m′ ts′ hs′ ≡ b → due j m′ ts′ hs′ i m ts hs ≡ c → (x y o w g′ : ℕ) → x < n → y < n → o < arcWeights → w < arcWeights → g′ ≤ g + 1 → g′ ≤ cond b (i + 1) i + cond c (j + 1) j
         → Half (edges ts′ hs′ ws′ m′) (cond b (i + 1) i) g′ (before (stored xs g x y o w)) (edgeAt ts hs ws) → Half (edges ts hs ws m) (cond c (j + 1) j) g′ (after (stored xs g x y o w)) (edgeAt ts′ hs′ ws′)
         → Walk n m ts hs ws m′ ts′ hs′ ws′ (stored xs g x y o w) (cond b (i + 1) i) (cond c (j + 1) j) g′
-    made b c d h x y o w g′ lx ly lg fg old new = record {
+    made b c d h x y o w g′ lx ly so sw lg fg old new = record {
       old = old;
       new = new;
       behind = passed-step n m ts hs ws (t .old .1) (t .old .2) m′ ts′ hs′ ws′ (t .new .1) (t .new .2) i j (wk .behind) b c d h _ _ refl refl;
       ahead = passed-step n m′ ts′ hs′ ws′ (t .new .1) (t .new .2) m ts hs ws (t .old .1) (t .old .2) j i (wk .ahead) c b h d _ _ refl refl;
-      inside = λ k l. stored-inside xs g x y o w long (let z = t .few in omega arith) (let z = t .few in omega arith) n lx ly (wk .inside) k (omega arith);
+      inside = λ k l. stored-inside xs g x y o w long so sw n lx ly (wk .inside) k (omega arith);
       low = up b d;
       low′ = up′ c h;
       few = fg;
@@ -325,11 +325,11 @@ module _ (n m : ℕ) (ts hs ws : List ℕ) (m′ : ℕ) (ts′ hs′ ws′ : Lis
         ly : e .head < n
         ly = heads-below n m ts hs ws (t .old .1) (t .old .2) i li
 
-        sx : e .tail < arcHeads
-        sx = let z = t .few in let y = lx in omega arith
+        sx : e .weight < arcWeights
+        sx = let z = weights-range n m ts hs ws (t .old .1) (t .old .2) i li .1 in omega arith
 
-        sy : e .head < arcHeads
-        sy = let z = t .few in let y = ly in omega arith
+        sy : f .weight < arcWeights
+        sy = let z = weights-range n m′ ts′ hs′ ws′ (t .new .1) (t .new .2) j lj .1 in omega arith
 
         pair : (f .tail ≡ e .tail) × (f .head ≡ e .head)
         pair = met-pair n m ts hs ws (t .old .1) (t .old .2) m′ ts′ hs′ ws′ (t .new .1) (t .new .2) i j d h
@@ -342,12 +342,12 @@ module _ (n m : ℕ) (ts hs ws : List ℕ) (m′ : ℕ) (ts′ hs′ ws′ : Lis
 
         pick : (q : Bool) → eqb (e .weight) (f .weight) ≡ q → Walk n m ts hs ws m′ ts′ hs′ ws′ (stored xs g (e .tail) (e .head) (e .weight) (f .weight)) (i + 1) (j + 1) (cond q g (g + 1))
         pick true k =
-            made true true d h (e .tail) (e .head) (e .weight) (f .weight) g lx ly (omega arith) (let z = wk .few in omega arith)
+            made true true d h (e .tail) (e .head) (e .weight) (f .weight) g lx ly sx sy (omega arith) (let z = wk .few in omega arith)
             (half-skip _ i g (before xs) _ (edgeAt ts hs ws) (kept-before xs g (e .tail) (e .head) (e .weight) (f .weight) long sx sy) (wk .old) (gone ∙ ap not k))
             (half-skip _ j g (after xs) _ (edgeAt ts′ hs′ ws′) (kept-after xs g (e .tail) (e .head) (e .weight) (f .weight) long sx sy) (wk .new)
             (come ∙ ap not (eq-eqb (f .weight) (e .weight) (sym (eqb-true (e .weight) (f .weight) k)))))
         pick false k =
-            made true true d h (e .tail) (e .head) (e .weight) (f .weight) (g + 1) lx ly (omega arith) (let z = wk .few in omega arith)
+            made true true d h (e .tail) (e .head) (e .weight) (f .weight) (g + 1) lx ly sx sy (omega arith) (let z = wk .few in omega arith)
             (half-list _ i g (before xs) _ (edgeAt ts hs ws) (kept-before xs g (e .tail) (e .head) (e .weight) (f .weight) long sx sy) (wk .old) (gone ∙ ap not k) (stored-before xs g (e .tail) (e .head) (e .weight) (f .weight) long sx sy))
             (half-list _ j g (after xs) _ (edgeAt ts′ hs′ ws′) (kept-after xs g (e .tail) (e .head) (e .weight) (f .weight) long sx sy) (wk .new)
             (come ∙ ap not (ne-eqb (f .weight) (e .weight) (λ p. eqb-false (e .weight) (f .weight) k (sym p))))
@@ -360,11 +360,10 @@ module _ (n m : ℕ) (ts hs ws : List ℕ) (m′ : ℕ) (ts′ hs′ ws′ : Lis
         let li = due-first i m ts hs j m′ ts′ hs′ d .0 in
         let lx = tails-below n m ts hs ws (t .old .1) (t .old .2) i li in
         let ly = heads-below n m ts hs ws (t .old .1) (t .old .2) i li in
-        let w = weights-range n m ts hs ws (t .old .1) (t .old .2) i li .0 in
-        let z = t .few in
+        let (w, v) = weights-range n m ts hs ws (t .old .1) (t .old .2) i li in
         let k : eqb (e .weight) 0 ≡ false = ne-eqb (e .weight) 0 (λ p. omega arith) in
         rw k
-        (made true false d h (e .tail) (e .head) (e .weight) 0 (g + 1) lx ly (omega arith) (let z = wk .few in omega arith)
+        (made true false d h (e .tail) (e .head) (e .weight) 0 (g + 1) lx ly (omega arith) (omega arith) (omega arith) (let z = wk .few in omega arith)
         (half-list _ i g (before xs) _ (edgeAt ts hs ws) (kept-before xs g (e .tail) (e .head) (e .weight) 0 long (omega arith) (omega arith)) (wk .old)
         (lone-absent n m ts hs ws (t .old .1) (t .old .2) m′ ts′ hs′ ws′ (t .new .1) (t .new .2) i j (wk .behind li) d h) (stored-before xs g (e .tail) (e .head) (e .weight) 0 long (omega arith) (omega arith)))
         (half-stay _ j g (after xs) _ (edgeAt ts′ hs′ ws′) (kept-after xs g (e .tail) (e .head) (e .weight) 0 long (omega arith) (omega arith)) (wk .new)
@@ -377,11 +376,10 @@ module _ (n m : ℕ) (ts hs ws : List ℕ) (m′ : ℕ) (ts′ hs′ ws′ : Lis
         let lj = due-first j m′ ts′ hs′ i m ts hs h .0 in
         let lx = tails-below n m′ ts′ hs′ ws′ (t .new .1) (t .new .2) j lj in
         let ly = heads-below n m′ ts′ hs′ ws′ (t .new .1) (t .new .2) j lj in
-        let w = weights-range n m′ ts′ hs′ ws′ (t .new .1) (t .new .2) j lj .0 in
-        let z = t .few in
+        let (w, v) = weights-range n m′ ts′ hs′ ws′ (t .new .1) (t .new .2) j lj in
         let k : eqb 0 (f .weight) ≡ false = ne-eqb 0 (f .weight) (λ p. omega arith) in
         rw k
-        (made false true d h (f .tail) (f .head) 0 (f .weight) (g + 1) lx ly (omega arith) (let z = wk .few in omega arith)
+        (made false true d h (f .tail) (f .head) 0 (f .weight) (g + 1) lx ly (omega arith) (omega arith) (omega arith) (let z = wk .few in omega arith)
         (half-stay _ i g (before xs) _ (edgeAt ts hs ws) (kept-before xs g (f .tail) (f .head) 0 (f .weight) long (omega arith) (omega arith)) (wk .old)
         (ap (λ (x : Edge). x .weight) (stored-before xs g (f .tail) (f .head) 0 (f .weight) long (omega arith) (omega arith))))
         (half-list _ j g (after xs) _ (edgeAt ts′ hs′ ws′) (kept-after xs g (f .tail) (f .head) 0 (f .weight) long (omega arith) (omega arith)) (wk .new)

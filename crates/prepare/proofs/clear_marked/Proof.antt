@@ -63,7 +63,7 @@ clear-marked-spec =
     Inv-loop
     μ-loop
     loop-holds
-    (λ c κs. search needs)
+    (λ c κs. omega (arith, c .before .before .before .pre .0 .few))
     (λ c. search needs)
     (λ c. search needs)
     (λ c. search needs)
