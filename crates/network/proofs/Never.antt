@@ -56,7 +56,7 @@ batch-judged n ls w b g = (steps n ls w b g) .applied .judged
 
 -- each word of a list fits 32 bits
 abbrev pub FitList : List ℕ → Type 0
-FitList xs = (i : ℕ) → i < length xs → getD xs i 0 ≤ M
+FitList xs = (i : ℕ) → getD xs i 0 ≤ M
 
 -- .. and so does each that is read of a row of it, no route included
 row-fits : (p n r : ℕ) (xs : List ℕ) → FitList xs → (t : ℕ) → word (property p) (row n r xs) t ≤ M
@@ -67,7 +67,7 @@ row-fits p n r xs h t = pick (decLt t (length (row n r xs)))
     pick (yes l) =
         let z : (t < n) × (r * n + t < length xs) = let e = length-take n (drop (r * n) xs) in let g = length-drop (r * n) xs in (omega arith, omega arith) in
         rw (getD-take n (drop (r * n) xs) t (property p .none) (z .0), getD-drop (r * n) xs t (property p .none), getD-within xs (r * n + t) (property p .none) 0 (z .1))
-        (h (r * n + t) (z .1))
+        (h (r * n + t))
 
 -- A query on whatever words of 32 bits the row lists hold is turned back by the numbers before the run alone: nothing waits after n rounds.
 pub query-verdict : (n : ℕ) (ls : List ℕ) (w : Network) (q : Query) (out : Words) → FitList (w .memory .rows .forward) → FitList (w .memory .rows .backward)
