@@ -125,7 +125,23 @@ pub fn open(
     let size = n as usize;
     let edges = count as usize;
     let k = landmarks.len() * property::PROPERTIES * size;
-    open_forward(size, edges, landmarks, tails, heads, weights, &mut forward[..k]);
-    open_backward(size, edges, landmarks, tails, heads, weights, &mut backward[..k]);
+    open_forward(
+        size,
+        edges,
+        landmarks,
+        tails,
+        heads,
+        weights,
+        &mut forward[..k],
+    );
+    open_backward(
+        size,
+        edges,
+        landmarks,
+        tails,
+        heads,
+        weights,
+        &mut backward[..k],
+    );
     Opened::Accepted
 }

@@ -189,7 +189,14 @@ fn query_in(
     graph::words::copy(n, start, settled, 0);
     let mut waiting = frontier::empty();
     run::start_at(n, source, &mut waiting);
-    let tally = run::run_counted(property, n, index, schedule, &mut settled[..n], &mut waiting);
+    let tally = run::run_counted(
+        property,
+        n,
+        index,
+        schedule,
+        &mut settled[..n],
+        &mut waiting,
+    );
     Answered::Settled(tally)
 }
 
