@@ -55,7 +55,7 @@ fn judge_outputs(n: u32, starts: usize, settled: usize) -> Judged
     ensures { λ r. ⌜ told r ≡ shortWords n starts settled ⌝ }
 {
     let words = n as usize;
-    rules::refuse_if(starts < words || settled < words, 2, 0)
+    rules::refuse_if((starts < words) | (settled < words), 2, 0)
 }
 
 // Numbers 5 and 6: no property, a source or an entry of the schedule that is no vertex.
