@@ -1,5 +1,5 @@
 -- `sides::batch_sides` meets its contract. Assumes nothing.
-use Rattle.property.proofs.Basics.{arith, ap, _+_, needs}
+use Rattle.property.proofs.Basics.{arith, _+_, needs}
 use Rattle.sides.proofs.Turning.{side-forward, side-backward}
 use Rattle.sides.proofs.batch_sides.Statement.{statement}
 use Rattle.sides.proofs.batch_sides.Tie as tie
@@ -14,13 +14,13 @@ batch-rows-requires : tie.Need-batch-rows-requires
 batch-rows-requires c κs =
     let s = start c in
     let l = s .pre .0 .2 in
-    (s .pre .0 .1, s .pre .1 .0, record { inside = l .inside; old = l .old; new = l .new; into = l .rnew })
+    (s .pre .0 .1, omega (arith, s .pre .1), record { inside = l .inside; old = l .old; new = l .new; into = l .rnew })
 
 batch-rows-requires-2 : tie.Need-batch-rows-requires-2
 batch-rows-requires-2 c κs =
     let s = start (forward c .before) in
     let l = s .pre .0 .2 in
-    (s .pre .0 .1, s .pre .1 .1, record { inside = c .before .before .before .before .turn .ensures .0 (s .args .n) (l .inside); old = l .rold; new = l .rnew; into = l .new })
+    (s .pre .0 .1, omega (arith, s .pre .1), record { inside = c .before .before .before .before .turn .ensures .0 (s .args .n) (l .inside); old = l .rold; new = l .rnew; into = l .new })
 
 returns : tie.Need-returns
 returns c =
@@ -38,8 +38,8 @@ batch-sides-spec =
     batch-rows-requires
     (λ c κs. search needs)
     batch-rows-requires-2
-    (λ c. let b = c .before .before .before .before in let x = forward (b .before) .batch-rows .ensures .0 .few in let y = b .batch-rows2 .ensures .0 .few in omega arith)
-    (λ c. let b = c .before .before .before .before .before .before in let x = forward (b .before) .batch-rows .ensures .0 .low in let y = b .batch-rows2 .ensures .0 .low in omega arith)
+    (λ c. let b = c .before .before .before .before in let x = forward (b .before) .batch-rows .ensures .0 in let y = b .batch-rows2 .ensures .0 in omega arith)
+    (λ c. let b = c .before .before .before .before .before .before in let x = forward (b .before) .batch-rows .ensures .0 in let y = b .batch-rows2 .ensures .0 in omega arith)
     (λ c. search needs)
     (λ c. search needs)
     (λ c. search needs)
