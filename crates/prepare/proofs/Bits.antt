@@ -1,7 +1,7 @@
 -- Marks of n vertices in words of 64 bits: read, set, cleared, counted. Assumes nothing.
-use Rattle.property.proofs.Basics.{_≡_, refl, sym, ap, _∙_, _⊎_, inl, inr, ⊎-elim, Bool, true, false, cond, List, [], _∷_, ℕ, zero, suc, _≤_, _<_, ℕ-discrete, decLt, arith, length, getD, set, take, List·getD-eq-default, getD-set-other, length-take-le}
+use Rattle.property.proofs.Basics.{_≡_, refl, sym, ap, _∙_, _⊎_, inl, inr, ⊎-elim, Bool, true, false, cond, List, [], _∷_, ℕ, zero, suc, _+_, _≤_, _<_, ℕ-discrete, decLt, arith, length, getD, set, take, List·getD-eq-default, getD-set-other, length-take-le}
 use Rattle.frontier.specs.Waiting.{waitingOf, countOf}
-use Rattle.frontier.proofs.Laws.{count-none}
+use Rattle.frontier.proofs.Laws.{count-none, count-insert}
 use Rattle.graph.proofs.Lists.{at-set}
 use Rattle.run.specs.Code.{bits, Marks}
 use Rattle.run.proofs.States.{bits-at, marks-set}
@@ -18,6 +18,10 @@ module _ (l : List Bool) (h : ℕ) (b : Bool) where
     | true ↦ λ q. elim (ℕ-discrete t h) [ yes p ↦ inr (refl, p) | no d ↦ inl (sym (getD-set-other l h t true false d) ∙ q) ]
     | false ↦ inl
   ]
+
+  -- one bit more, where it was not set
+  pub raise-count : h < length l → (b ≡ true → getD l h false ≡ false) → countOf (cond b (set l h true) l) ≡ cond b 1 0 + countOf l
+  raise-count k = elim b [ true ↦ λ off. omega (arith, count-insert l h k (off refl)) | false ↦ λ off. omega arith ]
 
 -- ---- marks
 

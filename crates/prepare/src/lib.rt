@@ -125,7 +125,7 @@ fn spread_from(
     todo: &mut Words,
 )
     requires { ⌜ (u < n) × (length (now words) ≡ n) × Fit n (now old) ⌝ }
-    requires { ⌜ Going n (now marks) (now todo) × (getD (waitingOf (now marks)) u false ≡ true) ⌝ }
+    requires { ⌜ Going n (now marks) (now todo) ⌝ }
     ensures { λ _. ⌜ Along (property p) n s (now (old .entry)) u (getD (now (old .entry)) u 0) (getD (now (old .entry)) (u + 1) 0) (now (words .entry)) (now (marks .entry)) (now (todo .entry)) (now (marks .exit)) (now (todo .exit)) ⌝ }
 {
     let hi = old[u + 1] as usize;
