@@ -25,14 +25,14 @@ range-snoc i (suc k) =
     let e : suc i + k ≡ i + suc k = omega arith in
     ap (λ l. i ∷ l) (range-snoc (suc i) k ∙ ap (λ x. range (suc i) k ++ (x ∷ [])) e)
 
-range-suc : (r : ℕ) → range 0 (r + 1) ≡ range 0 r ++ (r ∷ [])
+pub range-suc : (r : ℕ) → range 0 (r + 1) ≡ range 0 r ++ (r ∷ [])
 range-suc r =
     let e : 0 + r ≡ r = omega arith in
     rw (add-one, range-snoc 0 r, e)
 
 -- f r is the state in which the run of row r ends
 module _ (f : ℕ → State) where
-  flat-snoc : (rs : List ℕ) (r : ℕ) → flat (map f (rs ++ (r ∷ []))) ≡ flat (map f rs) ++ (f r) .words
+  pub flat-snoc : (rs : List ℕ) (r : ℕ) → flat (map f (rs ++ (r ∷ []))) ≡ flat (map f rs) ++ (f r) .words
   unfolding flat
   flat-snoc [] r = append-nil ((f r) .words)
   flat-snoc (x ∷ rs) r = ap (λ l. (f x) .words ++ l) (flat-snoc rs r) ∙ sym (append-assoc ((f x) .words) (flat (map f rs)) ((f r) .words))
