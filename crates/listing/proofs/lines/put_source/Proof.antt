@@ -7,21 +7,6 @@ use Rattle.listing.proofs.lines.put_source.Tie as tie
 row-length : (s : tie.Start) → length (take {A = ℕ} (s .args .n) (replicate maxVertices 0)) ≡ s .args .n
 row-length s = length-take-le (s .args .n) (replicate maxVertices 0) (s .pre .vertices)
 
-slice-aggregate-put-source-in : tie.Need-slice-aggregate-put-source-in
-slice-aggregate-put-source-in c = sym (row-length (c .before .before .before .before .before .before .before .before))
-
-slice-aggregate-put-source-in-2 : tie.Need-slice-aggregate-put-source-in-2
-slice-aggregate-put-source-in-2 c = sym (row-length (c .before .before .before .before .before .before .before .before .before))
-
-slice-aggregate-put-source-in-3 : tie.Need-slice-aggregate-put-source-in-3
-slice-aggregate-put-source-in-3 c = sym (row-length (c .before .before .before .before .before .before .before .before .before .before))
-
-slice-aggregate-put-source-in-4 : tie.Need-slice-aggregate-put-source-in-4
-slice-aggregate-put-source-in-4 c = sym (row-length (c .before .before .before .before .before .before .before .before .before .before .before))
-
-slice-aggregate-put-source-in-5 : tie.Need-slice-aggregate-put-source-in-5
-slice-aggregate-put-source-in-5 c = sym (row-length (c .before .before .before .before .before .before .before .before .before .before .before .before))
-
 put-source-in-requires : tie.Need-put-source-in-requires
 put-source-in-requires c κs =
     let s = c .before .before .before .before .before .before .before .before .before .before .before .before .before in
@@ -33,15 +18,15 @@ put-source-spec =
     tie.close
     (tie.spec
     (λ c. search needs)
-    slice-aggregate-put-source-in
+    (λ c. sym (row-length (c .before .before .before .before .before .before .before .before)))
     (λ c. search needs)
-    slice-aggregate-put-source-in-2
+    (λ c. sym (row-length (c .before .before .before .before .before .before .before .before .before)))
     (λ c. search needs)
-    slice-aggregate-put-source-in-3
+    (λ c. sym (row-length (c .before .before .before .before .before .before .before .before .before .before)))
     (λ c. search needs)
-    slice-aggregate-put-source-in-4
+    (λ c. sym (row-length (c .before .before .before .before .before .before .before .before .before .before .before)))
     (λ c. search needs)
-    slice-aggregate-put-source-in-5
+    (λ c. sym (row-length (c .before .before .before .before .before .before .before .before .before .before .before .before)))
     put-source-in-requires
     (λ c. search needs)
     (λ c. search needs))

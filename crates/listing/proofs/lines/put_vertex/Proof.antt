@@ -4,21 +4,6 @@ use Rattle.listing.proofs.Rows.{line-fields}
 use Rattle.listing.proofs.lines.put_vertex.Statement.{statement}
 use Rattle.listing.proofs.lines.put_vertex.Tie as tie
 
-cast-t15 : tie.Need-cast-t15
-cast-t15 c = omega (arith, c .shared-slice-known6 .given (c .before .before .before .before .before .before .before .args .vertex))
-
-cast-t19 : tie.Need-cast-t19
-cast-t19 c = omega (arith, c .shared-slice-known7 .given (c .before .before .before .before .before .before .before .before .args .vertex))
-
-cast-t23 : tie.Need-cast-t23
-cast-t23 c = omega (arith, c .shared-slice-known8 .given (c .before .before .before .before .before .before .before .before .before .args .vertex))
-
-cast-t27 : tie.Need-cast-t27
-cast-t27 c = omega (arith, c .shared-slice-known9 .given (c .before .before .before .before .before .before .before .before .before .before .args .vertex))
-
-cast-put-numbers : tie.Need-cast-put-numbers
-cast-put-numbers c = omega (arith, c .shared-slice-known10 .given (c .before .before .before .before .before .before .before .before .before .before .before .args .vertex))
-
 put-numbers-requires : tie.Need-put-numbers-requires
 put-numbers-requires c κs =
     let s = c .before .before .before .before .before .before .before .before .before .before .before .before .before in
@@ -38,19 +23,19 @@ put-vertex-spec =
     (λ c. search needs)
     (λ c. search needs)
     (λ c. search needs)
-    cast-t15
+    (λ c. omega (arith, c .shared-slice-known6 .given (c .before .before .before .before .before .before .before .args .vertex)))
     (λ c. search needs)
     (λ c. search needs)
-    cast-t19
+    (λ c. omega (arith, c .shared-slice-known7 .given (c .before .before .before .before .before .before .before .before .args .vertex)))
     (λ c. search needs)
     (λ c. search needs)
-    cast-t23
+    (λ c. omega (arith, c .shared-slice-known8 .given (c .before .before .before .before .before .before .before .before .before .args .vertex)))
     (λ c. search needs)
     (λ c. search needs)
-    cast-t27
+    (λ c. omega (arith, c .shared-slice-known9 .given (c .before .before .before .before .before .before .before .before .before .before .args .vertex)))
     (λ c. search needs)
     (λ c. search needs)
-    cast-put-numbers
+    (λ c. omega (arith, c .shared-slice-known10 .given (c .before .before .before .before .before .before .before .before .before .before .before .args .vertex)))
     (λ c. search needs)
     (λ c. search needs)
     put-numbers-requires

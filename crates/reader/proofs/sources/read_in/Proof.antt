@@ -49,24 +49,12 @@ copy-requires c κs =
     let l = readOn k .before .before .if1 .left in
     (omega arith, omega arith)
 
-cast-t21 : tie.Need-cast-t21
-cast-t21 c = omega (arith, count (c .before .before .before .before .before .before))
-
-same-length : tie.Need-same-length
-same-length c = c .before .before .before .before .before .read-text .kept .1 .1 .0
-
 returns-3 : tie.Need-returns-3
 returns-3 c =
     let l = c .before in
     let t = l .before .before .before .before in
     let e = t .before .before in
     call-bad _ _ _ (fine (e .before)) (e .if1 .left) (text-bad _ (l .line .given .1) (t .read-text .ensures .0))
-
-same-length-2 : tie.Need-same-length-2
-same-length-2 c = c .before .before .copy .kept .1 .1 .0
-
-same-length-3 : tie.Need-same-length-3
-same-length-3 c = c .before .before .before .before .before .before .before .before .before .before .read-text .kept .1 .1 .0
 
 returns-4 : tie.Need-returns-4
 returns-4 c =
@@ -92,9 +80,9 @@ read-in-spec =
     (λ c. search needs)
     (λ c. search needs)
     copy-requires
-    cast-t21
-    same-length
+    (λ c. omega (arith, count (c .before .before .before .before .before .before)))
+    (λ c. c .before .before .before .before .before .read-text .kept .1 .1 .0)
     returns-3
-    same-length-2
-    same-length-3
+    (λ c. c .before .before .copy .kept .1 .1 .0)
+    (λ c. c .before .before .before .before .before .before .before .before .before .before .read-text .kept .1 .1 .0)
     returns-4)

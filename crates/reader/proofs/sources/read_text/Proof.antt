@@ -44,9 +44,6 @@ loop-holds c =
     let s = c .before .before in
     (refl, record { room = s .pre .1; inside = tt }, omega arith, omega arith, refl)
 
-same-length : tie.Need-same-length Inv-loop μ-loop
-same-length c = c .before .before .before .before .loop .inv .4
-
 returns : tie.Need-returns Inv-loop μ-loop
 unfolding readOf
 returns c =
@@ -54,15 +51,6 @@ returns c =
     let l = f .before .before in
     let s = start l .args .text .now in
     (sym (left-open src.itemIn (src.act _) src.complete s (l .loop .at) (l .loop .k) _ (f .before .loop-test .taken) (ap (splitBy s (l .loop .at)) (sym (c .enum-told .given .1)) ∙ f .line-feed .ensures .0)) ∙ l .loop .inv .0, tt)
-
-sub-take-line : tie.Need-sub-take-line Inv-loop μ-loop
-sub-take-line c = inside (c .before) .0
-
-part-take-line-start : tie.Need-part-take-line-start Inv-loop μ-loop
-part-take-line-start c = inside (c .before) .0
-
-part-take-line-end : tie.Need-part-take-line-end Inv-loop μ-loop
-part-take-line-end c = omega (arith, inside (c .before))
 
 take-line-requires : tie.Need-take-line-requires Inv-loop μ-loop
 take-line-requires c κs =
@@ -74,9 +62,6 @@ add-t19 c =
     let t = c .before .before .before .before in
     let l = turn (t .before .before .before .before) in
     omega (arith, l .loop .inv .3, l .loop .inv .2, start l .good)
-
-same-length-2 : tie.Need-same-length-2 Inv-loop μ-loop
-same-length-2 c = let t = c .before .before .before .before in t .take-line .kept .1 .1 .1 .0 ∙ turn (t .before .before .before .before) .loop .inv .4
 
 returns-2 : tie.Need-returns-2 Inv-loop μ-loop
 unfolding readOf
@@ -117,12 +102,6 @@ loop-again c =
       t .take-line .kept .1 .1 .1 .0 ∙ l .loop .inv .4,
     )
 
-end-text-requires : tie.Need-end-text-requires Inv-loop μ-loop
-end-text-requires c κs = let l = c .before in omega (arith, l .loop .inv .3, l .loop .inv .2, start l .good)
-
-same-length-3 : tie.Need-same-length-3 Inv-loop μ-loop
-same-length-3 c = c .before .before .loop .inv .4
-
 returns-3 : tie.Need-returns-3 Inv-loop μ-loop
 returns-3 c =
     let l = c .before .before in
@@ -141,21 +120,21 @@ read-text-spec =
     (λ c. search needs)
     (λ c. search needs)
     (λ c. omega arith)
-    same-length
+    (λ c. c .before .before .before .before .loop .inv .4)
     returns
-    sub-take-line
-    part-take-line-start
-    part-take-line-end
+    (λ c. inside (c .before) .0)
+    (λ c. inside (c .before) .0)
+    (λ c. omega (arith, inside (c .before)))
     take-line-requires
     (λ c. search needs)
     (λ c. search needs)
     add-t19
-    same-length-2
+    (λ c. let t = c .before .before .before .before in t .take-line .kept .1 .1 .1 .0 ∙ turn (t .before .before .before .before) .loop .inv .4)
     returns-2
     add-at
     add-k
     loop-less
     loop-again
-    end-text-requires
-    same-length-3
+    (λ c κs. let l = c .before in omega (arith, l .loop .inv .3, l .loop .inv .2, start l .good))
+    (λ c. c .before .before .loop .inv .4)
     returns-3)

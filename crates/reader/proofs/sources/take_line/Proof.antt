@@ -37,9 +37,6 @@ returns-2 c =
       tt,
     )
 
-same-length : tie.Need-same-length
-same-length c = c .before .before .take-item .kept .1 .1 .1 .0
-
 returns-3 : tie.Need-returns-3
 returns-3 c =
     let t = c .before .before in
@@ -65,5 +62,5 @@ take-line-spec =
     returns-2
     (λ c κs. search needs)
     (λ c κs. search needs)
-    same-length
+    (λ c. c .before .before .take-item .kept .1 .1 .1 .0)
     returns-3)

@@ -34,9 +34,6 @@ returns-3 c =
     let m : a .n ≤ a .v = omega arith in
     (source-broken _ _ _ _ _ _ (k .state .given .1) (start k .pre) (c .before .if1 .left) m, tt)
 
-slice-write-list : tie.Need-slice-write-list
-slice-write-list c = inside (c .before)
-
 returns-4 : tie.Need-returns-4
 unfolding stepOf
 returns-4 c =
@@ -59,7 +56,7 @@ take-source-spec =
     returns-2
     returns-3
     (λ c. search needs)
-    slice-write-list
+    (λ c. inside (c .before))
     (λ c. search needs)
     (λ c. search needs)
     returns-4)
