@@ -1,10 +1,11 @@
 -- What a line of a source file says, from its number and its mark. Assumes nothing.
-use Rattle.property.proofs.Basics.{_≡_, refl, sym, ap, List, [], _∷_, map, Option, none, some, bind, ℕ, zero, suc, arith, length, drop}
-use Rattle.dimacs.specs.Read.{after, fields}
-use Rattle.dimacs.specs.Sources.{Item, header, source, headerMark, sourceMark, headerFrom, sourceFrom, itemIn}
+use Rattle.property.proofs.Basics.{_≡_, refl, sym, ap, List, [], _∷_, map, Option, none, some, bind, ℕ, zero, suc, arith, length}
+use Rattle.dimacs.specs.Read.{after}
+use Rattle.dimacs.specs.Network.{orElse}
+use Rattle.dimacs.specs.Sources.{header, source, headerFrom, sourceFrom, itemIn}
 use Rattle.scanner.specs.Capped.{cap, capFields}
 use Rattle.reader.specs.Capped.{capVertex, capSource, capSources}
-use Rattle.reader.proofs.Marks.{first-mark, second-mark, neither-mark, fields-read}
+use Rattle.reader.proofs.Marks.{fields-read}
 
 -- ---- p lines
 
@@ -41,28 +42,6 @@ source-one (x ∷ y ∷ ys) v h = absurd (omega (arith, ap length h))
 pub source-read : (o : Option (List ℕ)) (v : ℕ) → some (v ∷ []) ≡ capFields o → sourceFrom (v ∷ []) ≡ capSources (bind o sourceFrom)
 source-read o v h = fields-read sourceFrom capSources (v ∷ []) (sourceFrom (v ∷ [])) (λ vs. source-one vs v) o h
 
--- ---- marks
-
-abbrev headerRest : List ℕ → Option Item
-headerRest r = bind (fields 1 r) headerFrom
-
-abbrev sourceRest : List ℕ → Option Item
-sourceRest r = bind (fields 1 r) sourceFrom
-
-module _ (l : List ℕ) where
-  pub item-header : some (drop 11 l) ≡ after headerMark l → headerRest (drop 11 l) ≡ itemIn l
-  unfolding itemIn
-  item-header h =
-      first-mark headerRest sourceRest 112 115 (32 ∷ 97 ∷ 117 ∷ 120 ∷ 32 ∷ 115 ∷ 112 ∷ 32 ∷ 115 ∷ 115 ∷ []) [] l (drop 11 l) (λ z. omega arith) h
-
-  pub item-source : none ≡ after headerMark l → some (drop 1 l) ≡ after sourceMark l → sourceRest (drop 1 l) ≡ itemIn l
-  unfolding itemIn
-  item-source e h = second-mark headerRest sourceRest headerMark sourceMark l (drop 1 l) e h
-
-  pub item-nothing : none ≡ after headerMark l → none ≡ after sourceMark l → none ≡ itemIn l
-  unfolding itemIn
-  item-nothing e h = neither-mark headerRest sourceRest headerMark sourceMark l e h
-
 pub item-empty : itemIn [] ≡ none
-unfolding itemIn after
-item-empty = sym (neither-mark headerRest sourceRest headerMark sourceMark [] refl refl)
+unfolding itemIn after bind orElse
+item-empty = refl

@@ -5,9 +5,9 @@ use Rattle.dimacs.specs.Read.{read}
 use Rattle.dimacs.specs.Sources as src
 use Rattle.scanner.specs.declared.Feed.the-variants.{Ends}
 use Rattle.scanner.specs.Code.{splitBy, inText}
-use Rattle.reader.specs.SourcesCode.{Held, stateOf, readOf}
+use Rattle.reader.specs.SourcesCode.{Held, stateOf, stepOf, readOf}
 use Rattle.dimacs.proofs.Reading.{left, left-open, left-stop, left-next, left-end}
-use Rattle.reader.proofs.SourcesSteps.{step-stops, step-goes, step-held}
+use Rattle.reader.proofs.Steps.{known}
 use Rattle.reader.proofs.sources.read_text.Statement.{statement}
 use Rattle.reader.proofs.sources.read_text.Tie as tie
 
@@ -64,13 +64,13 @@ add-t19 c =
     omega (arith, l .loop .inv .3, l .loop .inv .2, start l .good)
 
 returns-2 : tie.Need-returns-2 Inv-loop μ-loop
-unfolding readOf
+unfolding readOf stepOf
 returns-2 c =
     let t = c .before .before .before .before in
     let e = t .before .before .before .before in
     let l = turn e in
     let s = start l .args .text .now in
-    (sym (left-stop src.itemIn (src.act _) src.complete s (l .loop .at) (l .loop .k) _ _ _ _ (parted e) (step-stops _ (c .enum-told2 .given .1) (t .take-line .ensures .0))) ∙ l .loop .inv .0, tt)
+    (sym (left-stop src.itemIn (src.act _) src.complete s (l .loop .at) (l .loop .k) _ _ _ _ (parted e) (known (stepOf _) (c .enum-told2 .given .1) (t .take-line .ensures .0))) ∙ l .loop .inv .0, tt)
 
 add-at : tie.Need-add-at Inv-loop μ-loop
 add-at c =
@@ -88,6 +88,7 @@ loop-less c =
     omega (arith, inside e, e .before .before .before .loop-test .taken)
 
 loop-again : tie.Need-loop-again Inv-loop μ-loop
+unfolding stepOf
 loop-again c =
     let n = c .before in
     let t = n .before .before .before .before in
@@ -95,8 +96,8 @@ loop-again c =
     let l = turn e in
     let s = start l .args .text .now in
     let q = n .next .given .1 in (
-      sym (left-next src.itemIn (src.act _) src.complete s (l .loop .at) (l .loop .k) _ _ _ _ (parted e) _ (step-goes _ q (t .take-line .ensures .0))) ∙ l .loop .inv .0,
-      step-held _ q (t .take-line .ensures .1),
+      sym (left-next src.itemIn (src.act _) src.complete s (l .loop .at) (l .loop .k) _ _ _ _ (parted e) _ (known (stepOf _) q (t .take-line .ensures .0))) ∙ l .loop .inv .0,
+      rw q at (t .take-line .ensures .1),
       omega (arith, inside e),
       omega (arith, inside e, l .loop .inv .3),
       t .take-line .kept .1 .1 .1 .0 ∙ l .loop .inv .4,

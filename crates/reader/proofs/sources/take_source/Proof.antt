@@ -1,7 +1,8 @@
 -- `reader::sources::take_source` meets its contract. Assumes nothing.
 use Rattle.property.proofs.Basics.{needs, arith, _≤_, _<_, length, length-set}
-use Rattle.reader.specs.SourcesCode.{stepOf}
-use Rattle.reader.proofs.SourcesSteps.{held-inside, source-early, source-full, source-broken, source-next}
+use Rattle.dimacs.specs.Sources.{act}
+use Rattle.reader.specs.SourcesCode.{stateOf, stepOf}
+use Rattle.reader.proofs.SourcesSteps.{held-inside, source-full, source-broken, source-next}
 use Rattle.reader.proofs.sources.take_source.Statement.{statement}
 use Rattle.reader.proofs.sources.take_source.Tie as tie
 
@@ -17,8 +18,8 @@ inside c =
     omega arith
 
 returns : tie.Need-returns
-unfolding stepOf
-returns c = (source-early _ _ _ _ (c .enum-told .given .1), tt)
+unfolding stepOf stateOf act
+returns c = (rw (c .enum-told .given .1), tt)
 
 returns-2 : tie.Need-returns-2
 unfolding stepOf
