@@ -1,10 +1,10 @@
 -- What a line says, by its mark and its fields. The readers try one mark after the other, and no line has two. Assumes nothing.
-use Rattle.property.proofs.Basics.{_≡_, refl, sym, ap, _∙_, Bool, true, false, List, [], _∷_, map, Option, none, some, bind, ℕ, length, drop, eqb, eqb-true, ne-eqb}
+use Rattle.property.proofs.Basics.{_≡_, refl, sym, ap, _∙_, Bool, true, false, List, [], _∷_, Option, none, some, bind, ℕ, length, drop, eqb, eqb-true, ne-eqb}
 use Rattle.property.proofs.Tests.{by-test}
 use Rattle.dimacs.specs.Read.{after}
 use Rattle.dimacs.specs.Network.{orElse}
-use Rattle.dimacs.proofs.Options.{none-some, some-same}
-use Rattle.scanner.specs.Capped.{cap, capFields}
+use Rattle.dimacs.proofs.Options.{none-some}
+use Rattle.scanner.specs.Capped.{capFields}
 use Rattle.scanner.specs.Code.{begun}
 
 -- ---- marks
@@ -41,15 +41,7 @@ module _ {A : Type 0} (shown : Option A → Option A) (f g : List ℕ → Option
 
 -- ---- fields, their numbers capped
 
-module _ {A : Type 0} (f : List ℕ → Option A) where
-  pub fields-lost : (o : Option (List ℕ)) → none ≡ capFields o → none ≡ bind o f
-  unfolding capFields bind
-  fields-lost none h = refl
-  fields-lost (some vs) h = absurd (none-some h)
-
-  -- what is said by fields whose capped numbers are ws; g caps an item
-  pub fields-read : (g : Option A → Option A) (ws : List ℕ) (x : Option A) → ((vs : List ℕ) → map cap vs ≡ ws → x ≡ g (f vs))
-      → (o : Option (List ℕ)) → some ws ≡ capFields o → x ≡ g (bind o f)
-  unfolding capFields bind
-  fields-read g ws x k none h = absurd (none-some (sym h))
-  fields-read g ws x k (some vs) h = k vs (sym (some-same h))
+-- what the fields of an answer say, where saying and capping may change places
+pub said-fields : {A R : Type 0} (f : List ℕ → Option A) (g : Option A → Option A) (of : R → Option (List ℕ)) → ((o : Option (List ℕ)) → bind (capFields o) f ≡ g (bind o f))
+    → {r s : R} (o : Option (List ℕ)) → r ≡ s → of r ≡ capFields o → bind (of s) f ≡ g (bind o f)
+said-fields f g of h o q e = ap (λ x. bind (of x) f) (sym q) ∙ ap (λ x. bind x f) e ∙ h o
