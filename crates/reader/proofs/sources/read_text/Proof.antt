@@ -1,5 +1,5 @@
 -- `reader::sources::read_text` meets its contract: what is left of the file, from the state so far, comes to the same answer. Assumes nothing.
-use Rattle.property.proofs.Basics.{needs, arith, _≡_, refl, sym, ap, subst, _∙_, _-_, _≤_, _<_, length, drop}
+use Rattle.property.proofs.Basics.{needs, arith, _≡_, refl, sym, ap, subst, _∙_, _+_, _-_, _^_, _≤_, _<_, length, drop}
 use Rattle.dimacs.specs.Lines.{split}
 use Rattle.dimacs.specs.Read.{read}
 use Rattle.dimacs.specs.Sources as src
@@ -26,6 +26,13 @@ start l = l .before .before .before
 
 abbrev turn : tie.After-end Inv-loop μ-loop → tie.At-loop Inv-loop μ-loop
 turn e = e .before .before .before .before
+
+abbrev line : tie.After-take-line Inv-loop μ-loop → tie.After-end Inv-loop μ-loop
+line t = t .before .before .before .before
+
+-- one line more can be counted
+counted : (l : tie.At-loop Inv-loop μ-loop) → l .loop .k + 1 < 2 ^ 64
+counted l = omega (arith, l .loop .inv .3, l .loop .inv .2, start l .good)
 
 -- the line ends inside the text
 inside : (e : tie.After-end Inv-loop μ-loop) → (turn e .loop .at ≤ e .end .given .0 .0) × (e .end .given .0 .0 < length (start (turn e) .args .text .now))
@@ -57,42 +64,21 @@ take-line-requires c κs =
     let l = turn (c .before .before .before) in
     (start l .pre .0, l .loop .inv .1)
 
-add-t19 : tie.Need-add-t19 Inv-loop μ-loop
-add-t19 c =
-    let t = c .before .before .before .before in
-    let l = turn (t .before .before .before .before) in
-    omega (arith, l .loop .inv .3, l .loop .inv .2, start l .good)
-
 returns-2 : tie.Need-returns-2 Inv-loop μ-loop
 unfolding readOf stepOf
 returns-2 c =
     let t = c .before .before .before .before in
-    let e = t .before .before .before .before in
+    let e = line t in
     let l = turn e in
     let s = start l .args .text .now in
     (sym (left-stop src.itemIn (src.act _) src.complete s (l .loop .at) (l .loop .k) _ _ _ _ (parted e) (known (stepOf _) (c .enum-told2 .given .1) (t .take-line .ensures .0))) ∙ l .loop .inv .0, tt)
-
-add-at : tie.Need-add-at Inv-loop μ-loop
-add-at c =
-    let e = c .before .before .before .before .before .before .before .before .before in
-    omega (arith, inside e, start (turn e) .good)
-
-add-k : tie.Need-add-k Inv-loop μ-loop
-add-k c =
-    let l = turn (c .before .before .before .before .before .before .before .before .before) in
-    omega (arith, l .loop .inv .3, l .loop .inv .2, start l .good)
-
-loop-less : tie.Need-loop-less Inv-loop μ-loop
-loop-less c =
-    let e = c .before .before .before .before .before .before .before .before .before in
-    omega (arith, inside e, e .before .before .before .loop-test .taken)
 
 loop-again : tie.Need-loop-again Inv-loop μ-loop
 unfolding stepOf
 loop-again c =
     let n = c .before in
     let t = n .before .before .before .before in
-    let e = t .before .before .before .before in
+    let e = line t in
     let l = turn e in
     let s = start l .args .text .now in
     let q = n .next .given .1 in (
@@ -129,13 +115,13 @@ read-text-spec =
     take-line-requires
     (λ c. search needs)
     (λ c. search needs)
-    add-t19
-    (λ c. let t = c .before .before .before .before in t .take-line .kept .1 .1 .1 .0 ∙ turn (t .before .before .before .before) .loop .inv .4)
+    (λ c. omega (arith, counted (turn (line (c .before .before .before .before)))))
+    (λ c. let t = c .before .before .before .before in t .take-line .kept .1 .1 .1 .0 ∙ turn (line t) .loop .inv .4)
     returns-2
-    add-at
-    add-k
-    loop-less
+    (λ c. let e = line (c .before .before .before .before .before) in omega (arith, inside e, start (turn e) .good))
+    (λ c. omega (arith, counted (turn (line (c .before .before .before .before .before)))))
+    (λ c. let e = line (c .before .before .before .before .before) in omega (arith, inside e, e .before .before .before .loop-test .taken))
     loop-again
-    (λ c κs. let l = c .before in omega (arith, l .loop .inv .3, l .loop .inv .2, start l .good))
+    (λ c κs. counted (c .before))
     (λ c. c .before .before .loop .inv .4)
     returns-3)
