@@ -50,8 +50,8 @@ returns c =
     let a = start l .args in
     let x : l .loop .k ≡ a .count = omega arith in
     λ e.
-        let z = both (l .loop .all) _ e in
-        follow-end _ _ _ _ (start l .pre .1) (a .n) (l .loop .k) (l .loop .inv .0 (z .0) (rw x (ltb-true _ _ (z .1)))) (c .before .loop-test .left)
+    let z = both (l .loop .all) _ e in
+    follow-end _ _ _ _ (start l .pre .1) (a .n) (l .loop .k) (l .loop .inv .0 (z .0) (rw x (ltb-true _ _ (z .1)))) (c .before .loop-test .left)
 
 pub are-sound-spec : {M : Type 1} → statement M
 are-sound-spec =
