@@ -1,12 +1,10 @@
 -- `query::query_in` meets its contract. Assumes nothing.
-use Rattle.property.proofs.Basics.{needs, arith, _≡_, sym, ap, _∙_, List, ℕ, length, drop, take, take-at, length-take-le}
+use Rattle.property.proofs.Basics.{needs, arith, _≡_, sym, ap, _∙_, List, ℕ, length, take, take-at, length-take-le}
 use Rattle.property.specs.Property.{property}
-use Rattle.graph.specs.Edge.{edges}
-use Rattle.graph.specs.Index.{Own}
 use Rattle.run.specs.Run.{State, pass, settle}
 use Rattle.run.specs.Code.{state, noCounts}
 use Rattle.network.specs.Network.{Network, edgesIn}
-use Rattle.network.specs.Query.{Query, atStart, atEnd}
+use Rattle.network.specs.Query.{Query, atStart}
 use Rattle.calls.specs.Code.{network}
 use Rattle.query.specs.Code.{asking}
 use Rattle.graph.proofs.Copies.{paste-over}
