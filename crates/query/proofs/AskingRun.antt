@@ -43,6 +43,6 @@ module _ (n : ℕ) (ls : List ℕ) (w : Network) (q : Query) (xs ys : List ℕ) 
   unfolding queryCall answering asked
   query-settled f b fine zs us vs t e eu (d, c) =
       let ended : runFrom (property (q .property)) (edgesIn w) n (q .source) (q .schedule) zs ≡ atEnd n ls w q
-          = ap (runFrom (property (q .property)) (edgesIn w) n (q .source) (q .schedule)) e in
+      = ap (runFrom (property (q .property)) (edgesIn w) n (q .source) (q .schedule)) e in
       (λ i. record { reply = accepted ((d ∙ ap (λ (s : State). s .tally) ended) i); memory = wordsOf ((eu ∙ ap (λ (l : List ℕ). over l xs) e) i) ((c ∙ ap (λ (s : State). over (s .words) ys) ended) i) })
       ∙ sym (outcome-accepted (queryVerdict n ls w q (wordsOf xs ys)) _ _ _ (query-verdict n ls w q (wordsOf xs ys) f b ∙ fine))
