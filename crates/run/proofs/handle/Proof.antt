@@ -3,7 +3,6 @@
 use Rattle.property.proofs.Basics.{_≡_, refl, sym, ap, _∙_, false, foldl, ℕ, _+_, _-_, _≤_, _<_, arith, needs, getD, length}
 use Rattle.property.specs.Property.{property, M}
 use Rattle.property.proofs.Instances.{property-laws}
-use Rattle.graph.specs.Limits.{maxEdges}
 use Rattle.graph.specs.Arc.{arcHead, arcWeight}
 use Rattle.graph.specs.Edge.{edge}
 use Rattle.graph.specs.Index.{part}

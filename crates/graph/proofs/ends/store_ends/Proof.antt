@@ -1,5 +1,5 @@
 -- `graph::ends::store_ends` meets its contract. Assumes nothing.
-use Rattle.property.proofs.Basics.{needs, arith, _≡_, refl, ℕ, _+_, _-_, _<_, _≤_, length, getD, length-set}
+use Rattle.property.proofs.Basics.{needs, arith, _≡_, refl, _+_, _-_, _<_, _≤_, length, getD, length-set}
 use Rattle.graph.specs.Parted.{Ends}
 use Rattle.graph.proofs.Parted.{ends-none, ends-turn, ends-done}
 use Rattle.graph.proofs.ends.store_ends.Statement.{statement}

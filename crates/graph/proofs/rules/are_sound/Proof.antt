@@ -2,7 +2,7 @@
 --
 -- The bound of a tail is that of the tails before it, for tails never fall. So the invariant speaks of the tail of the last record that was gone
 -- past: if it is a vertex, what is left to judge gives the verdict on all. After the last record it is tested.
-use Rattle.property.proofs.Basics.{needs, arith, _≡_, sym, _∙_, true, ℕ, _+_, _-_, _≤_, _<_, drop, getD, lt-ltb, ltb-true}
+use Rattle.property.proofs.Basics.{needs, arith, _≡_, sym, _∙_, true, _+_, _-_, _≤_, _<_, drop, getD, lt-ltb, ltb-true}
 use Rattle.graph.specs.Edge.{edges, precedes}
 use Rattle.graph.specs.Table.{follow, rules}
 use Rattle.graph.specs.Code.{edgeAt}
@@ -50,8 +50,8 @@ returns c =
     let a = start l .args in
     let x : l .loop .k ≡ a .count = omega arith in
     λ e.
-        let z = both (l .loop .all) _ e in
-        follow-end _ _ _ _ (start l .pre .1) (a .n) (l .loop .k) (l .loop .inv .0 (z .0) (rw x (ltb-true _ _ (z .1)))) (c .before .loop-test .left)
+    let z = both (l .loop .all) _ e in
+    follow-end _ _ _ _ (start l .pre .1) (a .n) (l .loop .k) (l .loop .inv .0 (z .0) (rw x (ltb-true _ _ (z .1)))) (c .before .loop-test .left)
 
 pub are-sound-spec : {M : Type 1} → statement M
 are-sound-spec =
