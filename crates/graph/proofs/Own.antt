@@ -4,7 +4,7 @@
 -- In a table that keeps the rules tails never fall. So the edges of tail u stand together: after as many as have a tail below u,
 -- and as many as have the tail u. An index says just these two numbers. The reversed table is made of the edges into 0, into 1, ..,
 -- so there the same numbers are those of the heads.
-use Rattle.property.proofs.Basics.{_≡_, refl, sym, ap, _∙_, ⊎-elim, List, [], _∷_, map, List·Memᴰ, List·Memᴰ·not-nil, ℕ, zero, suc, _+_, _-_, _<_, _≤_, add-one, arith, decLt, length, getD, take, drop, length-drop, eqb, ltb, length-take-le, getD-take, getD-drop, drop-drop, take-append-seam, ltb-true, ltb-false, eqb-true, eqb-false, le-ltb, ne-eqb}
+use Rattle.property.proofs.Basics.{_≡_, refl, sym, ap, _∙_, ⊎-elim, List, [], _∷_, map, List·Memᴰ, List·Memᴰ·not-nil, ℕ, zero, suc, _+_, _-_, _<_, _≤_, add-one, arith, length, getD, take, drop, length-drop, eqb, ltb, length-take-le, getD-take, getD-drop, drop-drop, take-append-seam, ltb-true, ltb-false, eqb-true, eqb-false, le-ltb, ne-eqb}
 use Rattle.property.proofs.Tests.{by-test}
 use mathlib.Core.List.{List·Memᴰ·append-cases}
 use lib.Seq.{drop-append-seam}
@@ -177,14 +177,13 @@ module _ (n m : ℕ) (ts hs ws : List ℕ) (r : Room m ts hs ws) (a : rules n (e
   weights-range k l = let f = sound-fit n (edges ts hs ws m) (rules-accept n (edges ts hs ws m) a) (edgeAt ts hs ws k) (edges-mem ts hs ws m r k l) in (f .some-weight, f .weight-most)
 
   pub tails-ascend : Ascending m ts
-  tails-ascend i j l b = pick (decLt i j)
-    where
-      pick : Dec (i < j) → getD ts i 0 ≤ getD ts j 0
-      pick (yes c) =
+  tails-ascend i j l b = by-test (ltb i j)
+      (λ q.
           let z = edges-length ts hs ws m r in
+          let c = ltb-true i j q in
           let p = sorted-before table-ordered (isEdge n) (edge 0 0 0) (edges ts hs ws m) (rules-accept n (edges ts hs ws m) a) i j c (omega arith) in
-          precedes-tail (edgeAt ts hs ws i) (edgeAt ts hs ws j) (rw (edges-at ts hs ws m r i (omega arith), edges-at ts hs ws m r j b) at p)
-      pick (no c) = let e : i ≡ j = omega arith in rw e (omega arith)
+          precedes-tail (edgeAt ts hs ws i) (edgeAt ts hs ws j) (rw (edges-at ts hs ws m r i (omega arith), edges-at ts hs ws m r j b) at p))
+      (λ q. let c = ltb-false i j q in let e : i ≡ j = omega arith in rw e (omega arith))
 
 -- ---- an index of a table that may have one
 
