@@ -179,10 +179,10 @@ module _ (n m : ℕ) (ts hs ws : List ℕ) (r : Room m ts hs ws) (a : rules n (e
   pub tails-ascend : Ascending m ts
   tails-ascend i j l b = by-test (ltb i j)
       (λ q.
-          let z = edges-length ts hs ws m r in
-          let c = ltb-true i j q in
-          let p = sorted-before table-ordered (isEdge n) (edge 0 0 0) (edges ts hs ws m) (rules-accept n (edges ts hs ws m) a) i j c (omega arith) in
-          precedes-tail (edgeAt ts hs ws i) (edgeAt ts hs ws j) (rw (edges-at ts hs ws m r i (omega arith), edges-at ts hs ws m r j b) at p))
+      let z = edges-length ts hs ws m r in
+      let c = ltb-true i j q in
+      let p = sorted-before table-ordered (isEdge n) (edge 0 0 0) (edges ts hs ws m) (rules-accept n (edges ts hs ws m) a) i j c (omega arith) in
+      precedes-tail (edgeAt ts hs ws i) (edgeAt ts hs ws j) (rw (edges-at ts hs ws m r i (omega arith), edges-at ts hs ws m r j b) at p))
       (λ q. let c = ltb-false i j q in let e : i ≡ j = omega arith in rw e (omega arith))
 
 -- ---- an index of a table that may have one

@@ -96,8 +96,7 @@ fn judge_rules(n: u32, tails: &[u32], heads: &[u32], weights: &[u32], count: usi
     Judged::Fine
 }
 
-// Whether an edge keeps the rules after the pair before it, but for the bound of its tail: `in_order` and `is_edge` without a branch, so that
-// `are_sound` goes by vectors.
+// Whether an edge keeps the rules after the pair before it, but for the bound of its tail. There is no branch, so that `are_sound` goes by vectors.
 fn is_next(n: u32, t: u32, h: u32, u: u32, g: u32, w: u32) -> bool
     ensures { λ r. ⌜ r ≡ (precedes (edge t h 0) (edge u g w) && (ltb g n && (not (eqb u g) && isWeight w))) ⌝ }
 {

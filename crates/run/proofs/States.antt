@@ -50,8 +50,8 @@ marks-within n bs i f e = by-test (ltb i n) (λ q. ltb-true i n q) (λ q. absurd
 pub bits-any : (n : ℕ) (bs : List ℕ) → Marks n bs → anyOf (bits n bs) ≡ anyOf (waitingOf bs)
 bits-any n bs f = by-test (anyOf (waitingOf bs))
     (λ e.
-        let (v, l, w) = any-some (waitingOf bs) e in
-        some-any (bits n bs) v (bits-at n bs v (marks-within n bs v f w) ∙ w) ∙ sym e)
+    let (v, l, w) = any-some (waitingOf bs) e in
+    some-any (bits n bs) v (bits-at n bs v (marks-within n bs v f w) ∙ w) ∙ sym e)
     (λ e. none-any (bits n bs) (none (any-none (waitingOf bs) e)) ∙ sym e)
   where
     none : ((k : ℕ) → getD (waitingOf bs) k false ≡ false) → (k : ℕ) → getD (bits n bs) k false ≡ false
@@ -108,10 +108,10 @@ pub relax-tail : (P : Property) → Laws P → (st : State) (e : Edge) → word 
 unfolding relax storeIf
 relax-tail P L st e m h = by-test (relaxable P (st .words) e)
     (λ r. rw r
-        (⊎-elim
-        (λ q. absurd (true≢false (sym r ∙ ap (λ (k : ℕ). P .better (P .along (word P (st .words) (e .tail)) (e .weight)) (word P (st .words) k)) (sym (q .0)) ∙ L .along-no-better _ (e .weight) m)))
-        (λ q. q .1)
-        (at-set (st .words) (e .head) _ (e .tail) (P .none) h)))
+    (⊎-elim
+    (λ q. absurd (true≢false (sym r ∙ ap (λ (k : ℕ). P .better (P .along (word P (st .words) (e .tail)) (e .weight)) (word P (st .words) k)) (sym (q .0)) ∙ L .along-no-better _ (e .weight) m)))
+    (λ q. q .1)
+    (at-set (st .words) (e .head) _ (e .tail) (P .none) h)))
     (λ r. rw r)
 
 -- so the tail keeps its word, as the code holds it
