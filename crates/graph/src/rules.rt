@@ -98,9 +98,9 @@ fn judge_rules(n: u32, tails: &[u32], heads: &[u32], weights: &[u32], count: usi
 
 // Whether an edge keeps the rules after the pair before it, but for the bound of its tail. There is no branch, so that `are_sound` goes by vectors.
 fn is_next(n: u32, t: u32, h: u32, u: u32, g: u32, w: u32) -> bool
-    ensures { λ r. ⌜ r ≡ (precedes (edge t h 0) (edge u g w) && (ltb g n && (not (eqb u g) && isWeight w))) ⌝ }
+    ensures { λ r. ⌜ r ≡ ((ltb g n && (not (eqb u g) && isWeight w)) && precedes (edge t h 0) (edge u g w)) ⌝ }
 {
-    ((t < u) | ((t == u) & (h < g))) & ((g < n) & ((u != g) & ((0 < w) & (w <= MAX_WEIGHT))))
+    ((g < n) & ((u != g) & ((0 < w) & (w <= MAX_WEIGHT)))) & ((t < u) | ((t == u) & (h < g)))
 }
 
 // Whether all records keep the rules. It goes over all of them and never stops early. Tails never fall, so the bound of the last is that of all.
