@@ -5,7 +5,7 @@ use Rattle.run.specs.Code.{Marks}
 use Rattle.compare.specs.Code.{after, pairs}
 use Rattle.prepare.specs.Code.{Raised, Woken}
 use Rattle.prepare.proofs.Bits.{marks-if}
-use Rattle.prepare.proofs.Starts.{raised-none, raised-change}
+use Rattle.prepare.proofs.Starts.{raised-none, raised-turn}
 use Rattle.prepare.proofs.wake_added.Statement.{statement}
 use Rattle.prepare.proofs.wake_added.Tie as tie
 
@@ -16,7 +16,7 @@ abbrev μ-loop : tie.MeasureT-loop
 μ-loop n net waiting₀ size k₀ waiting k = size - k
 
 loop-holds : tie.Need-loop-holds Inv-loop μ-loop
-loop-holds c = (raised-none _ _ (λ t q. let a = q .1 in omega arith), c .before .pre .1, omega arith, refl)
+loop-holds c = (raised-none _ _ (λ t q. let a = q .2 in omega arith), c .before .pre .1, omega arith, refl)
 
 wake-change-requires : tie.Need-wake-change-requires Inv-loop μ-loop
 wake-change-requires c κs =
@@ -33,7 +33,7 @@ loop-again c =
     let v = l .loop .inv in
     let x = s .pre .0 (2 * l .loop .k) (omega (arith, t .loop-test .taken, v .3)) in
     let b = ltb 0 (after xs (l .loop .k) .weight) in
-    (raised-change _ (waitingOf (l .loop .waiting)) _ xs (l .loop .k) b refl (v .0) (omega (arith, x, v .1 .few, v .1 .bits)) (c .wake-change .ensures), marks-if _ _ _ _ b x (c .wake-change .ensures) (v .1), omega arith, v .3)
+    (raised-turn (v .0) (omega (arith, x, v .1 .few, v .1 .bits)) (omega arith) _ (c .wake-change .ensures), marks-if _ _ _ _ b x (c .wake-change .ensures) (v .1), omega arith, v .3)
 
 returns : tie.Need-returns Inv-loop μ-loop
 returns c =

@@ -5,7 +5,7 @@ use Rattle.graph.specs.Arc.{arcHead}
 use Rattle.run.specs.Code.{Marks}
 use Rattle.run.proofs.States.{marks-set}
 use Rattle.prepare.specs.Code.{Raised, Entering}
-use Rattle.prepare.proofs.Starts.{raised-none, raised-part}
+use Rattle.prepare.proofs.Starts.{raised-none, raised-turn}
 use Rattle.prepare.proofs.wake_into.Statement.{statement}
 use Rattle.prepare.proofs.wake_into.Tie as tie
 
@@ -44,7 +44,7 @@ loop-again c =
     let l = t .before in
     let v = l .loop .inv in
     let e = rw (c .before .head .ensures) at (c .insert .ensures) in
-    (raised-part _ (waitingOf (l .loop .waiting)) _ (l .before .before .before .before .args .into .now) _ _ (v .0) (omega (arith, inside t, v .1 .few, v .1 .bits)) e (v .2), marks-set _ _ _ _ _ (inside t) e (v .1), omega arith, v .3, omega arith, v .5, v .6)
+    (raised-turn (v .0) (omega (arith, inside t, v .1 .few, v .1 .bits)) (v .2) _ e, marks-set _ _ _ _ _ (inside t) e (v .1), omega arith, v .3, omega arith, v .5, v .6)
 
 returns : tie.Need-returns Inv-loop μ-loop
 returns c =
