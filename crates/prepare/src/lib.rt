@@ -29,7 +29,7 @@ ghost use Rattle.prepare.specs.Code.{Batched, Going, holds, marksHead, m
 fn is_held(p: u32, s: u32, v: u32, w: u32, h: u32, x: u32) -> bool
     ensures { λ r. ⌜ r ≡ holds (property p) s v w h x ⌝ }
 {
-    property::along(p, v, w) == x && (h != s && x != property::none(p))
+    (property::along(p, v, w) == x) & ((h != s) & (x != property::none(p)))
 }
 
 // An edge from `t` to `h` that is removed, or whose tail is marked: where it holds its head up, the head is marked, and is to do where
