@@ -22,27 +22,12 @@ found c = next-first _ _ _ (sym (c .before .before .next-from .ensures .0) ∙ c
 found-within : (c : tie.After-next Inv-loop μ-loop) → c .next .given .0 .0 < c .before .before .before .before .before .before .args .n
 found-within c = let s = c .before .before .before .before .before .before in marks-within _ (s .args .marks .now) _ (s .pre .0) (found c .waits)
 
-loop-holds : tie.Need-loop-holds Inv-loop μ-loop
-loop-holds c = give-start _ _ _ _ (c .before .pre .1)
-
 returns : tie.Need-returns Inv-loop μ-loop
 returns c =
     let f = c .before .before in
     let l = f .before .before in
     let s = l .before .before in
     give-done _ _ _ _ (s .pre .1) (l .loop .inv) (λ k h j. next-none _ _ (sym (f .next-from .ensures .0) ∙ c .enum-told .given .1) k h)
-
-mul-words : tie.Need-mul-words Inv-loop μ-loop
-mul-words c = let z = found-within (c .before .before) in search needs
-
-slice-write-words : tie.Need-slice-write-words Inv-loop μ-loop
-slice-write-words c = let z = found-within (c .before .before) in search needs
-
-add-i : tie.Need-add-i Inv-loop μ-loop
-add-i c = omega (arith, found-within (c .before .before))
-
-loop-less : tie.Need-loop-less Inv-loop μ-loop
-loop-less c = omega (arith, found (c .before .before) .from)
 
 loop-again : tie.Need-loop-again Inv-loop μ-loop
 loop-again c =
@@ -62,17 +47,17 @@ clear-marked-spec =
     (tie.spec
     Inv-loop
     μ-loop
-    loop-holds
+    (λ c. give-start _ _ _ _ (c .before .pre .1))
     (λ c κs. search needs)
     (λ c. search needs)
     (λ c. search needs)
     (λ c. search needs)
     returns
     (λ c κs. search needs)
-    mul-words
-    slice-write-words
-    add-i
-    loop-less
+    (λ c. let z = found-within (c .before .before) in search needs)
+    (λ c. let z = found-within (c .before .before) in search needs)
+    (λ c. omega (arith, found-within (c .before .before)))
+    (λ c. omega (arith, found (c .before .before) .from))
     loop-again
     (λ c. search needs)
     returns-2)

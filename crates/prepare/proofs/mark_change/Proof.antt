@@ -23,9 +23,6 @@ returns c =
     let e = c .mark-head .ensures in
     (rw z (rw (c .before .before .before .before .before .before .before .before .before .head .ensures, c .before .before .before .before .before .head2 .ensures, c .before .before .before .before .before .before .before .weight .ensures) at (e .0)), rw z (rw (c .before .before .before .before .before .before .before .before .before .head .ensures, c .before .before .before .before .before .head2 .ensures, c .before .before .before .before .before .before .before .weight .ensures) at (e .1)))
 
-returns-2 : tie.Need-returns-2
-returns-2 c = let z = sym (had (c .before)) ∙ c .if1 .left in (rw z, rw z)
-
 pub mark-change-spec : {M : Type 1} → statement M
 mark-change-spec =
     tie.close
@@ -44,4 +41,4 @@ mark-change-spec =
     (λ c κs. search needs)
     mark-head-requires
     returns
-    returns-2)
+    (λ c. let z = sym (had (c .before)) ∙ c .if1 .left in (rw z, rw z)))

@@ -13,9 +13,6 @@ Inv-loop p n s net words marks₀ todo₀ size k₀ marks todo k = HeadsMarked (
 abbrev μ-loop : tie.MeasureT-loop
 μ-loop p n s net words marks₀ todo₀ size k₀ marks todo k = size - k
 
-loop-holds : tie.Need-loop-holds Inv-loop μ-loop
-loop-holds c = (gone-start (c .before .before .pre .3), omega arith, refl)
-
 mark-change-requires : tie.Need-mark-change-requires Inv-loop μ-loop
 mark-change-requires c κs =
     let t = c .before .before in
@@ -30,18 +27,15 @@ loop-again c =
     let h = s .pre .0 (2 * l .loop .k + 1) (omega (arith, t .loop-test .taken, l .loop .inv .2)) in
     (gone-turn (l .loop .inv .0) (omega arith) h _ _ (c .mark-change .ensures .0) (c .mark-change .ensures .1), omega arith, l .loop .inv .2)
 
-returns : tie.Need-returns Inv-loop μ-loop
-returns c = let l = c .before in gone-as (l .loop .inv .0) (omega (arith, l .loop .inv .1, l .loop .inv .2, c .loop-test .left))
-
 pub mark-removed-heads-spec : {M : Type 1} → statement M
 mark-removed-heads-spec =
     tie.close
     (tie.spec
     Inv-loop
     μ-loop
-    loop-holds
+    (λ c. (gone-start (c .before .before .pre .3), omega arith, refl))
     mark-change-requires
     (λ c. search needs)
     (λ c. search needs)
     loop-again
-    returns)
+    (λ c. let l = c .before in gone-as (l .loop .inv .0) (omega (arith, l .loop .inv .1, l .loop .inv .2, c .loop-test .left))))

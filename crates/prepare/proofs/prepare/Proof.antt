@@ -9,9 +9,6 @@ use Rattle.prepare.proofs.Starts.{prepared-made}
 use Rattle.prepare.proofs.prepare.Statement.{statement}
 use Rattle.prepare.proofs.prepare.Tie as tie
 
-mark-affected-requires : tie.Need-mark-affected-requires
-mark-affected-requires c κs = let s = c .before .before .before .before .before .before .before in (s .pre .0, s .pre .1, s .pre .3)
-
 clear-marked-requires : tie.Need-clear-marked-requires
 clear-marked-requires c κs = let s = c .before .before .before .before .before .before .before .before .before .before in (c .before .before .mark-affected .ensures .1, s .pre .3)
 
@@ -39,7 +36,7 @@ prepare-spec =
     tie.close
     (tie.spec
     (λ c κs. search needs)
-    mark-affected-requires
+    (λ c κs. let s = c .before .before .before .before .before .before .before in (s .pre .0, s .pre .1, s .pre .3))
     clear-marked-requires
     reopen-requires
     (λ c κs. search needs)

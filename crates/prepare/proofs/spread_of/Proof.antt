@@ -26,17 +26,11 @@ found c = next-first _ _ _ (sym (c .before .before .next-from .ensures .0) ∙ c
 found-within : (c : tie.After-next Inv-loop μ-loop) → c .next .given .0 .0 < c .before .before .before .before .before .before .before .args .n
 found-within c = marks-within _ (c .before .before .before .before .loop .todo) _ (c .before .before .before .before .loop .inv .1 .todo) (found c .waits)
 
-loop-holds : tie.Need-loop-holds Inv-loop μ-loop
-loop-holds c = ((λ es o. spreads-none), c .before .before .pre .2)
-
 returns : tie.Need-returns Inv-loop μ-loop
 returns c =
     let f = c .before .before in
     let l = f .before .before in
     (l .loop .inv .0, (l .loop .inv .1, λ t. next-none (waitingOf (l .loop .todo)) 0 (sym (f .next-from .ensures .0) ∙ c .enum-told .given .1) t (omega arith)))
-
-remove-requires : tie.Need-remove-requires Inv-loop μ-loop
-remove-requires c κs = let z = found-within (c .before .before) in search needs
 
 spread-from-requires : tie.Need-spread-from-requires Inv-loop μ-loop
 spread-from-requires c κs =
@@ -69,12 +63,12 @@ spread-of-spec =
     (tie.spec
     Inv-loop
     μ-loop
-    loop-holds
+    (λ c. ((λ es o. spreads-none), c .before .before .pre .2))
     (λ c κs. search needs)
     (λ c. search needs)
     (λ c. search needs)
     returns
-    remove-requires
+    (λ c κs. let z = found-within (c .before .before) in search needs)
     spread-from-requires
     loop-less
     loop-again)

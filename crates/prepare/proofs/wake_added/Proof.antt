@@ -15,9 +15,6 @@ Inv-loop n net waiting₀ size k₀ waiting k = Raised (waitingOf waiting₀) (w
 abbrev μ-loop : tie.MeasureT-loop
 μ-loop n net waiting₀ size k₀ waiting k = size - k
 
-loop-holds : tie.Need-loop-holds Inv-loop μ-loop
-loop-holds c = (raised-none _ _ (λ t q. let a = q .2 in omega arith), c .before .pre .1, omega arith, refl)
-
 wake-change-requires : tie.Need-wake-change-requires Inv-loop μ-loop
 wake-change-requires c κs =
     let l = c .before .before in
@@ -47,7 +44,7 @@ wake-added-spec =
     (tie.spec
     Inv-loop
     μ-loop
-    loop-holds
+    (λ c. (raised-none _ _ (λ t q. let a = q .2 in omega arith), c .before .pre .1, omega arith, refl))
     wake-change-requires
     (λ c. search needs)
     (λ c. search needs)

@@ -24,9 +24,6 @@ found c = next-first _ _ _ (sym (c .before .before .next-from .ensures .0) ∙ c
 found-within : (c : tie.After-next Inv-loop μ-loop) → c .next .given .0 .0 < c .before .before .before .before .before .before .args .n
 found-within c = let s = c .before .before .before .before .before .before in marks-within _ (s .args .marks .now) _ (s .pre .1) (found c .waits)
 
-loop-holds : tie.Need-loop-holds Inv-loop μ-loop
-loop-holds c = (raised-none _ _ (λ t q. let a = q .1 in omega arith), c .before .pre .2, omega arith)
-
 returns : tie.Need-returns Inv-loop μ-loop
 returns c =
     let f = c .before .before in
@@ -41,12 +38,6 @@ wake-into-requires c κs =
     let s = l .before .before in
     let h = found-within k in
     (h, s .pre .0, l .loop .inv .1)
-
-add-i : tie.Need-add-i Inv-loop μ-loop
-add-i c = omega (arith, found-within (c .before .before .before))
-
-loop-less : tie.Need-loop-less Inv-loop μ-loop
-loop-less c = omega (arith, found (c .before .before .before) .from)
 
 loop-again : tie.Need-loop-again Inv-loop μ-loop
 loop-again c =
@@ -68,13 +59,13 @@ wake-marked-spec =
     (tie.spec
     Inv-loop
     μ-loop
-    loop-holds
+    (λ c. (raised-none _ _ (λ t q. let a = q .1 in omega arith), c .before .pre .2, omega arith))
     (λ c κs. search needs)
     (λ c. search needs)
     (λ c. search needs)
     returns
     wake-into-requires
-    add-i
-    loop-less
+    (λ c. omega (arith, found-within (c .before .before .before)))
+    (λ c. omega (arith, found (c .before .before .before) .from))
     loop-again
     returns-2)
