@@ -7,9 +7,6 @@ use Rattle.rows.proofs.batch_row.Tie as tie
 abbrev start : tie.After-waiting → tie.Start
 start w = w .before .before .before .before .before .before .before .before .before .before .before .before
 
-prepare-requires : tie.Need-prepare-requires
-prepare-requires c κs = let s = start c in let l = s .pre .3 in (l .inside, l .old, l .into, s .pre .2)
-
 run-unscheduled-requires : tie.Need-run-unscheduled-requires
 run-unscheduled-requires c κs =
     let p = c .before .before .before .before in
@@ -38,7 +35,7 @@ batch-row-spec =
     (λ c κs. search needs)
     (λ c. search needs)
     (λ c. search needs)
-    prepare-requires
+    (λ c κs. let s = start c in let l = s .pre .3 in (l .inside, l .old, l .into, s .pre .2))
     run-unscheduled-requires
     (λ c. search needs)
     returns)
