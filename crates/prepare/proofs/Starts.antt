@@ -58,12 +58,12 @@ module _ (P : Property) (n : ℕ) (ms ws : List ℕ) (l : length ws ≡ n) where
     }
 
     -- no vertex from i on is marked
-    pub give-done : ((k : ℕ) → i ≤ k → k < n → getD (waitingOf ms) k false ≡ false) → out ≡ cleared P (bits n ms) ws n
+    pub give-done : ((k : ℕ) → i ≤ k → getD (waitingOf ms) k false ≡ false) → out ≡ cleared P (bits n ms) ws n
     unfolding cleared
     give-done f =
         ext-getD 0 out (map (given P n ms ws) (range 0 n)) (at .size ∙ sym (length-table (given P n ms ws) 0 n))
         (λ k o. let h : k < n = omega (arith, at .size) in
-        elim (decLt k i) [ yes o ↦ at .below k o | no d ↦ at .above k (omega arith) ∙ spared k h (f k (omega arith) h) ] ∙ sym (table-at (given P n ms ws) n k 0 h))
+        elim (decLt k i) [ yes o ↦ at .below k o | no d ↦ at .above k (omega arith) ∙ spared k h (f k (omega arith)) ] ∙ sym (table-at (given P n ms ws) n k 0 h))
 
 -- ---- bits that are set
 

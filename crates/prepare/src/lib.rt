@@ -208,22 +208,6 @@ fn mark_affected(
 
 // ---- where the rounds start
 
-// The marked vertices of a row have no route.
-fn clear_marked(p: u32, n: usize, marks: &Words, words: &mut [u32])
-    requires { ⌜ Marks n (now marks) × (length (now words) ≡ n) ⌝ }
-    ensures { λ _. ⌜ now (words .exit) ≡ start.cleared (property p) (bits n (now (marks .entry))) (now (words .entry)) n ⌝ }
-{
-    let mut i = 0;
-    while i < n {
-        let next = frontier::next_from(marks, i);
-        let Next::At(v) = next else {
-            return;
-        };
-        words[v] = property::none(p);
-        i = v + 1;
-    }
-}
-
 // Whether a change added an edge: its pair has one of weight `new` after.
 fn is_added(new: u32) -> bool
     ensures { λ r. ⌜ r ≡ ltb 0 new ⌝ }
@@ -271,9 +255,17 @@ fn wake_into(n: usize, v: usize, into: &[u32], waiting: &mut Words)
     }
 }
 
-// The tails of the new edges into marked vertices wait.
-fn wake_marked(n: usize, into: &[u32], marks: &Words, waiting: &mut Words)
-    requires { ⌜ Fit n (now into) × Marks n (now marks) × Marks n (now waiting) ⌝ }
+// The marked vertices of a row have no route, and the tails of the new edges into them wait.
+fn reopen_marked(
+    p: u32,
+    n: usize,
+    into: &[u32],
+    marks: &Words,
+    words: &mut [u32],
+    waiting: &mut Words,
+)
+    requires { ⌜ Fit n (now into) × Marks n (now marks) × (length (now words) ≡ n) × Marks n (now waiting) ⌝ }
+    ensures { λ _. ⌜ now (words .exit) ≡ start.cleared (property p) (bits n (now (marks .entry))) (now (words .entry)) n ⌝ }
     ensures { λ _. ⌜ Raised (waitingOf (now (waiting .entry))) (waitingOf (now (waiting .exit))) (λ t. (v : ℕ) × (getD (waitingOf (now (marks .entry))) v false ≡ true) × Entering (now (into .entry)) (getD (now (into .entry)) v 0) (getD (now (into .entry)) (v + 1) 0) t) ⌝ }
     ensures { λ _. ⌜ Marks n (now (waiting .exit)) ⌝ }
 {
@@ -283,20 +275,30 @@ fn wake_marked(n: usize, into: &[u32], marks: &Words, waiting: &mut Words)
         let Next::At(v) = next else {
             return;
         };
+        words[v] = property::none(p);
         wake_into(n, v, into, waiting);
         i = v + 1;
     }
 }
 
-// Who waits: the tails of all added edges, and of all new edges into marked vertices.
-fn reopen(n: usize, net: &[u32], into: &[u32], marks: &Words, waiting: &mut Words)
-    requires { ⌜ Inside n (now net) × Fit n (now into) × Marks n (now marks) ⌝ }
+// Who waits: the tails of all added edges, and of all new edges into marked vertices, which have no route.
+fn reopen(
+    p: u32,
+    n: usize,
+    net: &[u32],
+    into: &[u32],
+    marks: &Words,
+    words: &mut [u32],
+    waiting: &mut Words,
+)
+    requires { ⌜ Inside n (now net) × Fit n (now into) × Marks n (now marks) × (length (now words) ≡ n) ⌝ }
+    ensures { λ _. ⌜ now (words .exit) ≡ start.cleared (property p) (bits n (now (marks .entry))) (now (words .entry)) n ⌝ }
     ensures { λ _. ⌜ ((es fs : List Edge) (is : List ℕ) → Batched n es fs is (now (into .entry)) (now (net .entry)) → bits n (now (waiting .exit)) ≡ start.reopened es fs (bits n (now (marks .entry))) n) ⌝ }
     ensures { λ _. ⌜ Marks n (now (waiting .exit)) ⌝ }
 {
     frontier::clear(waiting);
     wake_added(n, net, waiting);
-    wake_marked(n, into, marks, waiting);
+    reopen_marked(p, n, into, marks, words, waiting);
 }
 
 // A row after a batch: `words`, its words before it, become those that its rounds start from, `waiting` who waits then, and the answer is how
@@ -319,7 +321,6 @@ pub fn prepare(
 {
     let mut marks = frontier::empty();
     mark_affected(p, n, s, net, old, words, &mut marks);
-    clear_marked(p, n, &marks, words);
-    reopen(n, net, into, &marks, waiting);
+    reopen(p, n, net, into, &marks, words, waiting);
     frontier::count(&marks) as u64
 }

@@ -9,25 +9,21 @@ use Rattle.prepare.proofs.Starts.{prepared-made}
 use Rattle.prepare.proofs.prepare.Statement.{statement}
 use Rattle.prepare.proofs.prepare.Tie as tie
 
-clear-marked-requires : tie.Need-clear-marked-requires
-clear-marked-requires c κs = let s = c .before .before .before .before .before .before .before .before .before .before in (c .before .before .mark-affected .ensures .1, s .pre .3)
-
-reopen-requires : tie.Need-reopen-requires
-reopen-requires c κs = let s = c .before .before .before .before .before .before .before .before .before .before .before .before .before .before .before in (s .pre .0, s .pre .2, c .before .before .before .before .before .before .before .mark-affected .ensures .1)
+abbrev start : tie.After-marks → tie.Start
+start c = c .before .before .before .before .before .before .before
 
 returns : tie.Need-returns
 returns c =
-    let o = c .before .before in
-    let w = c .before .before .before .before .before .before .before in
-    let m = c .before .before .before .before .before .before .before .before .before .before in
-    let s = c .before .before .before .before .before .before .before .before .before .before .before .before .before .before .before .before .before .before in
+    let o = c .before .before .before .before in
+    let m = o .before .before .before .before in
+    let s = start (m .before) in
     let a = s .args in
     let ms = m .mark-affected .last .1 .1 .1 .1 .1 .1 .0 in
     let k = bits-count (a .n) ms (m .mark-affected .ensures .1) in (
-      (λ es fs d. prepared-made (property (a .p)) es fs (a .s) (a .n) (a .words .now) (m .mark-affected .ensures .0 es fs _ d) (w .clear-marked .ensures) (o .reopen .ensures .0 es fs _ d)),
+      (λ es fs d. prepared-made (property (a .p)) es fs (a .s) (a .n) (a .words .now) (m .mark-affected .ensures .0 es fs _ d) (o .reopen .ensures .0) (o .reopen .ensures .1 .0 es fs _ d)),
       (
         (λ es fs d. c .count .ensures ∙ k ∙ ap countOf (m .mark-affected .ensures .0 es fs _ d)),
-        (o .reopen .ensures .1, (let x = count-le (bits (a .n) ms) in let y = bits-length (a .n) ms (m .mark-affected .ensures .1) in omega (arith, c .count .ensures, k, s .pre .1 .few))),
+        (o .reopen .ensures .1 .1, (let x = count-le (bits (a .n) ms) in let y = bits-length (a .n) ms (m .mark-affected .ensures .1) in omega (arith, c .count .ensures, k, s .pre .1 .few))),
       ),
     )
 
@@ -36,9 +32,8 @@ prepare-spec =
     tie.close
     (tie.spec
     (λ c κs. search needs)
-    (λ c κs. let s = c .before .before .before .before .before .before .before in (s .pre .0, s .pre .1, s .pre .3))
-    clear-marked-requires
-    reopen-requires
+    (λ c κs. let s = start c in (s .pre .0, s .pre .1, s .pre .3))
+    (λ c κs. let m = c .before .before .before in let s = start (m .before) in (s .pre .0, s .pre .2, m .mark-affected .ensures .1, s .pre .3))
     (λ c κs. search needs)
     (λ c. search needs)
     returns)
