@@ -14,8 +14,8 @@ mark-head-requires c κs =
     (omega (arith, x, c .before .before .before .before .before .before .before .before .head .ensures), omega (arith, y, c .before .before .before .before .head2 .ensures), s .pre .2, s .pre .3)
 
 -- whether the pair had an edge
-had : (c : tie.After-is-removed) → c .is-removed .result ≡ ltb 0 (before (c .before .before .before .before .before .before .before .before .before .args .net .now) (c .before .before .before .before .before .before .before .before .before .args .k) .weight)
-had c = c .is-removed .ensures ∙ ap (ltb 0) (c .before .before .before .weight .ensures)
+had : (c : tie.After-has-edge) → c .has-edge .result ≡ ltb 0 (before (c .before .before .before .before .before .before .before .before .before .args .net .now) (c .before .before .before .before .before .before .before .before .before .args .k) .weight)
+had c = c .has-edge .ensures ∙ ap (ltb 0) (c .before .before .before .weight .ensures)
 
 returns : tie.Need-returns
 returns c =

@@ -11,8 +11,8 @@ insert-requires c κs =
     omega (arith, x, c .before .before .before .before .before .head .ensures)
 
 -- whether the pair has an edge
-has : (c : tie.After-is-added) → c .is-added .result ≡ ltb 0 (after (c .before .before .before .before .before .before .args .net .now) (c .before .before .before .before .before .before .args .k) .weight)
-has c = c .is-added .ensures ∙ ap (ltb 0) (c .before .weight .ensures)
+has : (c : tie.After-has-edge) → c .has-edge .result ≡ ltb 0 (after (c .before .before .before .before .before .before .args .net .now) (c .before .before .before .before .before .before .args .k) .weight)
+has c = c .has-edge .ensures ∙ ap (ltb 0) (c .before .weight .ensures)
 
 returns : tie.Need-returns
 returns c = let z = sym (has (c .before .before .before)) ∙ c .before .before .if1 .taken in rw z (rw (c .before .before .before .before .before .before .head .ensures) at (c .insert .ensures))

@@ -11,7 +11,7 @@ run-unscheduled-requires : tie.Need-run-unscheduled-requires
 run-unscheduled-requires c κs =
     let p = c .before .before .before .before in
     let s = start (p .before) in
-    (s .pre .3 .new, record { words = p .prepare .kept .1 .1 .1 .1 .1 .1 .0 ∙ s .pre .2; waiting = p .prepare .ensures .1 .1 .0 })
+    (s .pre .3 .new, record { words = p .prepare .kept .1 .1 .1 .1 .1 .1 .0 ∙ s .pre .2; waiting = p .prepare .ensures .1 .0 })
 
 returns : tie.Need-returns
 returns c =
@@ -20,10 +20,10 @@ returns c =
     let s = start (p .before) in
     let i = p .before .before .before .before .before in
     let w = q .run-unscheduled .ensures .1 .stores in (
-      record { few = p .prepare .ensures .1 .1 .1; low = omega arith },
+      record { few = p .prepare .ensures .1 .1; low = omega arith },
       (λ es fs d.
-          row-done (s .args .n) (s .args .r) (s .args .landmarks .now) es fs _ _ _ _ _ (q .run-unscheduled .result) (i .before .row-property .ensures) (i .row-landmark .ensures) (p .prepare .ensures .0 es fs (d .batch)) (q .run-unscheduled .ensures .0 fs (d .new))
-          _ (p .prepare .ensures .1 .0 es fs (d .batch)) refl),
+          row-done (s .args .n) (s .args .r) (s .args .landmarks .now) es fs _ _ _ _ _ (q .run-unscheduled .result) (i .before .row-property .ensures) (i .row-landmark .ensures) (p .prepare .ensures .0 es fs (d .batch) .0) (q .run-unscheduled .ensures .0 fs (d .new))
+          _ (p .prepare .ensures .0 es fs (d .batch) .1) refl),
     )
 
 pub batch-row-spec : {M : Type 1} → statement M
