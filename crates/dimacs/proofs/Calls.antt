@@ -1,10 +1,10 @@
 -- The claims of specs/Calls.antt, one theorem each. Assumes nothing.
-use Rattle.property.proofs.Basics.{_≡_, refl, sym, ap, subst, _∙_, _↔_, _⊎_, inl, inr, Bool, true, false, List, ℕ, _≤_, _<_, arith, ltb, length, take, drop, take-at, drop-at, lt-ltb, le-ltb}
+use Rattle.property.proofs.Basics.{_≡_, refl, sym, ap, subst, _∙_, _↔_, _⊎_, inl, inr, List, ℕ, _≤_, _<_, arith, ltb, length, take, drop, take-at, drop-at, le-ltb}
 use Rattle.graph.specs.Limits.{maxEdges}
 use Rattle.graph.specs.Refusal.{Verdict, accept, refuse, _▷_, refuseIf, accepted, refused, replied, verdictOf, Outcome, choose, over}
 use Rattle.graph.specs.Edge.{Edge}
 use Rattle.graph.specs.Table.{Columns, edgesOf, size, shortTable, table}
-use Rattle.graph.proofs.Verdicts.{not-accept, then-accept, accept-then, refuse-then, accept-if, reply-accepted, outcome-refused, outcome-accepted}
+use Rattle.graph.proofs.Verdicts.{not-accept, then-accept, accept-then, accept-if, reply-accepted, outcome-accepted}
 use Rattle.graph.proofs.Judging.{size-accept}
 use Rattle.dimacs.proofs.Refusals.{write-refused}
 use Rattle.dimacs.proofs.Places.{place-one}

@@ -1,6 +1,6 @@
 -- Code stops counting a number at a cap c while it goes on eating its digits. No reader can tell: neither what follows the
 -- number nor any limit below the cap. Assumes nothing.
-use Rattle.property.proofs.Basics.{_≡_, refl, sym, ap, _∙_, Bool, true, false, List, [], _∷_, ℕ, _+_, _-_, _*_, _≤_, _<_, min, arith, leb, ltb, ltb-true, leb-true}
+use Rattle.property.proofs.Basics.{_≡_, sym, ap, _∙_, Bool, true, false, List, [], _∷_, ℕ, _+_, _-_, _*_, _≤_, _<_, min, arith, leb, ltb, ltb-true, leb-true}
 use mathlib.Core.Bool.{and-false}
 use Rattle.property.proofs.Tests.{by-test}
 use Rattle.graph.specs.Limits.{maxVertices, maxEdges, maxWeight}

@@ -1,5 +1,5 @@
 -- Marks and fields of a line: their bytes, and what is read from them. Assumes nothing.
-use Rattle.property.proofs.Basics.{_≡_, refl, ap, _∙_, Bool, true, false, not, List, [], _∷_, _++_, Option, none, some, bind, ℕ, zero, suc, _+_, _/_, _%_, arith, ltb, eqb, length, eqb-true, eq-eqb, ne-eqb}
+use Rattle.property.proofs.Basics.{_≡_, refl, ap, _∙_, Bool, true, false, not, List, [], _∷_, _++_, Option, some, bind, ℕ, zero, suc, _+_, _/_, _%_, arith, ltb, eqb, length, eqb-true, eq-eqb, ne-eqb}
 use Rattle.property.proofs.Tests.{by-test}
 use Rattle.graph.proofs.Tests.{both}
 use Rattle.dimacs.proofs.Options.{none-some, some-same, by-option, bind-some}

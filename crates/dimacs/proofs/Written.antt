@@ -1,6 +1,6 @@
 -- Written text: it is good, has no comment and ascends; no other text of its network does; what a call wrote, a call reads back.
 -- Assumes nothing.
-use Rattle.property.proofs.Basics.{_≡_, refl, sym, ap, _∙_, List, [], _∷_, map, ℕ, _≤_, arith, ltb, ltb-false, length, take, drop, take-at}
+use Rattle.property.proofs.Basics.{_≡_, refl, sym, ap, _∙_, List, [], _∷_, map, ℕ, _≤_, arith, ltb, ltb-false, length, take, take-at}
 use Rattle.graph.specs.Limits.{maxEdges}
 use Rattle.graph.specs.Refusal.{accept, _▷_, refuseIf, accepted, replied, choose}
 use Rattle.graph.specs.Edge.{Edge}

@@ -1,5 +1,5 @@
 -- The claim of specs/Refused.antt. Assumes nothing.
-use Rattle.property.proofs.Basics.{_≡_, sym, ap, _∙_, List, ℕ, _≤_, length, le-ltb}
+use Rattle.property.proofs.Basics.{_≡_, sym, ap, _∙_, List, ℕ, length, le-ltb}
 use Rattle.graph.specs.Refusal.{Verdict, refuse}
 use Rattle.graph.proofs.Verdicts.{accept-then, accept-if}
 use Rattle.dimacs.specs.Network as net

@@ -1,5 +1,5 @@
 -- The lines of a source by its five rows of settled words. Assumes nothing.
-use Rattle.property.proofs.Basics.{_≡_, refl, sym, ap, _∙_, true, false, List, [], _∷_, _++_, map, ℕ, zero, suc, _+_, _-_, _*_, _^_, _≤_, _<_, add-one, arith, ltb, ltb-true, ltb-false, length, getD, take, replicate, length-append, length-take-le, getD-take, List·getD-append}
+use Rattle.property.proofs.Basics.{_≡_, refl, sym, ap, _∙_, false, List, [], _∷_, _++_, map, ℕ, zero, suc, _+_, _-_, _*_, _^_, _≤_, _<_, add-one, arith, ltb, ltb-true, ltb-false, length, getD, take, replicate, length-append, length-take-le, getD-take, List·getD-append}
 use lib.Seq.{getD-append-add}
 use borrow.Rule.Slice.PartMut.{putMid}
 use Rattle.property.proofs.Tests.{by-test}
