@@ -1,5 +1,5 @@
 -- The state of the reader of source files after a line, at the end, and the call as a whole. Assumes nothing.
-use Rattle.property.proofs.Basics.{_≡_, refl, ap, List, [], Option, none, some, bind, ℕ, _+_, _≤_, _<_, add-one, arith, length, set, take, length-take-le, take-suc-set, lt-ltb, le-ltb, eq-eqb, ne-eqb}
+use Rattle.property.proofs.Basics.{_≡_, refl, _&&_, cond, List, [], _∷_, _++_, Option, none, some, bind, ℕ, _+_, _≤_, _<_, add-one, arith, length, set, take, length-take-le, take-suc-set, ltb, eqb, lt-ltb, le-ltb}
 use Rattle.graph.specs.Limits.{maxVertices}
 use Rattle.graph.specs.Refusal.{accept, refuse, _▷_, refuseIf, replied, choose, over}
 use Rattle.graph.specs.Table.{size}
@@ -30,51 +30,28 @@ said-capped n st (some x) l = act-capped n st x l
 pub held-inside : (s : State) {xs : List ℕ} {k j : ℕ} → Held s xs → s ≡ Within k j → (k ≤ src.maxSources) × (j ≤ k)
 held-inside s h q = (rw q at h) .inside
 
--- ---- s lines
+-- ---- after the p line
 
-module _ (xs : List ℕ) (s : State) (n v : ℕ) where
-  module _ (k j : ℕ) (q : s ≡ Within k j) (held : Held s xs) where
-    long : length (take j xs) ≡ j
-    long =
-        let i = held-inside s held q in
-        let r : src.maxSources ≤ length xs = held .room in
-        length-take-le j xs (omega arith)
+module _ {xs : List ℕ} {s : State} {k j : ℕ} (q : s ≡ Within k j) (held : Held s xs) where
+  fits : j ≤ length xs
+  fits = omega (arith, held-inside s held q, held .room)
 
-    pub source-full : k ≤ j → none ≡ src.act n (stateOf xs s) (src.source v)
-    unfolding stateOf src.act
-    source-full l =
-        let z = long in
-        rw (q, le-ltb (length (take j xs)) k (omega arith))
+  long : length (take j xs) ≡ j
+  long = length-take-le j xs fits
 
-    pub source-broken : j < k → n ≤ v → none ≡ src.act n (stateOf xs s) (src.source v)
-    unfolding stateOf src.act
-    source-broken l m =
-        let z = long in
-        rw (q, lt-ltb (length (take j xs)) k (omega arith), le-ltb v n m)
+  pub act-source : (n v : ℕ) → src.act n (stateOf xs s) (src.source v) ≡ cond (ltb j k && ltb v n) (some (src.within k (take j xs ++ (v ∷ [])))) none
+  unfolding stateOf src.act
+  act-source n v = rw (q, long)
 
-    pub source-next : j < k → v < n → some (stateOf (set xs j v) (Within k (j + 1))) ≡ src.act n (stateOf xs s) (src.source v)
-    unfolding stateOf src.act
-    source-next l m =
-        let z = long in
-        let i = held-inside s held q in
-        let r : src.maxSources ≤ length xs = held .room in
-        let w : j < length xs = omega arith in
-        rw (q, lt-ltb (length (take j xs)) k (omega arith), lt-ltb v n m, add-one, take-suc-set xs j v w)
+  pub end-within : (n i : ℕ) → ended src.itemIn (src.act n) src.complete [] i (stateOf xs s) ≡ cond (eqb j k) (good (src.within k (take j xs))) (bad (i + 1))
+  unfolding stateOf ended src.complete
+  end-within n i = rw (q, long, add-one)
 
--- ---- the end of the file
-
-module _ (xs : List ℕ) (s : State) (n k : ℕ) where
-  module _ (m j : ℕ) (q : s ≡ Within m j) (held : Held s xs) where
-    count : length (take j xs) ≡ j
-    count = long xs s n 0 m j q held
-
-    pub end-short : (j ≡ m → ⊥) → bad (k + 1) ≡ ended src.itemIn (src.act n) src.complete [] k (stateOf xs s)
-    unfolding stateOf ended src.complete
-    end-short d = rw (q, count, ne-eqb j m d, add-one)
-
-    pub end-whole : j ≡ m → good (src.within j (take j xs)) ≡ ended src.itemIn (src.act n) src.complete [] k (stateOf xs s)
-    unfolding stateOf ended src.complete
-    end-whole e = rw (q, count, eq-eqb j m e) (ap (λ (x : ℕ). good (src.within x (take j xs))) e)
+  pub source-next : (n v : ℕ) → j < k → v < n → some (stateOf (set xs j v) (Within k (j + 1))) ≡ src.act n (stateOf xs s) (src.source v)
+  unfolding stateOf src.act
+  source-next n v l m =
+      let w : j < length xs = omega (arith, held-inside s held q, held .room) in
+      rw (q, long, lt-ltb j k l, lt-ltb v n m, add-one, take-suc-set xs j v w)
 
 -- ---- the call
 
