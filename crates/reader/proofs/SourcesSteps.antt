@@ -1,17 +1,13 @@
--- The state of the reader of source files after a line, at the end, and the call as a whole. Assumes nothing.
-use Rattle.property.proofs.Basics.{_≡_, refl, _&&_, cond, List, [], _∷_, _++_, Option, none, some, bind, ℕ, _+_, _≤_, _<_, add-one, arith, length, set, take, length-take-le, take-suc-set, ltb, eqb, lt-ltb, le-ltb}
+-- The state of the reader of source files after a line and at the end. Assumes nothing.
+use Rattle.property.proofs.Basics.{_≡_, refl, _&&_, cond, List, [], _∷_, _++_, Option, none, some, bind, ℕ, _+_, _≤_, _<_, add-one, arith, length, set, take, length-take-le, take-suc-set, ltb, eqb, lt-ltb}
 use Rattle.graph.specs.Limits.{maxVertices}
-use Rattle.graph.specs.Refusal.{accept, refuse, _▷_, refuseIf, replied, choose, over}
-use Rattle.graph.specs.Table.{size}
 use Rattle.dimacs.specs.Read.{good, bad, ended}
 use Rattle.dimacs.specs.Sources as src
-use Rattle.dimacs.specs.Call.{judged, sourcesRead, sourcesCall}
 use Rattle.dimacs.proofs.Caps.{header-capped, source-capped}
 use Rattle.reader.specs.declared.sources.State.{State}
 use Rattle.reader.specs.declared.sources.State.the-variants.{Within}
-use Rattle.reader.specs.declared.sources.SourcesReply.the-variants as reply
 use Rattle.reader.specs.Capped.{capSource, capSources}
-use Rattle.reader.specs.SourcesCode.{Held, stateOf, reading, sourcesOutcome}
+use Rattle.reader.specs.SourcesCode.{Held, stateOf}
 
 -- ---- capped numbers: all limits lie below the cap
 
@@ -52,25 +48,3 @@ module _ {xs : List ℕ} {s : State} {k j : ℕ} (q : s ≡ Within k j) (held : 
   source-next n v l m =
       let w : j < length xs = omega (arith, held-inside s held q, held .room) in
       rw (q, long, lt-ltb j k l, lt-ltb v n m, add-one, take-suc-set xs j v w)
-
--- ---- the call
-
-module _ (n : ℕ) (bytes out : List ℕ) where
-  pub call-size : {k i : ℕ} → refuse k i ≡ size n → sourcesOutcome (reply.Refused k i) out ≡ sourcesCall n bytes out
-  unfolding sourcesCall reading _▷_ replied choose
-  call-size e = rw (← e)
-
-  module _ (fine : accept ≡ size n) where
-    pub call-short : length out < src.maxSources → sourcesOutcome (reply.Refused 2 0) out ≡ sourcesCall n bytes out
-    unfolding sourcesCall reading _▷_ refuseIf replied choose
-    call-short l = rw (← fine, lt-ltb (length out) src.maxSources l)
-
-    module _ (room : src.maxSources ≤ length out) where
-      pub call-bad : {line : ℕ} → bad line ≡ src.readSources n bytes → sourcesOutcome (reply.Refused 14 line) out ≡ sourcesCall n bytes out
-      unfolding sourcesCall reading _▷_ refuseIf replied choose judged
-      call-bad e = rw (← fine, le-ltb (length out) src.maxSources room, ← e)
-
-      pub call-good : (k : ℕ) (ss : List ℕ) (out′ : List ℕ) → good (src.within k ss) ≡ src.readSources n bytes → length ss ≡ k
-          → out′ ≡ over ss out → sourcesOutcome (reply.Read k) out′ ≡ sourcesCall n bytes out
-      unfolding sourcesCall reading _▷_ refuseIf replied choose judged sourcesRead
-      call-good k ss out′ e l w = rw (← fine, le-ltb (length out) src.maxSources room, ← e, w, l)
