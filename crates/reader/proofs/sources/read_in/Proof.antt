@@ -27,10 +27,6 @@ readOn k = k .before .before .before .before
 count : (k : tie.After-count) → let t = readOn k in (k .count .given .0 .0 ≤ maxSources) × (maxSources ≤ length (t .read-text .last .1 .1 .0))
 count k = let t = readOn k .read-text in subst (λ r. Whole r (t .last .1 .1 .0)) (k .count .given .1) (t .ensures .1)
 
-returns : tie.Need-returns
-unfolding told sourcesCall reading _▷_ replied choose
-returns c = rw (← (ap told (sym (c .before .size .given .1)) ∙ c .before .before .before .judge-size .ensures))
-
 returns-2 : tie.Need-returns-2
 unfolding sourcesCall reading _▷_ refuseIf replied choose
 returns-2 c = rw (← fine (c .before), lt-ltb (length (start (c .before .before .before) .args .sources .now)) maxSources (omega arith))
@@ -72,7 +68,7 @@ read-in-spec =
     (tie.spec
     (λ c κs. search needs)
     (λ c. search needs)
-    returns
+    (λ c. unfold told sourcesCall reading _▷_ replied choose in rw (← (ap told (sym (c .before .size .given .1)) ∙ c .before .before .before .judge-size .ensures)))
     (λ c. search needs)
     returns-2
     read-text-requires

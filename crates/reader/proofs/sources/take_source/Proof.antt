@@ -17,10 +17,6 @@ inside c =
     let r = start k .pre .room in
     omega arith
 
-returns : tie.Need-returns
-unfolding stepOf stateOf act
-returns c = (rw (c .enum-told .given .1), tt)
-
 returns-2 : tie.Need-returns-2
 unfolding stepOf
 returns-2 c =
@@ -52,7 +48,7 @@ take-source-spec =
     (tie.spec
     (λ c. search needs)
     (λ c. search needs)
-    returns
+    (λ c. unfold stepOf stateOf act in (rw (c .enum-told .given .1), tt))
     (λ c. search needs)
     returns-2
     returns-3

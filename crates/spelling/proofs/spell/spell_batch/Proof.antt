@@ -9,14 +9,6 @@ use Rattle.spelling.proofs.spell.spell_batch.Tie as tie
 slice-write-reply-3 : tie.Need-slice-write-reply-3
 slice-write-reply-3 c = setAll-within (c .before .before .r .given .0 .0 .count ∷ c .before .before .r .given .0 .0 .affected ∷ []) (c .before .before .before .before .args .reply .now) 2 (omega arith)
 
-returns : tie.Need-returns
-unfolding applying
-returns c = rw (c .before .before .r .given .1) (stored-tells reportWords _ (c .before .before .before .before .pre) _ (omega arith))
-
-returns-2 : tie.Need-returns-2
-unfolding applying
-returns-2 c = rw (c .before .r2 .given .1) (refused-tells reportWords _ (c .before .before .before .pre) _ _)
-
 pub spell-batch-spec : {M : Type 1} → statement M
 spell-batch-spec =
     tie.close
@@ -29,6 +21,6 @@ spell-batch-spec =
     (λ c. search needs)
     (λ c. search needs)
     (λ c. search needs)
-    returns
+    (λ c. unfold applying in rw (c .before .before .r .given .1) (stored-tells reportWords _ (c .before .before .before .before .pre) _ (omega arith)))
     (λ c. search needs)
-    returns-2)
+    (λ c. unfold applying in rw (c .before .r2 .given .1) (refused-tells reportWords _ (c .before .before .before .pre) _ _)))

@@ -6,18 +6,6 @@ use Rattle.spelling.proofs.Telling.{setAll-within, refused-tells, store
 use Rattle.spelling.proofs.spell.spell_check.Statement.{statement}
 use Rattle.spelling.proofs.spell.spell_check.Tie as tie
 
-returns : tie.Need-returns
-unfolding checking checkWords
-returns c = rw (c .enum-told .given .1) (stored-tells checkWords _ (c .before .before .pre) _ (omega arith))
-
-returns-2 : tie.Need-returns-2
-unfolding checking checkWords
-returns-2 c = rw (c .before .r .given .1) (stored-tells checkWords _ (c .before .before .before .pre) _ (omega arith))
-
-returns-3 : tie.Need-returns-3
-unfolding checking
-returns-3 c = rw (c .before .r2 .given .1) (refused-tells checkWords _ (c .before .before .before .pre) _ _)
-
 pub spell-check-spec : {M : Type 1} → statement M
 spell-check-spec =
     tie.close
@@ -33,8 +21,8 @@ spell-check-spec =
     (λ c. search needs)
     (λ c. search needs)
     (λ c. search needs)
-    returns
+    (λ c. unfold checking checkWords in rw (c .enum-told .given .1) (stored-tells checkWords _ (c .before .before .pre) _ (omega arith)))
     (λ c. search needs)
-    returns-2
+    (λ c. unfold checking checkWords in rw (c .before .r .given .1) (stored-tells checkWords _ (c .before .before .before .pre) _ (omega arith)))
     (λ c. search needs)
-    returns-3)
+    (λ c. unfold checking in rw (c .before .r2 .given .1) (refused-tells checkWords _ (c .before .before .before .pre) _ _)))

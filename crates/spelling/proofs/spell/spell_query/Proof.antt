@@ -6,14 +6,6 @@ use Rattle.spelling.proofs.Telling.{setAll-within, refused-tells, store
 use Rattle.spelling.proofs.spell.spell_query.Statement.{statement}
 use Rattle.spelling.proofs.spell.spell_query.Tie as tie
 
-returns : tie.Need-returns
-unfolding answering
-returns c = rw (c .before .r .given .1) (stored-tells tallyWords _ (c .before .before .before .pre) _ (omega arith))
-
-returns-2 : tie.Need-returns-2
-unfolding answering
-returns-2 c = rw (c .before .r2 .given .1) (refused-tells tallyWords _ (c .before .before .before .pre) _ _)
-
 pub spell-query-spec : {M : Type 1} → statement M
 spell-query-spec =
     tie.close
@@ -25,6 +17,6 @@ spell-query-spec =
     (λ c. search needs)
     (λ c. search needs)
     (λ c. search needs)
-    returns
+    (λ c. unfold answering in rw (c .before .r .given .1) (stored-tells tallyWords _ (c .before .before .before .pre) _ (omega arith)))
     (λ c. search needs)
-    returns-2)
+    (λ c. unfold answering in rw (c .before .r2 .given .1) (refused-tells tallyWords _ (c .before .before .before .pre) _ _)))

@@ -6,14 +6,6 @@ use Rattle.spelling.proofs.Telling.{refused-tells, stored-tells}
 use Rattle.spelling.proofs.spell.spell_sources.Statement.{statement}
 use Rattle.spelling.proofs.spell.spell_sources.Tie as tie
 
-returns : tie.Need-returns
-unfolding reading
-returns c = rw (c .before .r .given .1) (stored-tells oneWord _ (c .before .before .before .pre) _ (omega arith))
-
-returns-2 : tie.Need-returns-2
-unfolding reading
-returns-2 c = rw (c .before .r2 .given .1) (refused-tells oneWord _ (c .before .before .before .pre) _ _)
-
 pub spell-sources-spec : {M : Type 1} → statement M
 spell-sources-spec =
     tie.close
@@ -24,6 +16,6 @@ spell-sources-spec =
     (λ c. search needs)
     (λ c. search needs)
     (λ c. search needs)
-    returns
+    (λ c. unfold reading in rw (c .before .r .given .1) (stored-tells oneWord _ (c .before .before .before .pre) _ (omega arith)))
     (λ c. search needs)
-    returns-2)
+    (λ c. unfold reading in rw (c .before .r2 .given .1) (refused-tells oneWord _ (c .before .before .before .pre) _ _)))
