@@ -65,7 +65,7 @@ printed-cut gr ss = printed-cut-graph gr (take (suc maxFile) ss) ∙ printed-cut
 
 -- ---- one piece
 
-module _ (gr ss : List ℕ) (p : Prepared) (ts hs ws xs f b : List ℕ) (h : Shown gr ss p ts hs ws xs f b) where
+module _ {gr ss : List ℕ} {p : Prepared} {ts hs ws xs f b : List ℕ} (h : Shown gr ss p ts hs ws xs f b) where
   pub parts-refused : (k i : ℕ) → p .verdict ≡ Refused k i → parts gr ss ≡ refusedLine k i ∷ []
   unfolding told partsOf
   parts-refused k i e =
@@ -109,6 +109,3 @@ pub piece-only : (ps : List (List ℕ)) (x : List ℕ) (i : ℕ) → ps ≡ x �
 piece-only ps x i e l =
     let z : i ≡ 0 = omega (arith, ap length e) in
     rw (z, e)
-
-pub piece-first : (ps qs : List (List ℕ)) (x : List ℕ) (i : ℕ) → ps ≡ x ∷ qs → i ≡ 0 → getD ps i [] ≡ x
-piece-first ps qs x i e z = rw (z, e)

@@ -89,14 +89,6 @@ module _ (gr ts hs ws : List ℕ) (l : length gr ≤ maxFile) where
   graph-read (graphs.Read n m) e = let (st, q) = judged-accept (net.readNetwork gr) (sym (graph-told (graphs.Read n m) e)) in graph-loaded st q n m e
   graph-read (graphs.Refused k i) e = graph-verdict gr l ∙ sym (graph-told (graphs.Refused k i) e)
 
--- what the reply tells, by its case
-module _ (gr ts hs ws : List ℕ) (r : ReadReply) (h : GraphRead gr r ts hs ws) where
-  pub graph-refused : (k i : ℕ) → r ≡ graphs.Refused k i → graphVerdict gr ≡ refuse k i
-  graph-refused k i e = rw e at h
-
-  pub graph-given : (n m : ℕ) → r ≡ graphs.Read n m → GraphRead gr (graphs.Read n m) ts hs ws
-  graph-given n m e = rw e at h
-
 -- ---- deck.ss
 
 pub sources-long : (n : ℕ) (ss : List ℕ) → maxFile < length ss → sourcesVerdict n ss ≡ refuse 2 0
@@ -135,13 +127,6 @@ module _ (n : ℕ) (ss xs ys : List ℕ) (s : size n ≡ accept) (w : src.maxSou
   unfolding list.reading verdictOf
   sources-read (lists.Read k) e = sources-loaded k (sym (sources-told (lists.Read k) e)) e
   sources-read (lists.Refused k i) e = sources-verdict ∙ sym (sources-told (lists.Refused k i) e)
-
-module _ (n : ℕ) (ss xs : List ℕ) (r : SourcesReply) (h : SourcesRead n ss r xs) where
-  pub sources-refused : (k i : ℕ) → r ≡ lists.Refused k i → sourcesVerdict n ss ≡ refuse k i
-  sources-refused k i e = rw e at h
-
-  pub sources-given : (k : ℕ) → r ≡ lists.Read k → SourcesRead n ss (lists.Read k) xs
-  sources-given k e = rw e at h
 
 -- ---- both
 

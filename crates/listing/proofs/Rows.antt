@@ -16,7 +16,7 @@ use Rattle.dimacs.specs.Decimal.{digits}
 use Rattle.dimacs.specs.Lines.{fieldsOf}
 use Rattle.dimacs.proofs.Widths.{width-most}
 use Rattle.writer.proofs.Fields.{width-word}
-use Rattle.listing.specs.Listing.{Graph, landmarksOf, valueAt, spaced, lineOf, linesOf, refusedLine}
+use Rattle.listing.specs.Listing.{Graph, landmarksOf, valueAt, spaced, lineOf, linesOf}
 use Rattle.listing.specs.Code.{maxLine, settledRow, rowsLine, rowsLines}
 
 -- ---- a query's settled words
@@ -137,10 +137,6 @@ module _ (g : Graph) (w : Network) (s : ℕ) (ls xs : List ℕ) (chosen : landma
   lines-rows (suc k) t l = rw (line-rows t (omega arith), lines-rows k (suc t) (omega arith))
 
 -- ---- the line of a refusal
-
-pub refused-fields : (k i : ℕ) → refusedLine k i ≡ (114 ∷ 101 ∷ 102 ∷ 117 ∷ 115 ∷ 101 ∷ 100 ∷ []) ++ fieldsOf (k ∷ i ∷ []) ++ (10 ∷ [])
-unfolding refusedLine
-refused-fields k i = refl
 
 pub refused-most : (k i : ℕ) → k < 2 ^ 64 → i < 2 ^ 64 → length ((114 ∷ 101 ∷ 102 ∷ 117 ∷ 115 ∷ 101 ∷ 100 ∷ []) ++ fieldsOf (k ∷ i ∷ []) ++ (10 ∷ [])) ≤ 50
 unfolding fieldsOf
