@@ -49,6 +49,17 @@ unfolding replied choose verdictOf
 refused-old accept a new old k i h = absurd (not-accept (sym (ap verdictOf h)))
 refused-old (refuse j p) a new old k i h = refl
 
+-- so a call with that chain is refused exactly where the text has its place, P, and lends what it lent
+call-refused : {S A L P : Type 0} (r : Read S) (a : A) (new old : L) (v : Verdict) (k i : ℕ) → v ≡ judged r → ((r ≡ bad i) ↔ P)
+    → ((replied v a ≡ refused k i) ↔ ((k ≡ 14) × P)) × (replied v a ≡ refused k i → choose v new old ≡ old)
+call-refused r a new old v k i c p = (
+  (
+    λ h. let z = judged-refused r a k i .0 (ap (λ (w : Verdict). replied w a) (sym c) ∙ h) in (z .0, p .0 (z .1)),
+    λ h. ap (λ (w : Verdict). replied w a) c ∙ judged-refused r a k i .1 (h .0, p .1 (h .1)),
+  ),
+  refused-old v a new old k i,
+)
+
 accepted-same : {A : Type 0} (a b : A) → accepted a ≡ accepted b → a ≡ b
 accepted-same a b h = cc
 
@@ -93,14 +104,7 @@ pub call-refuses : CallRefuses
 unfolding readCall
 call-refuses text cs s k i =
     let r = net.readNetwork text in
-    let a : Size = record { vertices = vertexCount r; count = length (edgesRead r) } in
-    let c : (shortTable cs ▷ judged r) ≡ judged r = accept-then s in (
-      (
-        λ h. let z = judged-refused r a k i .0 (ap (λ (v : Verdict). replied v a) (sym c) ∙ h) in (z .0, network-places text i .0 (z .1)),
-        λ h. ap (λ (v : Verdict). replied v a) c ∙ judged-refused r a k i .1 (h .0, network-places text i .1 (h .1)),
-      ),
-      refused-old (shortTable cs ▷ judged r) a (filled (edgesRead r) cs) cs k i,
-    )
+    call-refused r (record { vertices = vertexCount r; count = length (edgesRead r) }) (filled (edgesRead r) cs) cs (shortTable cs ▷ judged r) k i (accept-then s) (network-places text i)
 
 -- ---- reading a source file
 
@@ -140,15 +144,7 @@ pub sources-call-refuses : SourcesCallRefuses
 unfolding sourcesCall
 sources-call-refuses n text out s l k i =
     let r = src.readSources n text in
-    let a = length (sourcesRead r) in
-    let c = short n text out s l in
-    let pos = size-accept n s .0 in (
-      (
-        λ h. let z = judged-refused r a k i .0 (ap (λ (v : Verdict). replied v a) (sym c) ∙ h) in (z .0, sources-places n pos text i .0 (z .1)),
-        λ h. ap (λ (v : Verdict). replied v a) c ∙ judged-refused r a k i .1 (h .0, sources-places n pos text i .1 (h .1)),
-      ),
-      refused-old (chain n text out s l) a (over (sourcesRead r) out) out k i,
-    )
+    call-refused r (length (sourcesRead r)) (over (sourcesRead r) out) out (chain n text out s l) k i (short n text out s l) (sources-places n (size-accept n s .0) text i)
 
 -- ---- writing network text
 
