@@ -1,6 +1,6 @@
 -- What a batch leaves in the lent lists, from what its rows came to. Assumes nothing.
-use Rattle.property.proofs.Basics.{_≡_, sym, _∙_, true, false, List, map, ℕ, length}
-use Rattle.graph.specs.Refusal.{refuseIf, accepted, replied, choose, over}
+use Rattle.property.proofs.Basics.{_≡_, _∙_, List, map, ℕ, length}
+use Rattle.graph.specs.Refusal.{accept, accepted, replied, choose}
 use Rattle.graph.specs.Edge.{Edge, reverse, edges}
 use Rattle.graph.specs.Index.{Own}
 use Rattle.graph.proofs.Order.{rules-accept, within}
@@ -9,35 +9,26 @@ use Rattle.graph.specs.Code.{columns}
 use Rattle.apply.specs.declared.Report.{Report}
 use Rattle.apply.specs.declared.Applied.the-variants as applied
 use Rattle.rows.specs.declared.Rowed.{Rowed}
-use Rattle.network.specs.Network.{flat}
-use Rattle.network.specs.Batch.{batchRows, rewritten}
+use Rattle.network.specs.Batch.{rewritten, stillWaiting}
 use Rattle.sides.specs.Code.{Sides, SidesDone}
 use Rattle.apply.specs.Code.{applying, applyCall, batchOutcome}
 use Rattle.calls.specs.Code.{network}
 
 -- ---- what is written
 
-module _ (n : ℕ) (ls : List ℕ) (ts hs ws f b : List ℕ) (m : ℕ) (fs : List Edge) (f′ b′ : List ℕ) (a : Rowed) (d : SidesDone n ls (edges ts hs ws m) fs f b f′ b′ a) where
-  pub apply-refused : a .unsettled ≡ true → batchOutcome (applied.Refused 13 0) ts hs ws f′ b′ ≡ applyCall n ls (network ts hs ws f b m) fs
-  unfolding applyCall applying refuseIf replied choose
-  apply-refused u =
-      let g : f′ ≡ f = d .forward ∙ rw u in
-      let h : b′ ≡ b = d .backward ∙ rw u in
-      rw (sym (d .unsettled) ∙ u, g, h)
-
-  pub apply-done : a .unsettled ≡ false → (r : Report) (ts′ hs′ ws′ : List ℕ) → r .count ≡ length fs → r .affected ≡ a .affected → r .stores ≡ a .stores
-      → columns ts′ hs′ ws′ ≡ rewritten fs (columns ts hs ws) → batchOutcome (applied.Done r) ts′ hs′ ws′ f′ b′ ≡ applyCall n ls (network ts hs ws f b m) fs
-  unfolding applyCall applying refuseIf replied choose
-  apply-done u r ts′ hs′ ws′ c o s t =
-      let l = o ∙ d .affected in
-      let j = s ∙ d .stores in
-      let g : f′ ≡ over (flat (batchRows n ls (edges ts hs ws m) fs f)) f = d .forward ∙ rw u in
-      let h : b′ ≡ over (flat (batchRows n ls (map reverse (edges ts hs ws m)) (map reverse fs) b)) b = d .backward ∙ rw u in
-      rw (sym (d .unsettled) ∙ u)
-      (λ i. record {
-        reply = accepted (record { count = c i; affected = l i; stores = j i });
-        memory = record { table = t i; rows = record { forward = g i; backward = h i } };
-      })
+-- nothing waits in any row
+pub apply-done : (n : ℕ) (ls ts hs ws f b : List ℕ) (m : ℕ) (fs : List Edge) (f′ b′ : List ℕ) (a : Rowed) → SidesDone n ls (edges ts hs ws m) fs f b f′ b′ a
+    → stillWaiting n ls (network ts hs ws f b m) fs ≡ accept → (r : Report) (ts′ hs′ ws′ : List ℕ) → r .count ≡ length fs → r .affected ≡ a .affected → r .stores ≡ a .stores
+    → columns ts′ hs′ ws′ ≡ rewritten fs (columns ts hs ws) → batchOutcome (applied.Done r) ts′ hs′ ws′ f′ b′ ≡ applyCall n ls (network ts hs ws f b m) fs
+unfolding applyCall applying replied choose
+apply-done n ls ts hs ws f b m fs f′ b′ a d u r ts′ hs′ ws′ c o s t =
+    let l = o ∙ d .affected in
+    let j = s ∙ d .stores in
+    rw u
+    (λ i. record {
+      reply = accepted (record { count = c i; affected = l i; stores = j i });
+      memory = record { table = t i; rows = record { forward = d .forward i; backward = d .backward i } };
+    })
 
 -- ---- both tables
 

@@ -55,8 +55,8 @@ fn write_table(
     write_words(count2, weights2, weights1);
 }
 
-// A batch with the new table at hand: its changes are listed and both tables indexed, then all rows are run; number 13, or all that is lent is
-// written.
+// A batch with the new table at hand: its changes are listed and both tables indexed, then all rows are run in their place and the table is
+// written. Every run ends within n rounds, whatever words the rows held: so number 13 never comes, and the runs need no trial first.
 pub fn apply(
     n: u32,
     landmarks: &[u32],
@@ -76,7 +76,6 @@ pub fn apply(
     ensures { λ r. ⌜ batchOutcome r (now (tails .exit)) (now (heads .exit)) (now (weights .exit)) (now (forward .exit)) (now (backward .exit)) ≡ applyCall n (now (landmarks .entry)) (network (now (tails .entry)) (now (heads .entry)) (now (weights .entry)) (now (forward .entry)) (now (backward .entry)) count) (edges (now (tails2 .entry)) (now (heads2 .entry)) (now (weights2 .entry)) count2) ⌝ }
 {
     let size = n as usize;
-    let k = landmarks.len() * property::PROPERTIES * size;
     let mut net = [0u32; compare::NET_WORDS];
     let changed = compare::differences(
         count,
@@ -98,8 +97,6 @@ pub fn apply(
     pack::index_reversed(size, count, tails, heads, weights, &mut free, &mut rold);
     pack::index(size, count2, tails2, heads2, weights2, &mut free, &mut new);
     pack::index_reversed(size, count2, tails2, heads2, weights2, &mut free, &mut rnew);
-    let mut ahead = [0u32; graph::ROW_WORDS];
-    let mut back = [0u32; graph::ROW_WORDS];
     let rows = sides::batch_sides(
         size,
         landmarks,
@@ -110,12 +107,7 @@ pub fn apply(
         &rnew,
         forward,
         backward,
-        &mut ahead[..k],
-        &mut back[..k],
     );
-    if rows.unsettled {
-        return Applied::Refused(13, 0);
-    }
     write_table(count2, tails2, heads2, weights2, tails, heads, weights);
     Applied::Done(Report {
         count: count2 as u32,

@@ -1,6 +1,7 @@
 pub mod Items
 pub mod Ends
 pub mod Rows
+pub mod Still
 pub mod Reports
 pub mod Moment
 pub mod Query

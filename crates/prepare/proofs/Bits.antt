@@ -1,7 +1,8 @@
 -- Marks of n vertices in words of 64 bits: read, set, cleared, counted. Assumes nothing.
-use Rattle.property.proofs.Basics.{_≡_, refl, sym, ap, _∙_, _⊎_, inl, inr, Bool, true, false, cond, List, [], _∷_, ℕ, zero, suc, _≤_, _<_, ℕ-discrete, decLt, arith, length, getD, set, take, List·getD-eq-default, getD-set-same, getD-set-other, length-take-le}
+use Rattle.property.proofs.Basics.{_≡_, refl, sym, ap, _∙_, _⊎_, inl, inr, ⊎-elim, Bool, true, false, cond, List, [], _∷_, ℕ, zero, suc, _+_, _≤_, _<_, ℕ-discrete, decLt, arith, length, getD, set, take, List·getD-eq-default, getD-set-other, length-take-le}
 use Rattle.frontier.specs.Waiting.{waitingOf, countOf}
-use Rattle.frontier.proofs.Laws.{count-none}
+use Rattle.frontier.proofs.Laws.{count-none, count-insert}
+use Rattle.graph.proofs.Lists.{at-set}
 use Rattle.run.specs.Code.{bits, Marks}
 use Rattle.run.proofs.States.{bits-at, marks-set}
 
@@ -10,20 +11,17 @@ use Rattle.run.proofs.States.{bits-at, marks-set}
 -- bit h of l is set where b holds
 module _ (l : List Bool) (h : ℕ) (b : Bool) where
   pub raise-keeps : h < length l → (t : ℕ) → getD l t false ≡ true → getD (cond b (set l h true) l) t false ≡ true
-  raise-keeps k t q = pick b (ℕ-discrete t h)
-    where
-      pick : (a : Bool) → Dec (t ≡ h) → getD (cond a (set l h true) l) t false ≡ true
-      pick true (yes p) = rw p (getD-set-same l h true false k)
-      pick true (no d) = getD-set-other l h t true false d ∙ q
-      pick false d = q
+  raise-keeps k t q = elim b [ true ↦ ⊎-elim (λ z. z .1) (λ z. z .1 ∙ q) (at-set l h true t false k) | false ↦ q ]
 
   pub raise-only : (t : ℕ) → getD (cond b (set l h true) l) t false ≡ true → (getD l t false ≡ true) ⊎ ((b ≡ true) × (t ≡ h))
-  raise-only t = pick b refl (ℕ-discrete t h)
-    where
-      pick : (a : Bool) → b ≡ a → Dec (t ≡ h) → getD (cond a (set l h true) l) t false ≡ true → (getD l t false ≡ true) ⊎ ((b ≡ true) × (t ≡ h))
-      pick true e (yes p) q = inr (e, p)
-      pick true e (no d) q = inl (sym (getD-set-other l h t true false d) ∙ q)
-      pick false e d q = inl q
+  raise-only t = elim b [
+    | true ↦ λ q. elim (ℕ-discrete t h) [ yes p ↦ inr (refl, p) | no d ↦ inl (sym (getD-set-other l h t true false d) ∙ q) ]
+    | false ↦ inl
+  ]
+
+  -- one bit more, where it was not set
+  pub raise-count : h < length l → (b ≡ true → getD l h false ≡ false) → countOf (cond b (set l h true) l) ≡ cond b 1 0 + countOf l
+  raise-count k = elim b [ true ↦ λ off. omega (arith, count-insert l h k (off refl)) | false ↦ λ off. omega arith ]
 
 -- ---- marks
 
@@ -43,11 +41,10 @@ bits-length n bs m = length-take-le n (waitingOf bs) (omega (arith, m .few, m .b
 
 -- a bit of n vertices is one of all
 pub bits-all : (n : ℕ) (bs : List ℕ) → Marks n bs → (t : ℕ) → getD (bits n bs) t false ≡ getD (waitingOf bs) t false
-bits-all n bs m t = pick (decLt t n)
-  where
-    pick : Dec (t < n) → getD (bits n bs) t false ≡ getD (waitingOf bs) t false
-    pick (yes h) = bits-at n bs t h
-    pick (no d) = List·getD-eq-default (bits n bs) false (omega (arith, bits-length n bs m)) ∙ sym (m .idle t (omega arith))
+bits-all n bs m t = elim (decLt t n) [
+  | yes h ↦ bits-at n bs t h
+  | no d ↦ List·getD-eq-default (bits n bs) false (omega (arith, bits-length n bs m)) ∙ sym (m .idle t (omega arith))
+]
 
 -- a vertex is marked where a test holds
 pub marks-if : (n : ℕ) (bs cs : List ℕ) (v : ℕ) (b : Bool) → v < n → waitingOf cs ≡ cond b (set (waitingOf bs) v true) (waitingOf bs)

@@ -1,10 +1,11 @@
 -- Marks that go on from vertex to vertex: what one edge does, what the listed edges and the edges of one vertex do, and that the marks
 -- are those of the affected vertices once nothing is to do. Assumes nothing.
-use Rattle.property.proofs.Basics.{_≡_, refl, sym, ap, _∙_, _⊎_, inl, inr, ⊎-elim, Bool, true, false, not, _&&_, _||_, cond, true≢false, false≢true, List, [], _∷_, List·Memᴰ, List·Memᴰ·head, List·Memᴰ·tail, List·Memᴰ·cases-cons, List·Memᴰ·not-nil, ℕ, zero, suc, _+_, _-_, _*_, _≤_, _<_, ℕ-discrete, arith, length, getD, set, replicate, getD-set-same, getD-set-other, ltb, ltb-true, ltb-false, not-true}
+use Rattle.property.proofs.Basics.{_≡_, refl, sym, ap, _∙_, _⊎_, inl, inr, ⊎-elim, Bool, true, false, not, _&&_, _||_, cond, true≢false, false≢true, List, [], _∷_, List·Memᴰ, List·Memᴰ·head, List·Memᴰ·tail, List·Memᴰ·cases-cons, List·Memᴰ·not-nil, ℕ, zero, suc, _+_, _-_, _*_, _≤_, _<_, ℕ-discrete, arith, length, getD, set, replicate, getD-set-same, getD-set-other, ltb-true, lt-ltb, not-true}
 use Rattle.property.specs.Property.{Property}
+use Rattle.property.proofs.Tests.{is-false, by-test}
 use Rattle.frontier.specs.Waiting.{waitingOf, capacity, countOf}
 use Rattle.frontier.proofs.Counts.{count-le}
-use Rattle.frontier.proofs.Laws.{count-insert, count-remove}
+use Rattle.frontier.proofs.Laws.{count-remove}
 use Rattle.graph.specs.Limits.{maxVertices}
 use Rattle.graph.specs.Arc.{arcHead}
 use Rattle.graph.specs.Edge.{Edge, edge}
@@ -17,8 +18,8 @@ use Rattle.run.specs.Code.{bits, Marks}
 use Rattle.run.proofs.States.{marks-set, marks-clear}
 use Rattle.affected.specs.Affected.{removed, Named, held, marked, affected}
 use Rattle.compare.specs.Code.{before, pairs, Lists}
-use Rattle.prepare.specs.Code.{arcEdge, holds, Going, Grown, marksHead, HeadsMarked, Along, Covered, Spreads}
-use Rattle.prepare.proofs.Bits.{raise-keeps, raise-only, bits-all, bits-length, marks-if}
+use Rattle.prepare.specs.Code.{arcEdge, holds, Going, Grown, marksHead, Gone, HeadsMarked, Along, Covered, Spreads}
+use Rattle.prepare.proofs.Bits.{raise-keeps, raise-only, raise-count, bits-all, bits-length, marks-if}
 use Rattle.affected.proofs.Closure.{touches-named}
 use Rattle.affected.proofs.Sweeps.{closed-exact}
 
@@ -45,162 +46,76 @@ grown-then p q = record {
   more = (let x = p .more in let y = q .more in omega arith);
 }
 
--- ---- one edge
+-- ---- the edges f i that pass the test on
 
--- the edge e, whose head is h, is gone along
-module _ (P : Property) (n s : ℕ) (vs : List ℕ) (e : Edge) (head : e .head < n) (bs ds bs′ ds′ : List ℕ) (at : Going n bs ds)
-    (p : waitingOf bs′ ≡ cond (marksHead P s vs (waitingOf bs) e) (set (waitingOf bs) (e .head) true) (waitingOf bs))
-    (q : waitingOf ds′ ≡ cond (marksHead P s vs (waitingOf bs) e) (set (waitingOf ds) (e .head) true) (waitingOf ds)) where
-  abbrev hit : Bool
-  hit = marksHead P s vs (waitingOf bs) e
+module _ {P : Property} {n s : ℕ} {f : ℕ → Edge} {on : ℕ → Bool} {j : ℕ} {vs bs ds : List ℕ} where
+  pub gone-start : Going n bs ds → Gone P n s f on j j vs bs ds bs ds
+  gone-start h = record { going = h; grown = grown-none (waitingOf bs) (waitingOf ds); named = λ es fs g d. d; heads = λ i a b. absurd (omega arith) }
 
-  head-bit : e .head < length (waitingOf bs)
-  head-bit = omega (arith, at .marks .bits, at .marks .few)
+  pub gone-as : {cs es : List ℕ} {k i : ℕ} → Gone P n s f on j k vs bs ds cs es → k ≡ i → Gone P n s f on j i vs bs ds cs es
+  gone-as at e = rw e at at
 
-  head-due : e .head < length (waitingOf ds)
-  head-due = omega (arith, at .todo .bits, at .todo .few)
+  -- one edge more: where it passes the test and holds up a head that has no mark, that head is marked, and is to do
+  module _ {cs es : List ℕ} {k : ℕ} (at : Gone P n s f on j k vs bs ds cs es) (low : j ≤ k) (head : f k .head < n) (cs′ es′ : List ℕ)
+      (p : waitingOf cs′ ≡ cond (on k && marksHead P s vs (waitingOf cs) (f k)) (set (waitingOf cs) (f k .head) true) (waitingOf cs))
+      (q : waitingOf es′ ≡ cond (on k && marksHead P s vs (waitingOf cs) (f k)) (set (waitingOf es) (f k .head) true) (waitingOf es)) where
+    abbrev h : ℕ
+    h = f k .head
 
-  mark-keeps : (t : ℕ) → marked (waitingOf bs) t ≡ true → marked (waitingOf bs′) t ≡ true
-  mark-keeps t k = rw p (raise-keeps (waitingOf bs) (e .head) hit head-bit t k)
+    abbrev hit : Bool
+    hit = on k && marksHead P s vs (waitingOf cs) (f k)
 
-  mark-due : (t : ℕ) → marked (waitingOf ds) t ≡ true → marked (waitingOf ds′) t ≡ true
-  mark-due t k = rw q (raise-keeps (waitingOf ds) (e .head) hit head-due t k)
+    bit : h < length (waitingOf cs)
+    bit = omega (arith, at .going .marks .bits, at .going .marks .few)
 
-  hit-bit : hit ≡ true → marked (waitingOf bs′) (e .head) ≡ true
-  hit-bit h = rw (p, h) (getD-set-same (waitingOf bs) (e .head) true false head-bit)
+    due : h < length (waitingOf es)
+    due = omega (arith, at .going .todo .bits, at .going .todo .few)
 
-  hit-due : hit ≡ true → marked (waitingOf ds′) (e .head) ≡ true
-  hit-due h = rw (q, h) (getD-set-same (waitingOf ds) (e .head) true false head-due)
+    keeps : (t : ℕ) → marked (waitingOf cs) t ≡ true → marked (waitingOf cs′) t ≡ true
+    keeps t y = rw p (raise-keeps (waitingOf cs) h hit bit t y)
 
-  pub mark-going : Going n bs′ ds′
-  mark-going = record {
-    marks = marks-if n bs bs′ (e .head) hit head p (at .marks);
-    todo = marks-if n ds ds′ (e .head) hit head q (at .todo);
-    among = λ t k. ⊎-elim (λ j. mark-keeps t (at .among t j)) (λ j. rw (j .1) (hit-bit (j .0))) (raise-only (waitingOf ds) (e .head) hit t (rw q at k));
-  }
+    hit-bit : hit ≡ true → marked (waitingOf cs′) h ≡ true
+    hit-bit y = rw (p, y) (getD-set-same (waitingOf cs) h true false bit)
 
-  counted : (b : Bool) → hit ≡ b → Grown (waitingOf bs) (waitingOf ds) (waitingOf bs′) (waitingOf ds′)
-  counted false h =
-      let x : waitingOf bs′ ≡ waitingOf bs = p ∙ rw h in
-      let y : waitingOf ds′ ≡ waitingOf ds = q ∙ rw h in
-      rw (x, y) (grown-none (waitingOf bs) (waitingOf ds))
-  counted true h =
-      let x : waitingOf bs′ ≡ set (waitingOf bs) (e .head) true = p ∙ rw h in
-      let y : waitingOf ds′ ≡ set (waitingOf ds) (e .head) true = q ∙ rw h in
-      let off : marked (waitingOf bs) (e .head) ≡ false = not-true _ (both (not (marked (waitingOf bs) (e .head))) _ h .0) in
-      let c = ap countOf x ∙ count-insert (waitingOf bs) (e .head) head-bit off in
-      let d = ap countOf y ∙ count-insert (waitingOf ds) (e .head) head-due (idle (marked (waitingOf ds) (e .head)) refl off) in record {
-        keeps = mark-keeps;
-        due = mark-due;
-        new = λ t k. ⊎-elim inl (λ j. inr (rw (j .1) (hit-due h))) (raise-only (waitingOf bs) (e .head) hit t (rw p at k));
-        count = omega arith;
-        more = omega arith;
-      }
-    where
-      idle : (a : Bool) → marked (waitingOf ds) (e .head) ≡ a → marked (waitingOf bs) (e .head) ≡ false → marked (waitingOf ds) (e .head) ≡ false
-      idle true k off = absurd (true≢false (sym (at .among (e .head) k) ∙ off))
-      idle false k off = k
+    hit-due : hit ≡ true → marked (waitingOf es′) h ≡ true
+    hit-due y = rw (q, y) (getD-set-same (waitingOf es) h true false due)
 
-  pub mark-grown : Grown (waitingOf bs) (waitingOf ds) (waitingOf bs′) (waitingOf ds′)
-  mark-grown = counted hit refl
+    off : hit ≡ true → marked (waitingOf cs) h ≡ false
+    off y = not-true _ (both (not (marked (waitingOf cs) h)) _ (both (on k) _ y .1) .0)
 
-  -- a removed edge, or one from a marked vertex, marks an affected vertex
-  pub mark-named : (es fs : List Edge) → List·Memᴰ e es → (removed fs e || marked (waitingOf bs) (e .tail)) ≡ true → Named P es fs s vs (waitingOf bs)
-      → Named P es fs s vs (waitingOf bs′)
-  mark-named es fs m r g t k =
-      ⊎-elim (g t)
-      (λ j. rw (j .1) (touches-named P es fs s vs (waitingOf bs) e g m (and-true (both (not (marked (waitingOf bs) (e .head))) (held P s vs e) (j .0) .1) r)))
-      (raise-only (waitingOf bs) (e .head) hit t (rw p at k))
-
-  -- a held edge leaves its head marked
-  pub mark-done : held P s vs e ≡ true → marked (waitingOf bs′) (e .head) ≡ true
-  mark-done h = pick (marked (waitingOf bs) (e .head)) refl
-    where
-      pick : (b : Bool) → marked (waitingOf bs) (e .head) ≡ b → marked (waitingOf bs′) (e .head) ≡ true
-      pick true k = mark-keeps (e .head) k
-      pick false k = hit-bit (and-true (ap not k) h)
-
--- ---- the listed edges
-
-module _ {P : Property} {n s : ℕ} {f : ℕ → Edge} {vs bs ds : List ℕ} where
-  pub heads-start : Going n bs ds → HeadsMarked P n s f 0 vs bs ds bs ds
-  heads-start h = record { going = h; grown = grown-none (waitingOf bs) (waitingOf ds); named = λ es fs k l q d. d; heads = λ j l. absurd (omega arith) }
-
-  pub heads-as : {cs es : List ℕ} {i g : ℕ} → HeadsMarked P n s f i vs bs ds cs es → i ≡ g → HeadsMarked P n s f g vs bs ds cs es
-  heads-as at e = rw e at at
-
-  module _ {cs es : List ℕ} {i : ℕ} (h : f i .head < n) (at : HeadsMarked P n s f i vs bs ds cs es) where
-    -- the edge at hand has no weight
-    none-turn : ltb 0 (f i .weight) ≡ false → (cs′ es′ : List ℕ) → waitingOf cs′ ≡ waitingOf cs → waitingOf es′ ≡ waitingOf es → Going n cs′ es′ → HeadsMarked P n s f (i + 1) vs bs ds cs′ es′
-    none-turn z cs′ es′ p q go = record {
-      going = go;
-      grown = rw (p, q) (at .grown);
-      named = λ es fs o l d c. rw p (at .named es fs o (omega arith) d c);
-      heads = λ j l w u. pick j w u (ℕ-discrete j i) (λ d. at .heads j (omega arith) w u);
-    }
-      where
-        pick : (j : ℕ) → 0 < f j .weight → held P s vs (f j) ≡ true → Dec (j ≡ i) → ((j ≡ i → ⊥) → marked (waitingOf cs) (f j .head) ≡ true) → marked (waitingOf cs′) (f j .head) ≡ true
-        pick j w u (yes e) k = absurd (let x = ltb-false 0 (f i .weight) z in let y : 0 < f i .weight = rw e at w in omega arith)
-        pick j w u (no d) k = rw p (k d)
-
-    -- it has one
-    some-turn : ltb 0 (f i .weight) ≡ true → (cs′ es′ : List ℕ) → waitingOf cs′ ≡ cond (marksHead P s vs (waitingOf cs) (f i)) (set (waitingOf cs) (f i .head) true) (waitingOf cs)
-        → waitingOf es′ ≡ cond (marksHead P s vs (waitingOf cs) (f i)) (set (waitingOf es) (f i .head) true) (waitingOf es) → HeadsMarked P n s f (i + 1) vs bs ds cs′ es′
-    some-turn z cs′ es′ p q =
-        let y = mark-grown P n s vs (f i) h cs es cs′ es′ (at .going) p q in
-        let w = ltb-true 0 (f i .weight) z in
+    step : Grown (waitingOf cs) (waitingOf es) (waitingOf cs′) (waitingOf es′)
+    step =
+        let c = ap countOf p ∙ raise-count (waitingOf cs) h hit bit off in
+        let d = ap countOf q ∙ raise-count (waitingOf es) h hit due (λ y. is-false _ (λ o. true≢false (sym (at .going .among h o) ∙ off y))) in
         record {
-          going = mark-going P n s vs (f i) h cs es cs′ es′ (at .going) p q;
-          grown = grown-then (at .grown) y;
-          named = λ xs fs o l d c.
-              mark-named P n s vs (f i) h cs es cs′ es′ (at .going) p q xs fs (d .among i (omega arith) w) (rw (d .lacks i (omega arith) w)) (at .named xs fs o (omega arith) d c);
-          heads = λ j l v u. pick j u (ℕ-discrete j i) (λ d. at .heads j (omega arith) v u);
+          keeps = keeps;
+          due = λ t y. rw q (raise-keeps (waitingOf es) h hit due t y);
+          new = λ t y. ⊎-elim inl (λ z. inr (rw (z .1) (hit-due (z .0)))) (raise-only (waitingOf cs) h hit t (rw p at y));
+          count = omega arith;
+          more = omega arith;
         }
-      where
-        pick : (j : ℕ) → held P s vs (f j) ≡ true → Dec (j ≡ i) → ((j ≡ i → ⊥) → marked (waitingOf cs) (f j .head) ≡ true) → marked (waitingOf cs′) (f j .head) ≡ true
-        pick j u (yes e) k = rw e (mark-done P n s vs (f i) h cs es cs′ es′ (at .going) p q (rw e at u))
-        pick j u (no d) k = mark-grown P n s vs (f i) h cs es cs′ es′ (at .going) p q .keeps _ (k d)
 
-    pub heads-turn : (b : Bool) → ltb 0 (f i .weight) ≡ b → (cs′ es′ : List ℕ) → waitingOf cs′ ≡ cond (b && marksHead P s vs (waitingOf cs) (f i)) (set (waitingOf cs) (f i .head) true) (waitingOf cs)
-        → waitingOf es′ ≡ cond (b && marksHead P s vs (waitingOf cs) (f i)) (set (waitingOf es) (f i .head) true) (waitingOf es) → HeadsMarked P n s f (i + 1) vs bs ds cs′ es′
-    heads-turn true z cs′ es′ p q = some-turn z cs′ es′ p q
-    heads-turn false z cs′ es′ p q =
-        none-turn z cs′ es′ p q (record {
-          marks = marks-if n cs cs′ (f i .head) false h p (at .going .marks);
-          todo = marks-if n es es′ (f i .head) false h q (at .going .todo);
-          among = λ t k. rw p (at .going .among t (rw q at k));
-        })
+    -- a held edge leaves its head marked
+    done : on k ≡ true → held P s vs (f k) ≡ true → marked (waitingOf cs′) h ≡ true
+    done o u = by-test (marked (waitingOf cs) h) (keeps h) (λ y. hit-bit (and-true o (and-true (ap not y) u)))
 
--- ---- the edges of one vertex
-
-module _ {P : Property} {n s : ℕ} {is : List ℕ} {u j : ℕ} {vs bs ds : List ℕ} where
-  pub along-start : Going n bs ds → Along P n s is u j j vs bs ds bs ds
-  along-start h = record { going = h; grown = grown-none (waitingOf bs) (waitingOf ds); named = λ es fs i d. d; along = λ i a b. absurd (omega arith) }
-
-  pub along-as : {cs es : List ℕ} {k i : ℕ} → Along P n s is u j k vs bs ds cs es → k ≡ i → Along P n s is u j i vs bs ds cs es
-  along-as at e = rw e at at
-
-  module _ {cs es : List ℕ} {k : ℕ} (at : Along P n s is u j k vs bs ds cs es) (on : marked (waitingOf bs) u ≡ true) (low : j ≤ k) (head : arcHead (getD is k 0) < n) where
-    abbrev y : Edge
-    y = arcEdge is u k
-
-    pub along-turn : (cs′ es′ : List ℕ) → waitingOf cs′ ≡ cond (marksHead P s vs (waitingOf cs) y) (set (waitingOf cs) (y .head) true) (waitingOf cs)
-        → waitingOf es′ ≡ cond (marksHead P s vs (waitingOf cs) y) (set (waitingOf es) (y .head) true) (waitingOf es)
-        → Along P n s is u j (k + 1) vs bs ds cs′ es′
-    along-turn cs′ es′ p q =
-        let z = mark-grown P n s vs y head cs es cs′ es′ (at .going) p q in record {
-          going = mark-going P n s vs y head cs es cs′ es′ (at .going) p q;
-          grown = grown-then (at .grown) z;
-          named = λ xs fs i d.
-              mark-named P n s vs y head cs es cs′ es′ (at .going) p q xs fs (i k low (omega arith)) (or-right (removed fs y) (at .grown .keeps u on))
-              (at .named xs fs (λ o a b. i o a (omega arith)) d);
-          along = λ i a b c. pick i c (ℕ-discrete i k) (λ e. at .along i a (omega arith) c);
-        }
-      where
-        pick : (i : ℕ) → held P s vs (arcEdge is u i) ≡ true → Dec (i ≡ k)
-            → ((i ≡ k → ⊥) → marked (waitingOf cs) (arcHead (getD is i 0)) ≡ true) → marked (waitingOf cs′) (arcHead (getD is i 0)) ≡ true
-        pick i c (yes e) f = rw e (mark-done P n s vs y head cs es cs′ es′ (at .going) p q (rw e at c))
-        pick i c (no d) f = mark-grown P n s vs y head cs es cs′ es′ (at .going) p q .keeps _ (f d)
+    pub gone-turn : Gone P n s f on j (k + 1) vs bs ds cs′ es′
+    gone-turn = record {
+      going = record {
+        marks = marks-if n cs cs′ h hit head p (at .going .marks);
+        todo = marks-if n es es′ h hit head q (at .going .todo);
+        among = λ t y. ⊎-elim (λ z. keeps t (at .going .among t z)) (λ z. rw (z .1) (hit-bit (z .0))) (raise-only (waitingOf es) h hit t (rw q at y));
+      };
+      grown = grown-then (at .grown) step;
+      named = λ xs fs g d t y.
+          let old = at .named xs fs (λ i a b. g i a (omega arith)) d in
+          ⊎-elim (old t)
+          (λ z. let o = both (on k) _ (z .0) in let m = g k low (omega arith) (o .0) in
+          rw (z .1) (touches-named P xs fs s vs (waitingOf cs) (f k) old (m .0) (and-true (both (not (marked (waitingOf cs) h)) _ (o .1) .1)
+          (⊎-elim (λ r. rw r) (λ r. or-right (removed P fs (f k)) (at .grown .keeps _ r)) (m .1)))))
+          (raise-only (waitingOf cs) h hit t (rw p at y));
+      heads = λ i a b o u. elim (ℕ-discrete i k) [ yes e ↦ rw e (done (rw e at o) (rw e at u)) | no d ↦ keeps _ (at .heads i a (omega arith) o u) ];
+    }
 
 -- ---- an index has the edges of a vertex
 
@@ -254,11 +169,11 @@ module _ {n : ℕ} {bs ds : List ℕ} (u : ℕ) (at : Going n bs ds) where
 
   -- The edges of u are gone along: those of any other vertex that is not to do were covered before, and no mark is taken away; a
   -- vertex that was marked on the way is to do.
-  pub spreads-turn : {P : Property} {s : ℕ} {vs : List ℕ} (is es : List ℕ) → waitingOf es ≡ set (waitingOf ds) u false → (bs′ ds′ : List ℕ) → u < n
+  pub spreads-turn : {P : Property} {s : ℕ} {vs : List ℕ} (is es : List ℕ) → marked (waitingOf ds) u ≡ true → waitingOf es ≡ set (waitingOf ds) u false → (bs′ ds′ : List ℕ) → u < n
       → Along P n s is u (getD is u 0) (getD is (u + 1) 0) vs bs es bs′ ds′ → (xs : List Edge) → Own n is xs → Spreads P n s xs vs bs ds bs′ ds′
-  spreads-turn {P} {s} {vs} is es e bs′ ds′ h al xs o = record {
+  spreads-turn {P} {s} {vs} is es on e bs′ ds′ h al xs o = record {
     keeps = al .grown .keeps;
-    named = λ fs d. al .named xs fs (λ i a b. own-reads n is xs o u i h a b) d;
+    named = λ fs d. al .named xs fs (λ i a b y. (own-reads n is xs o u i h a b, inr (at .among u on))) d;
     covered = λ c x m k q. ⊎-elim (λ r. old c x m k r (ℕ-discrete (x .tail) u)) inr (al .grown .new (x .tail) q);
   }
     where
@@ -267,7 +182,7 @@ module _ {n : ℕ} {bs ds : List ℕ} (u : ℕ) (at : Going n bs ds) where
       old c x m k r (yes p) =
           let z = own-whole n is xs o u x h p m in
           let f : arcEdge is u (z .0) ≡ x = z .3 in
-          inl (ap (λ (i : Edge). marked (waitingOf bs′) (i .head)) (sym f) ∙ al .along (z .0) (z .1) (z .2) (ap (λ (i : Edge). held P s vs i) f ∙ k))
+          inl (ap (λ (i : Edge). marked (waitingOf bs′) (i .head)) (sym f) ∙ al .heads (z .0) (z .1) (z .2) refl (ap (λ (i : Edge). held P s vs i) f ∙ k))
       old c x m k r (no d) =
           ⊎-elim (λ q. inl (al .grown .keeps (x .head) q))
           (λ q. inr (al .grown .due (x .tail) (rw e (getD-set-other (waitingOf ds) u (x .tail) false false d ∙ q)))) (c x m k r)
@@ -302,10 +217,10 @@ module _ (P : Property) (n s : ℕ) (xs vs : List ℕ) (bs ds bs′ ds′ bs″ 
     pub marks-found : ((e : Edge) → List·Memᴰ e es → e .head < n) → Lists es fs (pairs xs) (before xs) → bits n bs″ ≡ affected P es fs s vs n
     marks-found heads d =
         closed-exact P es fs s vs n heads (bits n bs″) (bits-length n bs″ (go .marks))
-        (λ t h. sp .named fs (k .named es fs (pairs xs) (omega arith) d (λ i h. absurd (false≢true (sym (unmarked i) ∙ h)))) t (sym (bits-all n bs″ (go .marks) t) ∙ h))
-        (λ e i h. bits-all n bs″ (go .marks) (e .head) ∙ shut e i (both (held P s vs e) _ h .0) (removed fs e) refl (both (held P s vs e) _ h .1))
+        (λ t h. sp .named fs (k .named es fs (λ i a b w. (d .among i b (ltb-true _ _ w), inl (d .lacks i b (ltb-true _ _ w)))) (λ i h. absurd (false≢true (sym (unmarked i) ∙ h)))) t (sym (bits-all n bs″ (go .marks) t) ∙ h))
+        (λ e i h. bits-all n bs″ (go .marks) (e .head) ∙ shut e i (both (held P s vs e) _ h .0) (removed P fs e) refl (both (held P s vs e) _ h .1))
       where
-        shut : (e : Edge) → List·Memᴰ e es → held P s vs e ≡ true → (b : Bool) → removed fs e ≡ b → (b || marked (bits n bs″) (e .tail)) ≡ true
+        shut : (e : Edge) → List·Memᴰ e es → held P s vs e ≡ true → (b : Bool) → removed P fs e ≡ b → (b || marked (bits n bs″) (e .tail)) ≡ true
             → marked (waitingOf bs″) (e .head) ≡ true
         shut e i h false r c =
             ⊎-elim (λ a. a) (λ a. absurd (false≢true (sym (idle (e .tail)) ∙ a))) (covered e i h (sym (bits-all n bs″ (go .marks) (e .tail)) ∙ c))
@@ -313,7 +228,7 @@ module _ (P : Property) (n s : ℕ) (xs vs : List ℕ) (bs ds bs′ ds′ bs″ 
             let y = d .all e i r in
             let o : before xs (y .0) ≡ e = y .2 in
             ap (λ (j : Edge). marked (waitingOf bs″) (j .head)) (sym o)
-            ∙ sp .keeps _ (k .heads (y .0) (y .1) (y .3) (ap (λ (j : Edge). held P s vs j) o ∙ h))
+            ∙ sp .keeps _ (k .heads (y .0) (omega arith) (y .1) (lt-ltb _ _ (y .3)) (ap (λ (j : Edge). held P s vs j) o ∙ h))
 
 -- nothing is marked and nothing to do
 pub going-clear : (n : ℕ) (bs ds : List ℕ) → n ≤ maxVertices → waitingOf bs ≡ replicate capacity false → waitingOf ds ≡ replicate capacity false → Going n bs ds

@@ -8,8 +8,9 @@
 --   holds P s v w h x            == an edge's words as a test, as `held`: v at its tail, weight w, head h with x
 --   marksHead P s ws ms e        == e marks its head: it holds it up, and the head has no mark yet
 --   marksChange P s ws ms e      == so where e has a weight
---   HeadsMarked P n s f i vs bs ds bs′ ds′ == the edges f j, of j below i, that have a weight marked their heads
---   Along P n s is u j k vs bs ds bs′ ds′ == marks went on from u along its edges at places j to k - 1
+--   Gone P n s f on j k vs bs ds bs′ ds′ == the edges f i, of i from j to k - 1, that pass the test on marked the heads that they hold up
+--   HeadsMarked P n s f k vs bs ds bs′ ds′ == so those of i below k that have a weight
+--   Along P n s is u j k vs bs ds bs′ ds′ == so those of u at places j to k - 1 of an index
 --   Covered P es s ws ms ds      == a held edge from a marked vertex that is not to do has its head marked
 --   Spreads P n s es vs bs ds bs′ ds′ == marks went on along edges of es
 --   Raised bs cs Q               == the bits bs became cs: those of Q were set
@@ -28,8 +29,8 @@ use Rattle.graph.specs.Arc.{arcHead, arcWeight}
 use Rattle.graph.specs.Edge.{Edge, edge, reverse}
 use Rattle.graph.specs.Index.{Own}
 use Rattle.run.specs.Code.{Marks}
-use Rattle.affected.specs.Affected.{Named, held, marked}
-use Rattle.compare.specs.Code.{after, Lists, Net}
+use Rattle.affected.specs.Affected.{removed, Named, held, marked}
+use Rattle.compare.specs.Code.{after, Net}
 
 -- ---- what is asked
 
@@ -66,17 +67,18 @@ marksHead P s ws ms e = not (marked ms (e .head)) && held P s ws e
 abbrev pub marksChange : Property → ℕ → List ℕ → List Bool → Edge → Bool
 marksChange P s ws ms e = ltb 0 (e .weight) && marksHead P s ws ms e
 
-pub record HeadsMarked (P : Property) (n s : ℕ) (f : ℕ → Edge) (i : ℕ) (vs bs ds bs′ ds′ : List ℕ) : Type 0 where
+pub record Gone (P : Property) (n s : ℕ) (f : ℕ → Edge) (on : ℕ → Bool) (j k : ℕ) (vs bs ds bs′ ds′ : List ℕ) : Type 0 where
   pub going : Going n bs′ ds′
   pub grown : Grown (waitingOf bs) (waitingOf ds) (waitingOf bs′) (waitingOf ds′)
-  pub named : (es fs : List Edge) (g : ℕ) → i ≤ g → Lists es fs g f → Named P es fs s vs (waitingOf bs) → Named P es fs s vs (waitingOf bs′)
-  pub heads : (j : ℕ) → j < i → 0 < f j .weight → held P s vs (f j) ≡ true → marked (waitingOf bs′) (f j .head) ≡ true
+  pub named : (es fs : List Edge) → ((i : ℕ) → j ≤ i → i < k → on i ≡ true → List·Memᴰ (f i) es × ((removed P fs (f i) ≡ true) ⊎ (marked (waitingOf bs) (f i .tail) ≡ true)))
+      → Named P es fs s vs (waitingOf bs) → Named P es fs s vs (waitingOf bs′)
+  pub heads : (i : ℕ) → j ≤ i → i < k → on i ≡ true → held P s vs (f i) ≡ true → marked (waitingOf bs′) (f i .head) ≡ true
 
-pub record Along (P : Property) (n s : ℕ) (is : List ℕ) (u j k : ℕ) (vs bs ds bs′ ds′ : List ℕ) : Type 0 where
-  pub going : Going n bs′ ds′
-  pub grown : Grown (waitingOf bs) (waitingOf ds) (waitingOf bs′) (waitingOf ds′)
-  pub named : (es fs : List Edge) → ((i : ℕ) → j ≤ i → i < k → List·Memᴰ (arcEdge is u i) es) → Named P es fs s vs (waitingOf bs) → Named P es fs s vs (waitingOf bs′)
-  pub along : (i : ℕ) → j ≤ i → i < k → held P s vs (arcEdge is u i) ≡ true → marked (waitingOf bs′) (arcEdge is u i .head) ≡ true
+abbrev pub HeadsMarked : Property → ℕ → ℕ → (ℕ → Edge) → ℕ → List ℕ → List ℕ → List ℕ → List ℕ → List ℕ → Type 0
+HeadsMarked P n s f k = Gone P n s f (λ i. ltb 0 (f i .weight)) 0 k
+
+abbrev pub Along : Property → ℕ → ℕ → List ℕ → ℕ → ℕ → ℕ → List ℕ → List ℕ → List ℕ → List ℕ → List ℕ → Type 0
+Along P n s is u = Gone P n s (arcEdge is u) (λ i. true)
 
 abbrev pub Covered : Property → List Edge → ℕ → List ℕ → List Bool → List Bool → Type 0
 Covered P es s ws ms ds = (e : Edge) → List·Memᴰ e es → held P s ws e ≡ true → marked ms (e .tail) ≡ true

@@ -9,7 +9,7 @@ ghost use mathlib.Core.List.{List};
 ghost use Prim.Native.Nat.{ℕ, _+_, _*_, _<_, _≤_};
 ghost use lib.ListN.{length, getD, set};
 ghost use lib.Dec.{ltb};
-ghost use Rattle.property.specs.Property.{property};
+ghost use Rattle.property.specs.Property.{Property, property};
 ghost use Rattle.frontier.specs.Waiting.{waitingOf, countOf};
 ghost use Rattle.graph.specs.Limits.{maxVertices};
 ghost use Rattle.graph.specs.Arc.{arcHead};
@@ -125,7 +125,7 @@ fn spread_from(
     todo: &mut Words,
 )
     requires { ⌜ (u < n) × (length (now words) ≡ n) × Fit n (now old) ⌝ }
-    requires { ⌜ Going n (now marks) (now todo) × (getD (waitingOf (now marks)) u false ≡ true) ⌝ }
+    requires { ⌜ Going n (now marks) (now todo) ⌝ }
     ensures { λ _. ⌜ Along (property p) n s (now (old .entry)) u (getD (now (old .entry)) u 0) (getD (now (old .entry)) (u + 1) 0) (now (words .entry)) (now (marks .entry)) (now (todo .entry)) (now (marks .exit)) (now (todo .exit)) ⌝ }
 {
     let hi = old[u + 1] as usize;
@@ -209,9 +209,9 @@ fn mark_affected(
 // ---- where the rounds start
 
 // The marked vertices of a row have no route.
-fn clear_marked(p: u32, n: usize, marks: &Words, out: &mut [u32])
-    requires { ⌜ Marks n (now marks) × (length (now out) ≡ n) ⌝ }
-    ensures { λ _. ⌜ now (out .exit) ≡ start.cleared (property p) (bits n (now (marks .entry))) (now (out .entry)) n ⌝ }
+fn clear_marked(p: u32, n: usize, marks: &Words, words: &mut [u32])
+    requires { ⌜ Marks n (now marks) × (length (now words) ≡ n) ⌝ }
+    ensures { λ _. ⌜ now (words .exit) ≡ start.cleared (property p) (bits n (now (marks .entry))) (now (words .entry)) n ⌝ }
 {
     let mut i = 0;
     while i < n {
@@ -219,18 +219,9 @@ fn clear_marked(p: u32, n: usize, marks: &Words, out: &mut [u32])
         let Next::At(v) = next else {
             return;
         };
-        out[v] = property::none(p);
+        words[v] = property::none(p);
         i = v + 1;
     }
-}
-
-// The row's words, with no route for the marked vertices.
-fn copy_cleared(p: u32, n: usize, marks: &Words, words: &[u32], out: &mut [u32])
-    requires { ⌜ Marks n (now marks) × (length (now words) ≡ n) × (length (now out) ≡ n) ⌝ }
-    ensures { λ _. ⌜ now (out .exit) ≡ start.cleared (property p) (bits n (now (marks .entry))) (now (words .entry)) n ⌝ }
-{
-    graph::words::copy(n, words, out, 0);
-    clear_marked(p, n, marks, out);
 }
 
 // Whether a change added an edge: its pair has one of weight `new` after.
@@ -300,7 +291,7 @@ fn wake_marked(n: usize, into: &[u32], marks: &Words, waiting: &mut Words)
 // Who waits: the tails of all added edges, and of all new edges into marked vertices.
 fn reopen(n: usize, net: &[u32], into: &[u32], marks: &Words, waiting: &mut Words)
     requires { ⌜ Inside n (now net) × Fit n (now into) × Marks n (now marks) ⌝ }
-    ensures { λ _. ⌜ ((es fs : List Edge) (is : List ℕ) → Batched n es fs is (now (into .entry)) (now (net .entry)) → bits n (now (waiting .exit)) ≡ start.reopened es fs (bits n (now (marks .entry))) n) ⌝ }
+    ensures { λ _. ⌜ ((P : Property) (es fs : List Edge) (is : List ℕ) → Batched n es fs is (now (into .entry)) (now (net .entry)) → bits n (now (waiting .exit)) ≡ start.reopened P es fs (bits n (now (marks .entry))) n) ⌝ }
     ensures { λ _. ⌜ Marks n (now (waiting .exit)) ⌝ }
 {
     frontier::clear(waiting);
@@ -308,8 +299,9 @@ fn reopen(n: usize, net: &[u32], into: &[u32], marks: &Words, waiting: &mut Word
     wake_marked(n, into, marks, waiting);
 }
 
-// A row after a batch: where its rounds start goes to `out` and `waiting`, and the answer is how many vertices are affected. `net` is what
-// the batch changed, `old` the index of the table before it, and `into` that of the reversed table after it.
+// A row after a batch: `words`, its words before it, become those that its rounds start from, `waiting` who waits then, and the answer is how
+// many vertices are affected. `net` is what the batch changed, `old` the index of the table before it, and `into` that of the reversed table
+// after it.
 pub fn prepare(
     p: u32,
     n: usize,
@@ -317,18 +309,17 @@ pub fn prepare(
     net: &[u32],
     old: &[u32],
     into: &[u32],
-    words: &[u32],
-    out: &mut [u32],
+    words: &mut [u32],
     waiting: &mut Words,
 ) -> u64
-    requires { ⌜ Inside n (now net) × Fit n (now old) × Fit n (now into) × (length (now words) ≡ n) × (length (now out) ≡ n) ⌝ }
-    ensures { λ r. ⌜ ((es fs : List Edge) → Batched n es fs (now (old .entry)) (now (into .entry)) (now (net .entry)) → record { words = now (out .exit); waiting = bits n (now (waiting .exit)); tally = noTally } ≡ start.prepared (property p) es fs s (now (words .entry)) n) ⌝ }
+    requires { ⌜ Inside n (now net) × Fit n (now old) × Fit n (now into) × (length (now words) ≡ n) ⌝ }
+    ensures { λ r. ⌜ ((es fs : List Edge) → Batched n es fs (now (old .entry)) (now (into .entry)) (now (net .entry)) → record { words = now (words .exit); waiting = bits n (now (waiting .exit)); tally = noTally } ≡ start.prepared (property p) es fs s (now (words .entry)) n) ⌝ }
     ensures { λ r. ⌜ ((es fs : List Edge) → Batched n es fs (now (old .entry)) (now (into .entry)) (now (net .entry)) → r ≡ countOf (spec.affected (property p) es fs s (now (words .entry)) n)) ⌝ }
     ensures { λ r. ⌜ Marks n (now (waiting .exit)) × (r ≤ maxVertices) ⌝ }
 {
     let mut marks = frontier::empty();
     mark_affected(p, n, s, net, old, words, &mut marks);
-    copy_cleared(p, n, &marks, words, out);
+    clear_marked(p, n, &marks, words);
     reopen(n, net, into, &marks, waiting);
     frontier::count(&marks) as u64
 }

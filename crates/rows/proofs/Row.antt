@@ -1,13 +1,11 @@
 -- One row of a batch as its functions leave it. Assumes nothing.
-use Rattle.property.proofs.Basics.{_≡_, sym, ap, _∙_, List, ℕ, suc, _*_, _/_, _%_, getD}
+use Rattle.property.proofs.Basics.{_≡_, ap, _∙_, List, ℕ, suc, _*_, _/_, _%_, getD}
 use Rattle.property.specs.Property.{property, properties}
-use Rattle.frontier.specs.Waiting.{waitingOf, anyOf, countOf}
-use Rattle.graph.specs.Limits.{maxVertices, maxEdges}
+use Rattle.frontier.specs.Waiting.{countOf}
 use Rattle.graph.specs.Edge.{Edge}
 use Rattle.run.specs.declared.Tally.{Tally}
 use Rattle.run.specs.Run.{State, settle, noTally}
-use Rattle.run.specs.Code.{bits, noCounts, state, Ran}
-use Rattle.run.proofs.States.{bits-any}
+use Rattle.run.specs.Code.{bits, noCounts, state}
 use Rattle.affected.specs.Affected.{affected}
 use Rattle.affected.specs.Prepared.{prepared}
 use Rattle.rows.specs.declared.Rowed.{Rowed}
@@ -21,12 +19,10 @@ module _ (n r : ℕ) {p i : ℕ} (ls : List ℕ) (es fs : List Edge) (vs ws bs w
   row-run : state n ws′ bs′ t ≡ rowEnd n ls es fs vs r
   row-run = run ∙ rw (start, ep, ei)
 
-  pub row-done : (a : Rowed) → Ran n ws′ bs′ noCounts t 0 n (maxVertices * maxVertices * maxEdges)
-      → a .unsettled ≡ anyOf (waitingOf bs′) → a .affected ≡ countOf (affected (property p) es fs (getD ls i 0) vs n) → a .stores ≡ t .stores
+  pub row-done : (a : Rowed) → a .affected ≡ countOf (affected (property p) es fs (getD ls i 0) vs n) → a .stores ≡ t .stores
       → RowDone n ls es fs vs r ws′ a
-  row-done a ran u c s = record {
+  row-done a c s = record {
     words = ap (λ st. st .words) row-run;
-    unsettled = u ∙ (sym (bits-any n bs′ (ran .sized .waiting)) ∙ ap (λ st. anyOf (st .waiting)) row-run);
     affected = c ∙ counted;
     stores = s ∙ ap (λ st. st .tally .stores) row-run;
   }

@@ -1,6 +1,6 @@
 // The rows of one side of a batch: each is prepared for the new edges and settled. `net` is what the batch changed, `old` the index of the
-// table before it, `new` that of the table after it, and `into` that of the new table reversed. A row costs a copy of its n words, a look at
-// each change, and what it changes: no row goes over all edges.
+// table before it, `new` that of the table after it, and `into` that of the new table reversed. A row is run in its place, and
+// costs a look at each change and what it changes: no row is copied, and none goes over all edges.
 ghost use mathlib.Core.Path.{_≡_};
 ghost use mathlib.Core.List.{List};
 ghost use Prim.Native.Nat.{_*_, _<_, _≤_};
@@ -10,14 +10,13 @@ ghost use Rattle.network.specs.Network.{rowCount};
 ghost use Rattle.calls.specs.Code.{Placed};
 ghost use Rattle.rows.specs.Code.{Lined, Sided, RowLow, RowDone, RowsLow, RowsDone};
 
-// What runs of rows come to: whether some vertex still waits, how many vertices are affected, how many stores there were.
+// What runs of rows come to: how many vertices are affected, how many stores there were.
 pub struct Rowed {
-    pub unsettled: bool,
     pub affected: u64,
     pub stores: u64,
 }
 
-// Row `r`, whose words before the batch are `words`, is prepared and settled in `out`.
+// Row `r`, whose words before the batch are `words`, is prepared and settled there.
 fn batch_row(
     r: usize,
     n: usize,
@@ -26,26 +25,24 @@ fn batch_row(
     old: &[u32],
     new: &[u32],
     into: &[u32],
-    words: &[u32],
-    out: &mut [u32],
+    words: &mut [u32],
 ) -> Rowed
-    requires { ⌜ (r < rowCount (now landmarks)) × Placed n (now landmarks) × (length (now words) ≡ n) × (length (now out) ≡ n) × Lined n (now net) (now old) (now new) (now into) ⌝ }
+    requires { ⌜ (r < rowCount (now landmarks)) × Placed n (now landmarks) × (length (now words) ≡ n) × Lined n (now net) (now old) (now new) (now into) ⌝ }
     ensures { λ a. ⌜ RowLow a ⌝ }
-    ensures { λ a. ⌜ ((es fs : List Edge) → Sided n es fs (now (net .entry)) (now (old .entry)) (now (new .entry)) (now (into .entry)) → RowDone n (now (landmarks .entry)) es fs (now (words .entry)) r (now (out .exit)) a) ⌝ }
+    ensures { λ a. ⌜ ((es fs : List Edge) → Sided n es fs (now (net .entry)) (now (old .entry)) (now (new .entry)) (now (into .entry)) → RowDone n (now (landmarks .entry)) es fs (now (words .entry)) r (now (words .exit)) a) ⌝ }
 {
     let p = calls::row_property(r);
     let i = calls::row_landmark(r);
     let mut waiting = frontier::empty();
-    let affected = prepare::prepare(p, n, landmarks[i], net, old, into, words, out, &mut waiting);
-    let t = run::run_unscheduled(p, n, new, out, &mut waiting);
+    let affected = prepare::prepare(p, n, landmarks[i], net, old, into, words, &mut waiting);
+    let t = run::run_unscheduled(p, n, new, words, &mut waiting);
     Rowed {
-        unsettled: frontier::any(&waiting),
         affected,
         stores: t.stores,
     }
 }
 
-// Every row of the list `rows`, one after the other in `out`.
+// Every row of the list `rows`, one after the other.
 pub fn batch_rows(
     n: usize,
     landmarks: &[u32],
@@ -53,40 +50,23 @@ pub fn batch_rows(
     old: &[u32],
     new: &[u32],
     into: &[u32],
-    rows: &[u32],
-    out: &mut [u32],
+    rows: &mut [u32],
 ) -> Rowed
-    requires { ⌜ Placed n (now landmarks) × (rowCount (now landmarks) * n ≤ length (now rows)) × (length (now out) ≡ rowCount (now landmarks) * n) × Lined n (now net) (now old) (now new) (now into) ⌝ }
+    requires { ⌜ Placed n (now landmarks) × (rowCount (now landmarks) * n ≤ length (now rows)) × Lined n (now net) (now old) (now new) (now into) ⌝ }
     ensures { λ a. ⌜ RowsLow a ⌝ }
-    ensures { λ a. ⌜ ((es fs : List Edge) → Sided n es fs (now (net .entry)) (now (old .entry)) (now (new .entry)) (now (into .entry)) → RowsDone n (now (landmarks .entry)) es fs (now (rows .entry)) (now (out .exit)) a) ⌝ }
+    ensures { λ a. ⌜ ((es fs : List Edge) → Sided n es fs (now (net .entry)) (now (old .entry)) (now (new .entry)) (now (into .entry)) → RowsDone n (now (landmarks .entry)) es fs (now (rows .entry)) (now (rows .exit)) a) ⌝ }
 {
     let size = landmarks.len() * property::PROPERTIES;
-    let mut unsettled = false;
     let mut affected = 0;
     let mut stores = 0;
     let mut r = 0;
     while r < size {
         let start = r * n;
         let end = start + n;
-        let row = batch_row(
-            r,
-            n,
-            landmarks,
-            net,
-            old,
-            new,
-            into,
-            &rows[start..end],
-            &mut out[start..end],
-        );
-        unsettled = unsettled | row.unsettled;
+        let row = batch_row(r, n, landmarks, net, old, new, into, &mut rows[start..end]);
         affected += row.affected;
         stores += row.stores;
         r += 1;
     }
-    Rowed {
-        unsettled,
-        affected,
-        stores,
-    }
+    Rowed { affected, stores }
 }

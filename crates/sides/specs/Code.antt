@@ -4,10 +4,8 @@
 --   Fair n ls w                  == a network that numbers 1 to 4 let pass
 --   Lined n xs is ris ns rns     == what the rows are run on lies in range: the changes xs, and the indices of both tables and of both reversed ones
 --   Sides n es fs xs is ris ns rns == they have the batch
---   SidesDone n ls es fs f b f′ b′ a == the runs of all rows of the lists f and b came to a, and left f′ and b′: the new words, or the same where some
---                                   vertex waits
+--   SidesDone n ls es fs f b f′ b′ a == the runs of all rows of the lists f and b came to a, and left f′ and b′
 use mathlib.Core.Path.{_≡_}
-use mathlib.Core.Bool.{_||_, cond}
 use mathlib.Core.List.{List, map, List·Memᴰ}
 use Prim.Native.Nat.{ℕ, _+_, _*_, _≤_, _<_}
 use lib.ListN.{length}
@@ -17,7 +15,7 @@ use Rattle.graph.specs.Edge.{Edge, reverse}
 use Rattle.graph.specs.Index.{Fit, Own}
 use Rattle.compare.specs.Code.{Inside, Net}
 use Rattle.rows.specs.declared.Rowed.{Rowed}
-use Rattle.network.specs.Network.{Network, rowCount, flat, unsettled, storesOf}
+use Rattle.network.specs.Network.{Network, rowCount, flat, storesOf}
 use Rattle.network.specs.Batch.{batchRows, affectedOf}
 use Rattle.calls.specs.Code.{Placed, Tabled}
 
@@ -46,8 +44,7 @@ pub record Sides (n : ℕ) (es fs : List Edge) (xs is ris ns rns : List ℕ) : T
 
 module _ (n : ℕ) (ls : List ℕ) (es fs : List Edge) (f b : List ℕ) where
   pub record SidesDone (f′ b′ : List ℕ) (a : Rowed) : Type 0 where
-    pub unsettled : a .unsettled ≡ (unsettled (batchRows n ls es fs f) || unsettled (batchRows n ls (map reverse es) (map reverse fs) b))
     pub affected : a .affected ≡ affectedOf n ls es fs f + affectedOf n ls (map reverse es) (map reverse fs) b
     pub stores : a .stores ≡ storesOf (batchRows n ls es fs f) + storesOf (batchRows n ls (map reverse es) (map reverse fs) b)
-    pub forward : f′ ≡ cond (a .unsettled) f (over (flat (batchRows n ls es fs f)) f)
-    pub backward : b′ ≡ cond (a .unsettled) b (over (flat (batchRows n ls (map reverse es) (map reverse fs) b)) b)
+    pub forward : f′ ≡ over (flat (batchRows n ls es fs f)) f
+    pub backward : b′ ≡ over (flat (batchRows n ls (map reverse es) (map reverse fs) b)) b

@@ -1,33 +1,17 @@
-// The rows of both sides of a batch, with its changes listed and both tables indexed: all are run in scratch lists, and the row lists are
-// written where every row settles.
-use graph::words;
+// The rows of both sides of a batch, with its changes listed and both tables indexed: each is run in its place.
 use rows::Rowed;
 ghost use mathlib.Core.Path.{_≡_};
-ghost use mathlib.Core.Bool.{_||_};
 ghost use mathlib.Core.List.{List};
-ghost use Prim.Native.Nat.{_+_, _*_, _≤_};
+ghost use Prim.Native.Nat.{_*_, _≤_};
 ghost use lib.ListN.{length};
 ghost use Rattle.graph.specs.Limits.{maxVertices};
 ghost use Rattle.graph.specs.Edge.{Edge};
 ghost use Rattle.network.specs.Network.{rowCount};
 ghost use Rattle.calls.specs.Code.{Placed};
-ghost use Rattle.rows.specs.Code.{RowsLow};
 ghost use Rattle.sides.specs.Code.{Lined, Sides, SidesDone};
 
-// What the rows of both sides come to.
-fn both(f: Rowed, b: Rowed) -> Rowed
-    requires { ⌜ RowsLow f × RowsLow b ⌝ }
-    ensures { λ r. ⌜ (r .unsettled ≡ (f .unsettled || b .unsettled)) × (r .affected ≡ f .affected + b .affected) × (r .stores ≡ f .stores + b .stores) ⌝ }
-{
-    Rowed {
-        unsettled: f.unsettled | b.unsettled,
-        affected: f.affected + b.affected,
-        stores: f.stores + b.stores,
-    }
-}
-
 // All rows of both lists. Forward rows go by the index of each table, backward rows by the reversed ones, `rold` and `rnew`, and by the changes
-// with tails and heads changed over; the index of the edges into a vertex is that of the other side. `ahead` and `back` are scratch.
+// with tails and heads changed over; the index of the edges into a vertex is that of the other side.
 pub fn batch_sides(
     n: usize,
     landmarks: &[u32],
@@ -38,22 +22,16 @@ pub fn batch_sides(
     rnew: &[u32],
     forward: &mut [u32],
     backward: &mut [u32],
-    ahead: &mut [u32],
-    back: &mut [u32],
 ) -> Rowed
     requires { ⌜ (n ≤ maxVertices) × Placed n (now landmarks) × Lined n (now net) (now old) (now rold) (now new) (now rnew) ⌝ }
-    requires { ⌜ (rowCount (now landmarks) * n ≤ length (now forward)) × (rowCount (now landmarks) * n ≤ length (now backward)) × (length (now ahead) ≡ rowCount (now landmarks) * n) × (length (now back) ≡ rowCount (now landmarks) * n) ⌝ }
+    requires { ⌜ (rowCount (now landmarks) * n ≤ length (now forward)) × (rowCount (now landmarks) * n ≤ length (now backward)) ⌝ }
     ensures { λ r. ⌜ ((es fs : List Edge) → Sides n es fs (now (net .entry)) (now (old .entry)) (now (rold .entry)) (now (new .entry)) (now (rnew .entry)) → SidesDone n (now (landmarks .entry)) es fs (now (forward .entry)) (now (backward .entry)) (now (forward .exit)) (now (backward .exit)) r) ⌝ }
 {
-    let f = rows::batch_rows(n, landmarks, net, old, new, rnew, forward, ahead);
+    let f = rows::batch_rows(n, landmarks, net, old, new, rnew, forward);
     compare::turn(net);
-    let b = rows::batch_rows(n, landmarks, net, rold, rnew, new, backward, back);
-    let all = both(f, b);
-    if all.unsettled {
-        return all;
+    let b = rows::batch_rows(n, landmarks, net, rold, rnew, new, backward);
+    Rowed {
+        affected: f.affected + b.affected,
+        stores: f.stores + b.stores,
     }
-    let k = ahead.len();
-    words::copy(k, ahead, forward, 0);
-    words::copy(k, back, backward, 0);
-    all
 }

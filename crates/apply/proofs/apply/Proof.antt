@@ -1,16 +1,38 @@
 -- `apply::apply` meets its contract. Assumes nothing.
-use Rattle.property.proofs.Basics.{needs, arith, _≡_, refl, sym, List, ℕ, _+_, _*_, _<_, _≤_, length, take, replicate, length-replicate, length-take-le}
+use Rattle.property.proofs.Basics.{needs, arith, _≡_, refl, sym, List, ℕ, _+_, _≤_, length, replicate, length-replicate, length-take-le}
 use Rattle.graph.specs.Limits.{maxVertices, maxEdges}
 use Rattle.graph.specs.Edge.{edges}
 use Rattle.graph.specs.Index.{Indexable}
 use Rattle.graph.proofs.Records.{room-less, edges-length}
 use Rattle.compare.specs.Code.{Tables}
-use Rattle.network.specs.Network.{rowCount}
-use Rattle.calls.proofs.Rows.{rows-most}
-use Rattle.sides.specs.Code.{Sides}
-use Rattle.apply.proofs.Applying.{apply-refused, apply-done, sides-made}
+use Rattle.graph.proofs.Order.{rules-accept, within}
+use Rattle.network.proofs.Still.{still-waiting}
+use Rattle.calls.specs.Code.{network}
+use Rattle.apply.proofs.Applying.{apply-done, sides-made}
 use Rattle.apply.proofs.apply.Statement.{statement}
 use Rattle.apply.proofs.apply.Tie as tie
+
+-- ---- the calls before each place
+
+abbrev start : tie.After-differences → tie.Start
+start c = c .before .before .before .before .before .before .before .before .before .before .before .before .before .before
+
+abbrev listed : tie.After-index → tie.After-differences
+listed c = c .before .before .before .before .before .before .before
+
+abbrev indexed : tie.After-index-reversed → tie.After-index
+indexed c = c .before .before .before .before .before .before .before .before
+
+abbrev reversed : tie.After-index2 → tie.After-index-reversed
+reversed c = c .before .before .before .before .before
+
+abbrev indexed2 : tie.After-index-reversed2 → tie.After-index2
+indexed2 c = c .before .before .before .before .before
+
+abbrev begun : tie.After-index-reversed2 → tie.Start
+begun c = start (listed (indexed (reversed (indexed2 c))))
+
+-- ---- the needs
 
 -- both tables keep the rules
 tables : (s : tie.Start) → let a = s .args in Tables (a .n) (a .count) (a .tails .now) (a .heads .now) (a .weights .now) (a .count2) (a .tails2 .now) (a .heads2 .now) (a .weights2 .now)
@@ -38,102 +60,90 @@ indexable s fs is x y =
       record { few = few; records = q; room = t .new .1; rules = t .new .2; firsts = omega arith; list = omega arith },
     )
 
-few : (s : tie.Start) → rowCount (s .args .landmarks .now) * s .args .n ≤ 5120
-few s = rows-most _ _ (s .pre .0 .landmarks .few) (s .pre .0 .few)
-
 differences-requires : tie.Need-differences-requires
 differences-requires c κs = let s = c .before .before .before .before .before .before .before .before .before .before .before .before .before in let t = tables s in ((s .args .n, t), omega (arith, t .old .0, t .new .0))
 
 index-requires : tie.Need-index-requires
-index-requires c κs = indexable (c .before .before .before .before .before .before .before .before .before .before .before .before .before .before .before .before .before .before .before .before) (replicate 257 0) (replicate 2305 0) blank-free blank-index .0
+index-requires c κs = indexable (start (c .before .before .before .before .before .before)) (replicate 257 0) (replicate 2305 0) blank-free blank-index .0
 
 index-reversed-requires : tie.Need-index-reversed-requires
-index-reversed-requires c κs = indexable (c .before .before .before .before .before .before .before .before .before .before .before .before .before .before .before .before .before .before .before .before .before .before .before .before .before .before .before .before) (c .before .before .before .before .before .before .before .index .last .1 .1 .1 .1 .1 .0) (replicate 2305 0) (omega (arith, c .before .before .before .before .before .before .before .index .kept .1 .1 .1 .1 .1 .0)) blank-index .0
+index-reversed-requires c κs =
+    let i = c .before .before .before .before .before .before .before in
+    indexable (start (listed i)) (i .index .last .1 .1 .1 .1 .1 .0) (replicate 2305 0) (omega (arith, i .index .kept .1 .1 .1 .1 .1 .0)) blank-index .0
 
 index-requires-2 : tie.Need-index-requires-2
-index-requires-2 c κs = indexable (c .before .before .before .before .before .before .before .before .before .before .before .before .before .before .before .before .before .before .before .before .before .before .before .before .before .before .before .before .before .before .before .before .before) (c .before .before .before .before .index-reversed .last .1 .1 .1 .1 .1 .0) (replicate 2305 0) (omega (arith, c .before .before .before .before .index-reversed .kept .1 .1 .1 .1 .1 .0, c .before .before .before .before .before .before .before .before .before .before .before .before .index .kept .1 .1 .1 .1 .1 .0)) blank-index .1
+index-requires-2 c κs =
+    let r = c .before .before .before .before in
+    let i = indexed r in
+    indexable (start (listed i)) (r .index-reversed .last .1 .1 .1 .1 .1 .0) (replicate 2305 0) (omega (arith, r .index-reversed .kept .1 .1 .1 .1 .1 .0, i .index .kept .1 .1 .1 .1 .1 .0)) blank-index .1
 
 index-reversed-requires-2 : tie.Need-index-reversed-requires-2
-index-reversed-requires-2 c κs = indexable (c .before .before .before .before .before .before .before .before .before .before .before .before .before .before .before .before .before .before .before .before .before .before .before .before .before .before .before .before .before .before .before .before .before .before .before .before .before .before) (c .before .before .before .before .index2 .last .1 .1 .1 .1 .1 .0) (replicate 2305 0) (omega (arith, c .before .before .before .before .index2 .kept .1 .1 .1 .1 .1 .0, c .before .before .before .before .before .before .before .before .before .index-reversed .kept .1 .1 .1 .1 .1 .0, c .before .before .before .before .before .before .before .before .before .before .before .before .before .before .before .before .before .index .kept .1 .1 .1 .1 .1 .0)) blank-index .1
+index-reversed-requires-2 c κs =
+    let j = c .before .before .before .before in
+    let r = reversed j in
+    let i = indexed r in
+    indexable (start (listed i)) (j .index2 .last .1 .1 .1 .1 .1 .0) (replicate 2305 0) (omega (arith, j .index2 .kept .1 .1 .1 .1 .1 .0, r .index-reversed .kept .1 .1 .1 .1 .1 .0, i .index .kept .1 .1 .1 .1 .1 .0)) blank-index .1
 
 -- the changes lie in their list
-changed : (d : tie.After-differences) → (d .differences .result ≤ length (d .differences .last .1 .1 .1 .1 .1 .1 .1 .1 .0)) × (length (d .differences .last .1 .1 .1 .1 .1 .1 .1 .1 .0) ≡ 8192)
-changed d = (d .differences .ensures .0 .0, d .differences .kept .1 .1 .1 .1 .1 .1 .1 .1 .0)
-
 array-borrow-prefix-net : tie.Need-array-borrow-prefix-net
-array-borrow-prefix-net c = let z = changed (c .before .before .before .before .before .before .before .before .before .before .before .before .before .before .before .before .before .before .before .before .before .before .before .before .before .before .before) in omega arith
+array-borrow-prefix-net c = let d = listed (indexed (reversed (indexed2 (c .before .before)))) in omega (arith, d .differences .ensures .0 .0, d .differences .kept .1 .1 .1 .1 .1 .1 .1 .1 .0)
 
 slice-aggregate-batch-sides : tie.Need-slice-aggregate-batch-sides
-slice-aggregate-batch-sides c = let d = c .before .before .before .before .before .before .before .before .before .before .before .before .before .before .before .before .before .before .before .before .before .before .before .before .before .before .before .before in sym (length-take-le (d .differences .result) (d .differences .last .1 .1 .1 .1 .1 .1 .1 .1 .0) (changed d .0))
-
-array-borrow-prefix-ahead : tie.Need-array-borrow-prefix-ahead
-array-borrow-prefix-ahead c = few (c .before .before .before .before .before .before .before .before .before .before .before .before .before .before .before .before .before .before .before .before .before .before .before .before .before .before .before .before .before .before .before .before .before .before .before .before .before .before .before .before .before .before .before .before .before .before .before .before)
-
-slice-aggregate-batch-sides-6 : tie.Need-slice-aggregate-batch-sides-6
-slice-aggregate-batch-sides-6 c = let s = c .before .before .before .before .before .before .before .before .before .before .before .before .before .before .before .before .before .before .before .before .before .before .before .before .before .before .before .before .before .before .before .before .before .before .before .before .before .before .before .before .before .before .before .before .before .before .before .before .before in sym (length-take-le (rowCount (s .args .landmarks .now) * s .args .n) (replicate 5120 0) (few s))
-
-array-borrow-prefix-back : tie.Need-array-borrow-prefix-back
-array-borrow-prefix-back c = few (c .before .before .before .before .before .before .before .before .before .before .before .before .before .before .before .before .before .before .before .before .before .before .before .before .before .before .before .before .before .before .before .before .before .before .before .before .before .before .before .before .before .before .before .before .before .before .before .before .before)
-
-slice-aggregate-batch-sides-7 : tie.Need-slice-aggregate-batch-sides-7
-slice-aggregate-batch-sides-7 c = let s = c .before .before .before .before .before .before .before .before .before .before .before .before .before .before .before .before .before .before .before .before .before .before .before .before .before .before .before .before .before .before .before .before .before .before .before .before .before .before .before .before .before .before .before .before .before .before .before .before .before .before in sym (length-take-le (rowCount (s .args .landmarks .now) * s .args .n) (replicate 5120 0) (few s))
+slice-aggregate-batch-sides c =
+    let d = listed (indexed (reversed (indexed2 (c .before .before .before)))) .differences in
+    sym (length-take-le (d .result) (d .last .1 .1 .1 .1 .1 .1 .1 .1 .0) (d .ensures .0 .0))
 
 batch-sides-requires : tie.Need-batch-sides-requires
 batch-sides-requires c κs =
-    let s = c .before .before .before .before .before .before .before .before .before .before .before .before .before .before .before .before .before .before .before .before .before .before .before .before .before .before .before .before .before .before .before .before .before .before .before .before .before .before .before .before .before .before .before .before .before .before .before .before .before .before in
-    let p = s .pre .0 in
-    let e = length-take-le {A = ℕ} (rowCount (s .args .landmarks .now) * s .args .n) (replicate 5120 0) (few s) in (
+    let q = c .before .before .before .before .before .before .before .before .before in
+    let j = indexed2 q in
+    let r = reversed j in
+    let i = indexed r in
+    let s = begun q in
+    let p = s .pre .0 in (
       (
         p .few,
         p .landmarks,
         record {
-          inside = c .before .before .before .before .before .before .before .before .before .before .before .before .before .before .before .before .before .before .before .before .before .before .before .before .before .before .before .before .before .before .before .before .before .before .before .before .differences .ensures .0 .1 (s .args .n) (tables s);
-          old = c .before .before .before .before .before .before .before .before .before .before .before .before .before .before .before .before .before .before .before .before .before .before .before .before .before .before .before .before .before .index .ensures .fit;
-          rold = c .before .before .before .before .before .before .before .before .before .before .before .before .before .before .before .before .before .before .before .before .before .index-reversed .ensures .fit;
-          new = c .before .before .before .before .before .before .before .before .before .before .before .before .before .before .before .before .index2 .ensures .fit;
-          rnew = c .before .before .before .before .before .before .before .before .before .before .before .index-reversed2 .ensures .fit;
+          inside = listed i .differences .ensures .0 .1 (s .args .n) (tables s);
+          old = i .index .ensures .fit;
+          rold = r .index-reversed .ensures .fit;
+          new = j .index2 .ensures .fit;
+          rnew = q .index-reversed2 .ensures .fit;
         },
       ),
-      (p .forward, p .backward, e, e),
+      (p .forward, p .backward),
     )
-
--- the batch that the rows are run on
-ran : (b : tie.After-batch-sides) → let a = b .before .before .before .before .before .before .before .before .before .before .before .before .before .before .before .before .before .before .before .before .before .before .before .before .before .before .before .before .before .before .before .before .before .before .before .before .before .before .before .before .before .before .before .before .before .before .before .before .before .before .before .args in Sides (a .n) (edges (a .tails .now) (a .heads .now) (a .weights .now) (a .count)) (edges (a .tails2 .now) (a .heads2 .now) (a .weights2 .now) (a .count2)) (take (b .before .before .before .before .before .before .before .before .before .before .before .before .before .before .before .before .before .before .before .before .before .before .before .before .before .before .before .before .before .before .before .before .before .before .before .before .before .differences .result) (b .before .before .before .before .before .before .before .before .before .before .before .before .before .before .before .before .before .before .before .before .before .before .before .before .before .before .before .before .before .before .before .before .before .before .before .before .before .differences .last .1 .1 .1 .1 .1 .1 .1 .1 .0)) (b .before .before .before .before .before .before .before .before .before .before .before .before .before .before .before .before .before .before .before .before .before .before .before .before .before .before .before .before .before .before .index .last .1 .1 .1 .1 .1 .1 .0) (b .before .before .before .before .before .before .before .before .before .before .before .before .before .before .before .before .before .before .before .before .before .before .index-reversed .last .1 .1 .1 .1 .1 .1 .0) (b .before .before .before .before .before .before .before .before .before .before .before .before .before .before .before .before .before .index2 .last .1 .1 .1 .1 .1 .1 .0) (b .before .before .before .before .before .before .before .before .before .before .before .before .index-reversed2 .last .1 .1 .1 .1 .1 .1 .0)
-ran b =
-    let a = b .before .before .before .before .before .before .before .before .before .before .before .before .before .before .before .before .before .before .before .before .before .before .before .before .before .before .before .before .before .before .before .before .before .before .before .before .before .before .before .before .before .before .before .before .before .before .before .before .before .before .before .args in
-    sides-made (a .n) (a .count) (a .tails .now) (a .heads .now) (a .weights .now) (a .count2) (a .tails2 .now) (a .heads2 .now) (a .weights2 .now) _ _ _ _ _ (tables (b .before .before .before .before .before .before .before .before .before .before .before .before .before .before .before .before .before .before .before .before .before .before .before .before .before .before .before .before .before .before .before .before .before .before .before .before .before .before .before .before .before .before .before .before .before .before .before .before .before .before .before)) (b .before .before .before .before .before .before .before .before .before .before .before .before .before .before .before .before .before .before .before .before .before .before .before .before .before .before .before .before .before .before .before .before .before .before .before .before .before .differences .ensures .1)
-    (b .before .before .before .before .before .before .before .before .before .before .before .before .before .before .before .before .before .before .before .before .before .before .before .before .before .before .before .before .before .before .index .ensures .own) (b .before .before .before .before .before .before .before .before .before .before .before .before .before .before .before .before .before .before .before .before .before .before .index-reversed .ensures .own) (b .before .before .before .before .before .before .before .before .before .before .before .before .before .before .before .before .before .index2 .ensures .own) (b .before .before .before .before .before .before .before .before .before .before .before .before .index-reversed2 .ensures .own)
-
-returns : tie.Need-returns
-returns c =
-    let b = c .before .before .before .before .before .before .before .before in
-    let a = b .before .before .before .before .before .before .before .before .before .before .before .before .before .before .before .before .before .before .before .before .before .before .before .before .before .before .before .before .before .before .before .before .before .before .before .before .before .before .before .before .before .before .before .before .before .before .before .before .before .before .before .args in
-    apply-refused (a .n) (a .landmarks .now) (a .tails .now) (a .heads .now) (a .weights .now) _ _ (a .count) (edges (a .tails2 .now) (a .heads2 .now) (a .weights2 .now) (a .count2)) _ _ (b .batch-sides .result) (b .batch-sides .ensures _ _ (ran b)) (c .if1 .taken)
 
 write-table-requires : tie.Need-write-table-requires
 write-table-requires c κs =
-    let s = c .before .before .before .before .before .before .before .before .before .before .before .before .before .before .before .before .before .before .before .before .before .before .before .before .before .before .before .before .before .before .before .before .before .before .before .before .before .before .before .before .before .before .before .before .before .before .before .before .before .before .before .before .before .before .before .before .before .before .before .before .before .before in
+    let s = begun (c .before .before .before .before .before .before .before .before .before .before .before .before .before .before .before .before .before .before) in
     let t = s .pre .1 in
     (t .few, room-less (t .few) (t .room), s .pre .0 .table .room)
 
-cast-t89 : tie.Need-cast-t89
-cast-t89 c = let s = c .before .before .before .before .before .before .before .before .before .before .before .before .before .before .before .before .before .before .before .before .before .before .before .before .before .before .before .before .before .before .before .before .before .before .before .before .before .before .before .before .before .before .before .before .before .before .before .before .before .before .before .before .before .before .before .before .before .before .before .before .before .before .before .before .before .before .before .before .before in omega (arith, s .pre .1 .few)
-
-returns-2 : tie.Need-returns-2
-returns-2 c =
-    let b = c .before .before .before .before .before .before .before .before .before .before .before .before .before .before .before .before .before .before in
-    let s = b .before .before .before .before .before .before .before .before .before .before .before .before .before .before .before .before .before .before .before .before .before .before .before .before .before .before .before .before .before .before .before .before .before .before .before .before .before .before .before .before .before .before .before .before .before .before .before .before .before .before .before in
+returns : tie.Need-returns
+returns c =
+    let w = c .before .before .before .before .before .before in
+    let b = w .before .before .before .before .before .before .before .before .before in
+    let q = b .before .before .before .before .before .before .before .before .before .before in
+    let j = indexed2 q in
+    let r = reversed j in
+    let i = indexed r in
+    let d = listed i in
+    let s = start d in
     let a = s .args in
     let t = s .pre .1 in
-    apply-done (a .n) (a .landmarks .now) (a .tails .now) (a .heads .now) (a .weights .now) _ _ (a .count) (edges (a .tails2 .now) (a .heads2 .now) (a .weights2 .now) (a .count2)) _ _ (b .batch-sides .result) (b .batch-sides .ensures _ _ (ran b)) (c .before .before .before .before .before .before .before .before .before .before .if1 .left) _ _ _ _
-    (sym (edges-length _ _ _ _ (room-less (t .few) (t .room)))) refl refl (c .before .before .before .before .before .before .write-table .ensures)
+    let fs = edges (a .tails2 .now) (a .heads2 .now) (a .weights2 .now) (a .count2) in
+    let o = b .batch-sides .ensures _ _ (sides-made (a .n) (a .count) (a .tails .now) (a .heads .now) (a .weights .now) (a .count2) (a .tails2 .now) (a .heads2 .now) (a .weights2 .now) _ _ _ _ _ (tables s) (d .differences .ensures .1) (i .index .ensures .own) (r .index-reversed .ensures .own) (j .index2 .ensures .own) (q .index-reversed2 .ensures .own)) in
+    let u = still-waiting (a .n) (a .landmarks .now) (network (a .tails .now) (a .heads .now) (a .weights .now) (a .forward .now) (a .backward .now) (a .count)) fs (within (a .n) fs (rules-accept (a .n) fs (t .rules)))
+    (λ k. omega (arith, d .before .before .before .before .before .before .before .before .before .slice-known4 .given k)) (λ k. omega (arith, d .before .before .before .before .before .before .before .before .slice-known5 .given k)) in
+    apply-done (a .n) (a .landmarks .now) (a .tails .now) (a .heads .now) (a .weights .now) _ _ (a .count) fs _ _ (b .batch-sides .result) o u _ _ _ _
+    (sym (edges-length _ _ _ _ (room-less (t .few) (t .room)))) refl refl (w .write-table .ensures)
 
 pub apply-spec : {M : Type 1} → statement M
 apply-spec =
     tie.close
     (tie.spec
-    (λ c. search needs)
-    (λ c. search needs)
     (λ c. search needs)
     differences-requires
     (λ c. search needs)
@@ -154,22 +164,12 @@ apply-spec =
     (λ c. search needs)
     (λ c. search needs)
     (λ c. search needs)
-    array-borrow-prefix-ahead
-    slice-aggregate-batch-sides-6
-    array-borrow-prefix-back
-    slice-aggregate-batch-sides-7
     batch-sides-requires
-    (λ c. search needs)
-    (λ c. search needs)
-    (λ c. search needs)
-    (λ c. search needs)
-    (λ c. search needs)
-    returns
     write-table-requires
-    cast-t89
+    (λ c. omega (arith, begun (c .before .before .before .before .before .before .before .before .before .before .before .before .before .before .before .before .before .before .before .before .before .before .before .before .before) .pre .1 .few))
     (λ c. search needs)
     (λ c. search needs)
     (λ c. search needs)
     (λ c. search needs)
     (λ c. search needs)
-    returns-2)
+    returns)

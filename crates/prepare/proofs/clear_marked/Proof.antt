@@ -9,10 +9,10 @@ use Rattle.prepare.proofs.clear_marked.Statement.{statement}
 use Rattle.prepare.proofs.clear_marked.Tie as tie
 
 abbrev Inv-loop : tie.InvT-loop
-Inv-loop p n marks out₀ i₀ out i = Given (property p) n marks out₀ out i
+Inv-loop p n marks words₀ i₀ words i = Given (property p) n marks words₀ words i
 
 abbrev μ-loop : tie.MeasureT-loop
-μ-loop p n marks out₀ i₀ out i = n - i
+μ-loop p n marks words₀ i₀ words i = n - i
 
 -- what was found
 found : (c : tie.After-next Inv-loop μ-loop) → First (waitingOf (c .before .before .before .before .before .before .args .marks .now)) (c .before .before .before .before .loop .i) (c .next .given .0 .0)
@@ -32,11 +32,11 @@ returns c =
     let s = l .before .before in
     give-done _ _ _ _ (s .pre .1) (l .loop .inv) (λ k h j. next-none _ _ (sym (f .next-from .ensures .0) ∙ c .enum-told .given .1) k h)
 
-mul-out : tie.Need-mul-out Inv-loop μ-loop
-mul-out c = let z = found-within (c .before .before) in search needs
+mul-words : tie.Need-mul-words Inv-loop μ-loop
+mul-words c = let z = found-within (c .before .before) in search needs
 
-slice-write-out : tie.Need-slice-write-out Inv-loop μ-loop
-slice-write-out c = let z = found-within (c .before .before) in search needs
+slice-write-words : tie.Need-slice-write-words Inv-loop μ-loop
+slice-write-words c = let z = found-within (c .before .before) in search needs
 
 add-i : tie.Need-add-i Inv-loop μ-loop
 add-i c = omega (arith, found-within (c .before .before))
@@ -63,14 +63,14 @@ clear-marked-spec =
     Inv-loop
     μ-loop
     loop-holds
-    (λ c κs. search needs)
+    (λ c κs. omega (arith, c .before .before .before .pre .0 .few))
     (λ c. search needs)
     (λ c. search needs)
     (λ c. search needs)
     returns
     (λ c κs. search needs)
-    mul-out
-    slice-write-out
+    mul-words
+    slice-write-words
     add-i
     loop-less
     loop-again

@@ -1,9 +1,9 @@
 -- `prepare::mark_removed_heads` meets its contract. The loop's invariant is `HeadsMarked`. Assumes nothing.
-use Rattle.property.proofs.Basics.{_≡_, refl, _+_, _-_, _*_, _≤_, arith, ltb, needs}
+use Rattle.property.proofs.Basics.{_≡_, refl, _+_, _-_, _*_, _≤_, arith, needs}
 use Rattle.property.specs.Property.{property}
 use Rattle.compare.specs.Code.{before, pairs}
 use Rattle.prepare.specs.Code.{HeadsMarked}
-use Rattle.prepare.proofs.Spreading.{heads-start, heads-turn, heads-as}
+use Rattle.prepare.proofs.Spreading.{gone-start, gone-turn, gone-as}
 use Rattle.prepare.proofs.mark_removed_heads.Statement.{statement}
 use Rattle.prepare.proofs.mark_removed_heads.Tie as tie
 
@@ -14,7 +14,7 @@ abbrev μ-loop : tie.MeasureT-loop
 μ-loop p n s net words marks₀ todo₀ size k₀ marks todo k = size - k
 
 loop-holds : tie.Need-loop-holds Inv-loop μ-loop
-loop-holds c = (heads-start (c .before .before .pre .3), omega arith, refl)
+loop-holds c = (gone-start (c .before .before .pre .3), omega arith, refl)
 
 mark-change-requires : tie.Need-mark-change-requires Inv-loop μ-loop
 mark-change-requires c κs =
@@ -28,10 +28,10 @@ loop-again c =
     let l = t .before in
     let s = l .before .before .before in
     let h = s .pre .0 (2 * l .loop .k + 1) (omega (arith, t .loop-test .taken, l .loop .inv .2)) in
-    (heads-turn h (l .loop .inv .0) (ltb 0 (before (s .args .net .now) (l .loop .k) .weight)) refl _ _ (c .mark-change .ensures .0) (c .mark-change .ensures .1), omega arith, l .loop .inv .2)
+    (gone-turn (l .loop .inv .0) (omega arith) h _ _ (c .mark-change .ensures .0) (c .mark-change .ensures .1), omega arith, l .loop .inv .2)
 
 returns : tie.Need-returns Inv-loop μ-loop
-returns c = let l = c .before in heads-as (l .loop .inv .0) (omega (arith, l .loop .inv .1, l .loop .inv .2, c .loop-test .left))
+returns c = let l = c .before in gone-as (l .loop .inv .0) (omega (arith, l .loop .inv .1, l .loop .inv .2, c .loop-test .left))
 
 pub mark-removed-heads-spec : {M : Type 1} → statement M
 mark-removed-heads-spec =

@@ -16,9 +16,9 @@ returns c =
     let w = c .before .before in
     let s = c .before .before .before .before .before .before .before .before in
     let a = s .args in (
-      λ es fs is d.
+      λ P es fs is d.
           reopen-done (a .n) (a .net .now) (a .into .now) (a .marks .now) (s .pre .2) _ _ _ (c .before .before .before .before .clear .ensures)
-          (w .wake-added .ensures .0) (c .wake-marked .ensures .0) (c .wake-marked .ensures .1) (λ v on. marks-within (a .n) (a .marks .now) v (s .pre .2) on) es fs (d .into) (d .net .added) (d .new),
+          (w .wake-added .ensures .0) (c .wake-marked .ensures .0) (c .wake-marked .ensures .1) (λ v on. marks-within (a .n) (a .marks .now) v (s .pre .2) on) P es fs (d .into) (d .net .added) (d .new),
       c .wake-marked .ensures .1,
     )
 

@@ -3,7 +3,7 @@ use Rattle.property.proofs.Basics.{_+_, _-_, _≤_, _<_, arith, length, getD, n
 use Rattle.property.specs.Property.{property}
 use Rattle.graph.specs.Arc.{arcHead}
 use Rattle.prepare.specs.Code.{Along}
-use Rattle.prepare.proofs.Spreading.{along-start, along-turn, along-as}
+use Rattle.prepare.proofs.Spreading.{gone-start, gone-turn, gone-as}
 use Rattle.prepare.proofs.spread_from.Statement.{statement}
 use Rattle.prepare.proofs.spread_from.Tie as tie
 
@@ -26,7 +26,7 @@ loop-holds c =
     let a = s .args in
     let f = s .pre .0 .2 in
     let w = f .within (a .u) (s .pre .0 .0) in
-    (along-start (s .pre .1 .0), omega arith, f .rising (a .u) (s .pre .0 .0), w, f .after (a .u) (omega (arith, s .pre .0 .0)), omega (arith, w, f .last))
+    (gone-start (s .pre .1), omega arith, f .rising (a .u) (s .pre .0 .0), w, f .after (a .u) (omega (arith, s .pre .0 .0)), omega (arith, w, f .last))
 
 -- the head of the arc at hand is a vertex
 inside : (t : tie.In-loop Inv-loop μ-loop) → let s = t .before .before .before .before .before .before in arcHead (getD (s .args .old .now) (t .before .loop .j) 0) < s .args .n
@@ -45,12 +45,12 @@ loop-again c =
     let s = l .before .before .before .before .before in
     let h = c .before .before .before .before .head .ensures in
     let w = c .before .before .before .weight .ensures in
-    (along-turn (l .loop .inv .0) (s .pre .1 .1) (l .loop .inv .1) (inside t) _ _ (rw (h, w) at (c .mark-head .ensures .0)) (rw (h, w) at (c .mark-head .ensures .1)), omega arith, omega arith, l .loop .inv .3, l .loop .inv .4, l .loop .inv .5)
+    (gone-turn (l .loop .inv .0) (l .loop .inv .1) (inside t) _ _ (rw (h, w) at (c .mark-head .ensures .0)) (rw (h, w) at (c .mark-head .ensures .1)), omega arith, omega arith, l .loop .inv .3, l .loop .inv .4, l .loop .inv .5)
 
 returns : tie.Need-returns Inv-loop μ-loop
 returns c =
     let l = c .before in
-    along-as (l .loop .inv .0) (omega (arith, l .loop .inv .2, c .loop-test .left))
+    gone-as (l .loop .inv .0) (omega (arith, l .loop .inv .2, c .loop-test .left))
 
 pub spread-from-spec : {M : Type 1} → statement M
 spread-from-spec =

@@ -45,7 +45,7 @@ spread-from-requires c κs =
     let l = k .before .before .before .before in
     let s = l .before .before .before in
     let h = found-within k in
-    ((h, s .pre .0, s .pre .1), (taken-going _ (l .loop .inv .1) _ h (r .remove .ensures), l .loop .inv .1 .among _ (found k .waits)))
+    ((h, s .pre .0, s .pre .1), taken-going _ (l .loop .inv .1) _ h (r .remove .ensures))
 
 loop-less : tie.Need-loop-less Inv-loop μ-loop
 loop-less c =
@@ -61,7 +61,7 @@ loop-again c =
     let l = k .before .before .before .before in
     let a = l .before .before .before .args in
     let h = found-within k in
-    ((λ es o. spreads-then (l .loop .inv .0 es o) (spreads-turn _ (l .loop .inv .1) (a .old .now) _ (r .remove .ensures) _ _ h (c .spread-from .ensures) es o)), c .spread-from .ensures .going)
+    ((λ es o. spreads-then (l .loop .inv .0 es o) (spreads-turn _ (l .loop .inv .1) (a .old .now) _ (found k .waits) (r .remove .ensures) _ _ h (c .spread-from .ensures) es o)), c .spread-from .ensures .going)
 
 pub spread-of-spec : {M : Type 1} → statement M
 spread-of-spec =

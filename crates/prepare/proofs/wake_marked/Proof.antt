@@ -69,7 +69,7 @@ wake-marked-spec =
     Inv-loop
     μ-loop
     loop-holds
-    (λ c κs. search needs)
+    (λ c κs. omega (arith, c .before .before .before .pre .1 .few))
     (λ c. search needs)
     (λ c. search needs)
     returns
