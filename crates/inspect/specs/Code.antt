@@ -10,7 +10,7 @@
 --                                                        memory, four bytes further for each word
 --   Shows .. f b at                                   == the part that starts at `at` is the row in the list of its side, of the two that start
 --                                                        at f and b; of a refused look-up nothing is said: its part is empty
---   Degrees es ds                                     == word v of the list ds is the degree of v, for every v: it is 0 past the list
+--   Degrees es ds                                     == the word of the list ds after word v is the degree of v, for every v: it is 0 past the list
 use mathlib.Core.Path.{_≡_}
 use mathlib.Core.Bool.{cond}
 use mathlib.Core.List.{List, [], _++_}
@@ -53,7 +53,7 @@ abbrev pub choosing : Chosen → ChosenWords
 choosing r = record { verdict = told (r .verdict); count = r .choice .count; vertices = r .choice .vertices }
 
 abbrev pub Degrees : List Edge → List ℕ → Type 0
-Degrees es ds = (v : ℕ) → getD ds v 0 ≡ degree es v
+Degrees es ds = (v : ℕ) → getD ds (v + 1) 0 ≡ degree es v
 
 -- ---- row look-up
 
