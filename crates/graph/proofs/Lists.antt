@@ -1,6 +1,5 @@
 -- Lists: ranges, tables over them, stored places, folds, lists of one value. Assumes nothing.
-use Rattle.property.proofs.Basics.{_≡_, refl, sym, ap, _∙_, _⊎_, inl, inr, ⊎-elim, _≢_, List, [], _∷_, _++_, map, foldl, List·Memᴰ, List·Memᴰ·head, List·Memᴰ·tail, List·Memᴰ·cases-cons, List·Memᴰ·not-nil, ℕ, zero, suc, _+_, _-_, _<_, _≤_, add-zero, zero-add, ℕ-discrete, arith, getD, set, length, take, drop, replicate, length-map, length-drop, getD-set-same, getD-set-other, take-suc-set}
-use lib.Seq.{drop-set-lt, drop-set-add, take-set-le}
+use Rattle.property.proofs.Basics.{_≡_, refl, sym, ap, _∙_, _⊎_, inl, inr, ⊎-elim, _≢_, List, [], _∷_, map, foldl, List·Memᴰ, List·Memᴰ·head, List·Memᴰ·tail, List·Memᴰ·cases-cons, List·Memᴰ·not-nil, ℕ, zero, suc, _+_, _-_, _<_, _≤_, add-zero, zero-add, ℕ-discrete, arith, getD, set, length, take, drop, replicate, length-map, getD-set-same, getD-set-other}
 use Rattle.graph.specs.Edge.{range}
 
 -- ---- ranges and tables over them
@@ -97,22 +96,6 @@ pub replicate-at : {A : Type 0} (n i : ℕ) (a : A) → getD (replicate n a) i a
 replicate-at zero i a = refl
 replicate-at (suc n) zero a = refl
 replicate-at (suc n) (suc i) a = replicate-at n i a
-
--- ---- parts of a list after a store: past the part, before it, at its end
-
-module _ {A : Type 0} (l : List A) (j m p : ℕ) (a : A) where
-  pub part-after : j + m ≤ p → take m (drop j (set l p a)) ≡ take m (drop j l)
-  part-after h =
-      let e : p ≡ j + (p - j) = omega arith in
-      rw (e, drop-set-add j l (p - j) a) (take-set-le m (drop j l) (p - j) a (omega arith))
-
-  pub part-before : p < j → take m (drop j (set l p a)) ≡ take m (drop j l)
-  part-before h = rw (drop-set-lt j l p a h)
-
-  pub part-end : p ≡ j + m → p < length l → take (suc m) (drop j (set l p a)) ≡ take m (drop j l) ++ (a ∷ [])
-  part-end e h =
-      let k : m < length (drop j l) = omega (arith, length-drop j l) in
-      rw (e, drop-set-add j l m a) (take-suc-set (drop j l) m a k)
 
 -- ---- zeros
 

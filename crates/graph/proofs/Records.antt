@@ -1,6 +1,6 @@
 -- The edges below a count of three lists: their number, each of them, what is left from an index on, one more, one less.
 -- Assumes nothing.
-use Rattle.property.proofs.Basics.{_≡_, refl, ap, _∙_, List, [], _∷_, _++_, map, List·Memᴰ, ℕ, zero, suc, _+_, _-_, _<_, _≤_, add-one, arith, length, getD, set, take, drop, drop-of-length-le, length-take-le, drop-cons, getD-take, take-set-lt}
+use Rattle.property.proofs.Basics.{_≡_, refl, ap, _∙_, List, [], _∷_, _++_, map, List·Memᴰ, ℕ, zero, suc, _+_, _-_, _<_, _≤_, add-one, arith, length, getD, take, drop, drop-of-length-le, length-take-le, drop-cons, getD-take}
 use Rattle.graph.specs.Edge.{Edge, edge, zip, edges}
 use Rattle.graph.specs.Code.{Room, edgeAt, insertAt, deleteAt}
 use Rattle.graph.proofs.Lists.{getD-mem}
@@ -103,20 +103,6 @@ tailsOf es = map (λ (e : Edge). e .tail) es
 
 abbrev pub headsOf : List Edge → List ℕ
 headsOf es = map (λ (e : Edge). e .head) es
-
-zip-set : (ts hs ws : List ℕ) (p t h w : ℕ) → zip (set ts p t) (set hs p h) (set ws p w) ≡ set (zip ts hs ws) p (edge t h w)
-unfolding zip
-zip-set [] hs ws p t h w = refl
-zip-set (x ∷ ts) [] ws zero t h w = refl
-zip-set (x ∷ ts) [] ws (suc p) t h w = refl
-zip-set (x ∷ ts) (y ∷ hs) [] zero t h w = refl
-zip-set (x ∷ ts) (y ∷ hs) [] (suc p) t h w = refl
-zip-set (x ∷ ts) (y ∷ hs) (z ∷ ws) zero t h w = refl
-zip-set (x ∷ ts) (y ∷ hs) (z ∷ ws) (suc p) t h w = ap (λ (l : List Edge). edge x y z ∷ l) (zip-set ts hs ws p t h w)
-
-pub edges-set : (ts hs ws : List ℕ) (m p t h w : ℕ) → p < m → edges (set ts p t) (set hs p h) (set ws p w) m ≡ set (edges ts hs ws m) p (edge t h w)
-unfolding edges
-edges-set ts hs ws m p t h w l = rw (take-set-lt m ts p t l, take-set-lt m hs p h l, take-set-lt m ws p w l) (zip-set (take m ts) (take m hs) (take m ws) p t h w)
 
 zip-columns : (m : ℕ) (ts hs ws : List ℕ) → length ts ≡ m → length hs ≡ m → length ws ≡ m → (tailsOf (zip ts hs ws) ≡ ts) × (headsOf (zip ts hs ws) ≡ hs)
     × (map (λ e. e .weight) (zip ts hs ws) ≡ ws)

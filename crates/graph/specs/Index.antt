@@ -6,18 +6,18 @@
 --   Fit n is        == an index of n vertices: nothing that a run reads is out of range
 --   Own n is es     == the index gives each vertex its edges of es, in table order
 --   Indexable n m ts hs ws fs is == m edges that keep the rules of n vertices, and lists with room for their index: fs for its making, is for it
---   ReversedArcs n m ts hs ws is == from place n + 1 on stand the arcs of the reversed table
+--   ReversedArcs n m ts hs ws is == from place n + 1 on stand the arcs of the edges into 0, into 1, .., reversed
 --   Indexes n is es == is is an index of the edges es between n vertices
 use mathlib.Core.Path.{_≡_}
 use mathlib.Core.List.{List, [], _∷_}
 use Prim.Native.Nat.{ℕ, zero, suc, _+_, _-_, _≤_, _<_}
-use lib.ListN.{length, getD}
+use lib.ListN.{length, getD, take}
 use Rattle.graph.specs.Limits.{maxVertices, maxEdges}
 use Rattle.graph.specs.Refusal.{accept}
 use Rattle.graph.specs.Edge.{Edge, edge, leaving, edges}
 use Rattle.graph.specs.Table as table
-use Rattle.graph.specs.Code.{Room, reversed}
-use Rattle.graph.specs.Arc.{arc, arcHead, arcWeight}
+use Rattle.graph.specs.Code.{Room, below, equal, into}
+use Rattle.graph.specs.Arc.{arcHead, arcWeight}
 
 unfoldable pub part : List ℕ → ℕ → ℕ → ℕ → List Edge
 part is u j zero = []
@@ -47,13 +47,8 @@ pub record Indexable (n m : ℕ) (ts hs ws fs is : List ℕ) : Type 0 where
   pub firsts : n < length fs
   pub list : n + 1 + m ≤ length is
 
-pub record ReversedArcs (n m : ℕ) (ts hs ws is : List ℕ) : Type 0 where
-  pub tails : List ℕ
-  pub heads : List ℕ
-  pub weights : List ℕ
-  pub room : Room m tails heads weights
-  pub table : edges tails heads weights m ≡ reversed n (edges ts hs ws m)
-  pub arcs : (k : ℕ) → k < m → getD is (n + 1 + k) 0 ≡ arc (getD heads k 0) (getD weights k 0)
+abbrev pub ReversedArcs : ℕ → ℕ → List ℕ → List ℕ → List ℕ → List ℕ → Type 0
+ReversedArcs n m ts hs ws is = (u : ℕ) → u < n → part is u (below u (take m hs) + (n + 1)) (equal u (take m hs)) ≡ into u (edges ts hs ws m)
 
 pub record Indexes (n : ℕ) (is : List ℕ) (es : List Edge) : Type 0 where
   pub fit : Fit n is

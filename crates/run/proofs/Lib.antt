@@ -3,3 +3,4 @@ pub mod States
 pub mod Rounds
 pub mod Starts
 pub mod Examples
+pub mod Kit

@@ -23,12 +23,6 @@ loop-holds c = ((λ n t. walk-start n _ _ _ _ _ _ _ _ _), omega arith, omega ari
 goes : (c : tie.Joined1 Inv-loop μ-loop) → let a = start (c .before) .args in (c .before .loop .i < a .count1) ⊎ (c .before .loop .j < a .count2)
 goes c = ⊎-elim (λ w. inl (w .taken)) (λ w. inr (ltb-true (c .before .loop .j) (start (c .before) .args .count2) (w .1 .taken))) (c .if1 .came)
 
-is-due-requires : tie.Need-is-due-requires Inv-loop μ-loop
-is-due-requires c κs = let t = start (c .before) .pre .0 .1 in (t .old .1 .tails, t .old .1 .heads, t .new .1 .tails, t .new .1 .heads)
-
-is-due-requires-2 : tie.Need-is-due-requires-2 Inv-loop μ-loop
-is-due-requires-2 c κs = let t = start (c .before .before) .pre .0 .1 in (t .new .1 .tails, t .new .1 .heads, t .old .1 .tails, t .old .1 .heads)
-
 either-requires : tie.Need-either-requires Inv-loop μ-loop
 either-requires c κs =
     let d = c in
@@ -125,9 +119,6 @@ loop-again c =
     let w = turned c (t .0) (t .1) in
     (turned c, w .low, w .low′, w .few, search needs)
 
-mul-result : tie.Need-mul-result Inv-loop μ-loop
-mul-result c = let l = c .before .before in let t = start l .pre .0 .1 in omega (arith, l .loop .inv .1, l .loop .inv .2, l .loop .inv .3, t .old .0, t .new .0)
-
 returns : tie.Need-returns Inv-loop μ-loop
 returns c =
     let l = c .before .before in
@@ -147,8 +138,8 @@ differences-spec =
     Inv-loop
     μ-loop
     loop-holds
-    is-due-requires
-    is-due-requires-2
+    (λ c κs. let t = start (c .before) .pre .0 .1 in (t .old .1 .tails, t .old .1 .heads, t .new .1 .tails, t .new .1 .heads))
+    (λ c κs. let t = start (c .before .before) .pre .0 .1 in (t .new .1 .tails, t .new .1 .heads, t .old .1 .tails, t .old .1 .heads))
     either-requires
     either-requires-2
     weight-if-requires
@@ -158,6 +149,6 @@ differences-spec =
     past-requires-2
     loop-less
     loop-again
-    mul-result
+    (λ c. let l = c .before .before in let t = start l .pre .0 .1 in omega (arith, l .loop .inv .1, l .loop .inv .2, l .loop .inv .3, t .old .0, t .new .0))
     (λ c. search needs)
     returns)

@@ -18,47 +18,17 @@ loop-holds c = (turned-none _, omega arith, refl)
 within : (c : tie.In-loop Inv-loop μ-loop) → 2 * c .before .loop .k + 1 < length (c .before .loop .list)
 within c = let t = c .before .loop .inv in omega (arith, t .0 .size, t .2, c .loop-test .taken)
 
-mul-at : tie.Need-mul-at Inv-loop μ-loop
-mul-at c = let w = within c in omega arith
-
-mul-a : tie.Need-mul-a Inv-loop μ-loop
-mul-a c = let w = within c in omega arith
-
-slice-read-a : tie.Need-slice-read-a Inv-loop μ-loop
-slice-read-a c = let w = within (c .before) in omega arith
-
-add-b : tie.Need-add-b Inv-loop μ-loop
-add-b c = let w = within (c .before) in omega arith
-
-mul-b : tie.Need-mul-b Inv-loop μ-loop
-mul-b c = let w = within (c .before) in omega arith
-
-slice-read-b : tie.Need-slice-read-b Inv-loop μ-loop
-slice-read-b c = within (c .before .before)
-
 arc-requires : tie.Need-arc-requires Inv-loop μ-loop
 arc-requires c κs =
     let b = c .before .before in
     let k = b .before .before .before .loop .k in
     (omega (arith, c .before .head .ensures, b .before .slice-known2 .given (2 * k), b .slice-known3 .given (2 * k + 1)), omega (arith, c .weight .ensures))
 
-mul-list : tie.Need-mul-list Inv-loop μ-loop
-mul-list c = let w = within (c .before .before .before .before .before) in omega arith
-
-slice-write-list : tie.Need-slice-write-list Inv-loop μ-loop
-slice-write-list c = let w = within (c .before .before .before .before .before) in omega arith
-
 arc-requires-2 : tie.Need-arc-requires-2 Inv-loop μ-loop
 arc-requires-2 c κs =
     let b = c .before .before .before .before .before in
     let k = b .before .before .before .loop .k in
     (omega (arith, c .before .head2 .ensures, b .before .slice-known2 .given (2 * k), b .slice-known3 .given (2 * k + 1)), omega (arith, c .weight2 .ensures))
-
-add-list : tie.Need-add-list Inv-loop μ-loop
-add-list c = let w = within (c .before .before .before .before .before .before .before .before) in omega arith
-
-mul-list-2 : tie.Need-mul-list-2 Inv-loop μ-loop
-mul-list-2 c = let w = within (c .before .before .before .before .before .before .before .before) in omega arith
 
 slice-write-list-2 : tie.Need-slice-write-list-2 Inv-loop μ-loop
 slice-write-list-2 c = let w = within (c .before .before .before .before .before .before .before .before) in let l = c .before .before .before .before .before .before .before .before .before in let z = length-set (l .loop .list) (2 * l .loop .k) (c .before .before .before .arc .result) in omega arith
@@ -76,9 +46,6 @@ loop-again c =
       l .loop .inv .2,
     )
 
-same-length : tie.Need-same-length Inv-loop μ-loop
-same-length c = c .before .loop .inv .0 .size
-
 returns : tie.Need-returns Inv-loop μ-loop
 returns c =
     let l = c .before in
@@ -94,25 +61,25 @@ turn-spec =
     Inv-loop
     μ-loop
     loop-holds
-    mul-at
-    mul-a
-    slice-read-a
-    add-b
-    mul-b
-    slice-read-b
+    (λ c. let w = within c in omega arith)
+    (λ c. let w = within c in omega arith)
+    (λ c. let w = within (c .before) in omega arith)
+    (λ c. let w = within (c .before) in omega arith)
+    (λ c. let w = within (c .before) in omega arith)
+    (λ c. within (c .before .before))
     (λ c κs. search needs)
     (λ c κs. search needs)
     arc-requires
-    mul-list
-    slice-write-list
+    (λ c. let w = within (c .before .before .before .before .before) in omega arith)
+    (λ c. let w = within (c .before .before .before .before .before) in omega arith)
     (λ c κs. search needs)
     (λ c κs. search needs)
     arc-requires-2
-    add-list
-    mul-list-2
+    (λ c. let w = within (c .before .before .before .before .before .before .before .before) in omega arith)
+    (λ c. let w = within (c .before .before .before .before .before .before .before .before) in omega arith)
     slice-write-list-2
     (λ c. search needs)
     (λ c. search needs)
     loop-again
-    same-length
+    (λ c. c .before .loop .inv .0 .size)
     returns)

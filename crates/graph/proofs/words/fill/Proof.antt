@@ -10,9 +10,6 @@ Inv-loop dst₀ v i₀ dst i = (take i dst ≡ replicate i v) × (i ≤ length d
 abbrev μ-loop : tie.MeasureT-loop
 μ-loop dst₀ v i₀ dst i = length dst₀ - i
 
-loop-holds : tie.Need-loop-holds Inv-loop μ-loop
-loop-holds c = (refl, omega arith, refl)
-
 loop-again : tie.Need-loop-again Inv-loop μ-loop
 loop-again c =
     let l = c .before in
@@ -29,7 +26,7 @@ fill-spec =
     (tie.spec
     Inv-loop
     μ-loop
-    loop-holds
+    (λ c. (refl, omega arith, refl))
     (λ c. search needs)
     (λ c. search needs)
     (λ c. search needs)
