@@ -2,7 +2,7 @@
  * while batches of edges come and go, and queries from any vertex.
  *
  * Every plate_track_ function of the archive is proved to meet its contract (crates/plate_track). Nothing is allocated and nothing is kept
- * between calls: the caller lends all memory. PLATE_TRACK_STACK_ below has the stack of each call; none needs 160 KiB.
+ * between calls: the caller lends all memory. PLATE_TRACK_STACK_ below has the stack of each call; none needs 128 KiB.
  * plate_track_deck.h holds a network and its memory in one struct and keeps the count.
  *
  * WORDS. Here, and in document 01: vertex = station, edge = segment, weight = figure, landmark = post, forward = outward, backward =
@@ -127,11 +127,12 @@ enum { PLATE_TRACK_READ_VERTICES, PLATE_TRACK_READ_COUNT };
 enum { PLATE_TRACK_WRITE_LENGTH };
 enum { PLATE_TRACK_READ_SOURCES_COUNT };
 
-/* Bytes of stack that each call takes at most, at the greatest sizes; measured (tests/stack). */
+/* Bytes of stack that each call takes at most, at the greatest sizes; measured (tests/stack). Where the C library is bound lazily, the first call
+ * that reaches one of its functions takes some 3 KiB more, once, for the dynamic linker. */
 enum {
-    PLATE_TRACK_STACK_OPEN = 64 * 1024,
-    PLATE_TRACK_STACK_QUERY = 14 * 1024,
-    PLATE_TRACK_STACK_BATCH = 156 * 1024,
+    PLATE_TRACK_STACK_OPEN = 12 * 1024,
+    PLATE_TRACK_STACK_QUERY = 12 * 1024,
+    PLATE_TRACK_STACK_BATCH = 120 * 1024,
     PLATE_TRACK_STACK_SETTLED = 1024,
     PLATE_TRACK_STACK_CHOOSE = 2 * 1024,
     PLATE_TRACK_STACK_ROW = 1024,

@@ -57,10 +57,10 @@ module _ {P : Property} (L : Laws P) (es fs : List Edge) (s n : ℕ) (old : With
 
   -- ---- who waits
 
-  prepared-waits : (e : Edge) → List·Memᴰ e fs → (out (e .head) || added es e) ≡ true → waits ready (e .tail) ≡ true
+  prepared-waits : (e : Edge) → List·Memᴰ e fs → (out (e .head) || added P es e) ≡ true → waits ready (e .tail) ≡ true
   unfolding prepared reopened
-  prepared-waits e m h = table-at (λ t. exists (λ x. eqb (x .tail) t && (out (x .head) || added es x)) fs) n (e .tail) false (new .tails e m)
-      ∙ true-exists (λ x. eqb (x .tail) (e .tail) && (out (x .head) || added es x)) m (and-true (eq-eqb (e .tail) (e .tail) refl) h)
+  prepared-waits e m h = table-at (λ t. exists (λ x. eqb (x .tail) t && (out (x .head) || added P es x)) fs) n (e .tail) false (new .tails e m)
+      ∙ true-exists (λ x. eqb (x .tail) (e .tail) && (out (x .head) || added P es x)) m (and-true (eq-eqb (e .tail) (e .tail) refl) h)
 
   -- A new edge that could better its head has a waiting tail. If its head is affected or the edge is added, its tail was set waiting.
   -- Otherwise it was there before, and its head has the word that it had: if its tail has too, best words were settled; if its tail is

@@ -34,15 +34,15 @@ module _ (P : Property) (es fs : List Edge) (s : ℕ) (ws : List ℕ) where
 
   pub closed-marked : (ms : List Bool) → Closed P es fs s ws ms → {t : ℕ} → Affected P es fs s ws t → marked ms t ≡ true
   closed-marked ms c (at-removed {e = e} m r h) = c e m (and-true (of-held P s ws e h) (rw r))
-  closed-marked ms c (onward {e = e} a m r h) = c e m (and-true (of-held P s ws e h) (or-right (removed fs e) (closed-marked ms c a)))
+  closed-marked ms c (onward {e = e} a m r h) = c e m (and-true (of-held P s ws e h) (or-right (removed P fs e) (closed-marked ms c a)))
 
   -- ---- sweeps mark affected vertices alone
 
   pub touches-named : (ms : List Bool) (e : Edge) → Named P es fs s ws ms → List·Memᴰ e es → touches P fs s ws ms e ≡ true
       → Affected P es fs s ws (e .head)
-  touches-named ms e g m h = let a = both (held P s ws e) _ h in pick (held-of P s ws e (a .0)) (removed fs e) refl (a .1)
+  touches-named ms e g m h = let a = both (held P s ws e) _ h in pick (held-of P s ws e (a .0)) (removed P fs e) refl (a .1)
     where
-      pick : Held P s ws e → (b : Bool) → removed fs e ≡ b → (b || marked ms (e .tail)) ≡ true → Affected P es fs s ws (e .head)
+      pick : Held P s ws e → (b : Bool) → removed P fs e ≡ b → (b || marked ms (e .tail)) ≡ true → Affected P es fs s ws (e .head)
       pick k true r q = at-removed m r k
       pick k false r q = onward (g (e .tail) q) m r k
 

@@ -153,12 +153,12 @@ module _ (P : Property) (es fs : List Edge) (s : ℕ) (ws : List ℕ) (n : ℕ) 
     -- marked the head, and so would a marked tail.
     pub held-closed : (e : Edge) → List·Memᴰ e es → Held P s ws e → marked marks (e .head) ≡ false
         → List·Memᴰ e fs × (marked marks (e .tail) ≡ false)
-    held-closed e m h q = pick (removed fs e) refl
+    held-closed e m h q = pick (removed P fs e) refl
       where
         clash : Affected P es fs s ws (e .head) → ⊥
         clash a = true≢false (sym (named-affected a) ∙ q)
 
-        pick : (b : Bool) → removed fs e ≡ b → List·Memᴰ e fs × (marked marks (e .tail) ≡ false)
+        pick : (b : Bool) → removed P fs e ≡ b → List·Memᴰ e fs × (marked marks (e .tail) ≡ false)
         pick true r = absurd (clash (at-removed m r h))
         pick false r = (among-mem fs e (not-false _ r), unaffected-unmarked (e .tail) (λ a. clash (onward a m r h)))
 

@@ -2,8 +2,9 @@
 --
 -- es is the list of edges before the batch, fs the list after it, s the landmark of the row, ws its words.
 --
---   removed fs e            == e, an edge of es, is "removed": not in the new list, by its three words
---   added es e              == e, an edge of fs, is "added": not in the old list
+--   absent fs e             == e is not in a list, by its three words
+--   removed P fs e          == e, an edge of es, is "removed": not in the new list. Whatever the property, as document 01 has it
+--   added P es e            == e, an edge of fs, is "added": not in the old list
 --   Held P s ws e           == e is tight, and its head is not the landmark and has a route
 --   Affected P es fs s ws t == t is affected: the head of a removed held edge, and so on along held edges that stay
 --   held P s ws e           == the same as Held, as a test
@@ -28,11 +29,14 @@ use Rattle.run.specs.Run.{word, tight}
 
 -- ---- the net effect of a batch
 
-abbrev pub removed : List Edge → Edge → Bool
-removed fs e = not (among fs e)
+abbrev pub absent : List Edge → Edge → Bool
+absent fs e = not (among fs e)
 
-abbrev pub added : List Edge → Edge → Bool
-added es e = not (among es e)
+abbrev pub removed : Property → List Edge → Edge → Bool
+removed P fs e = absent fs e
+
+abbrev pub added : Property → List Edge → Edge → Bool
+added P es e = absent es e
 
 -- ---- the closure, as document 01 names it
 
@@ -42,8 +46,8 @@ pub record Held (P : Property) (s : ℕ) (ws : List ℕ) (e : Edge) : Type 0 whe
   pub routed : word P ws (e .head) ≢ P .none
 
 pub data Affected (P : Property) (es fs : List Edge) (s : ℕ) (ws : List ℕ) : ℕ → Type 0 where
-  at-removed : {e : Edge} → List·Memᴰ e es → removed fs e ≡ true → Held P s ws e → Affected P es fs s ws (e .head)
-  onward : {e : Edge} → Affected P es fs s ws (e .tail) → List·Memᴰ e es → removed fs e ≡ false → Held P s ws e
+  at-removed : {e : Edge} → List·Memᴰ e es → removed P fs e ≡ true → Held P s ws e → Affected P es fs s ws (e .head)
+  onward : {e : Edge} → Affected P es fs s ws (e .tail) → List·Memᴰ e es → removed P fs e ≡ false → Held P s ws e
       → Affected P es fs s ws (e .head)
 
 -- ---- as marks that compute
@@ -56,7 +60,7 @@ marked ms t = getD ms t false
 
 module _ (P : Property) (fs : List Edge) (s : ℕ) (ws : List ℕ) where
   abbrev pub touches : List Bool → Edge → Bool
-  touches ms e = held P s ws e && (removed fs e || marked ms (e .tail))
+  touches ms e = held P s ws e && (removed P fs e || marked ms (e .tail))
 
   unfoldable pub mark : List Bool → Edge → List Bool
   mark ms e = cond (touches ms e) (set ms (e .head) true) ms

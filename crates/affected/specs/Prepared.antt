@@ -1,7 +1,7 @@
 -- Where a row's rounds start after a batch: document 01, "Batch". Assumes nothing.
 --
 --   cleared P ms ws n      == the row's words, with no route for the affected vertices
---   reopened es fs ms n    == who waits: the tails of all new edges into affected vertices, and of all added edges
+--   reopened P es fs ms n  == who waits: the tails of all new edges into affected vertices, and of all added edges
 --   prepared P es fs s ws n == the state in which the rounds of a row start
 use mathlib.Core.Bool.{Bool, _&&_, _||_, cond}
 use mathlib.Core.List.{List, map}
@@ -15,12 +15,12 @@ use Rattle.affected.specs.Affected.{added, marked, affected}
 unfoldable pub cleared : Property → List Bool → List ℕ → ℕ → List ℕ
 cleared P ms ws n = map (λ t. cond (marked ms t) (P .none) (word P ws t)) (range 0 n)
 
-unfoldable pub reopened : List Edge → List Edge → List Bool → ℕ → List Bool
-reopened es fs ms n = map (λ t. exists (λ e. eqb (e .tail) t && (marked ms (e .head) || added es e)) fs) (range 0 n)
+unfoldable pub reopened : Property → List Edge → List Edge → List Bool → ℕ → List Bool
+reopened P es fs ms n = map (λ t. exists (λ e. eqb (e .tail) t && (marked ms (e .head) || added P es e)) fs) (range 0 n)
 
 unfoldable pub prepared : Property → List Edge → List Edge → ℕ → List ℕ → ℕ → State
 prepared P es fs s ws n = record {
   words = cleared P (affected P es fs s ws n) ws n;
-  waiting = reopened es fs (affected P es fs s ws n) n;
+  waiting = reopened P es fs (affected P es fs s ws n) n;
   tally = noTally;
 }

@@ -53,8 +53,7 @@ pub fn judge_landmarks(n: u32, landmarks: &[u32]) -> Judged
     ensures { λ r. ⌜ told r ≡ number.landmarks n (now (landmarks .entry)) ⌝ }
 {
     rules::refuse_if(
-        landmarks.len() == 0
-            || landmarks.len() > graph::MAX_LANDMARKS
+        (landmarks.len() == 0) | (landmarks.len() > graph::MAX_LANDMARKS)
             || !are_landmarks(n, landmarks),
         3,
         0,
@@ -149,7 +148,7 @@ pub fn judge_all(
 pub fn is_property(p: u32) -> bool
     ensures { λ r. ⌜ r ≡ isProperty p ⌝ }
 {
-    0 < p && p as usize <= PROPERTIES
+    (0 < p) & (p as usize <= PROPERTIES)
 }
 
 // Where the row of landmark `i` of the list for property `p` starts in a row list.

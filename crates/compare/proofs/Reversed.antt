@@ -1,6 +1,6 @@
 -- Backward rows: the list of changes with tails and heads changed over is that of the reversed edges. Assumes nothing.
 use Rattle.property.proofs.Basics.{_≡_, refl, sym, ap, _∙_, not, _||_, List, [], _∷_, map, ℕ, _+_, _*_, _/_, _≤_, _<_, ℕ-discrete, decLt, arith, length, getD, set, length-set, getD-set-same, getD-set-other, eqb}
-use Rattle.graph.specs.Arc.{arcHeads, arc, arcHead, arcWeight}
+use Rattle.graph.specs.Arc.{arcWeights, arc, arcHead, arcWeight}
 use Rattle.graph.proofs.Arcs.{head-arc, weight-arc}
 use Rattle.graph.specs.Edge.{Edge, reverse, same, exists, among}
 use Rattle.graph.proofs.Edges.{mem-reverse, reverse-mem}
@@ -64,21 +64,21 @@ turned-turn xs ys k a b t l p q = record {
     at-second i h (yes e) = rw e (getD-set-same (set ys (2 * k) a) (2 * k + 1) b 0 (let z = t .size in let y = length-set ys (2 * k) a in omega arith) ∙ q ∙ rw (one, two))
     at-second i h (no d) = kept (2 * i + 1) (λ z. omega arith) (λ z. d (omega arith)) ∙ t .second i (omega arith)
 
-low-head : (a : ℕ) → arcHead a < arcHeads
-low-head a = omega arith
+low-weight : (a : ℕ) → arcWeight a < arcWeights
+low-weight a = omega arith
 
 module _ (xs ys : List ℕ) (t : Turned xs ys (pairs xs)) where
   turned-before : (i : ℕ) → i < pairs xs → before ys i ≡ reverse (before xs i)
   turned-before i l =
       let x = arcHead (getD xs (2 * i + 1) 0) in
       let y = arcHead (getD xs (2 * i) 0) in
-      rw (t .first i l, t .second i l, head-arc x (arcWeight (getD xs (2 * i) 0)) (low-head _), weight-arc x (arcWeight (getD xs (2 * i) 0)) (low-head _), head-arc y (arcWeight (getD xs (2 * i + 1) 0)) (low-head _))
+      rw (t .first i l, t .second i l, head-arc x (arcWeight (getD xs (2 * i) 0)) (low-weight _), weight-arc x (arcWeight (getD xs (2 * i) 0)) (low-weight _), head-arc y (arcWeight (getD xs (2 * i + 1) 0)) (low-weight _))
 
   turned-after : (i : ℕ) → i < pairs xs → after ys i ≡ reverse (after xs i)
   turned-after i l =
       let x = arcHead (getD xs (2 * i + 1) 0) in
       let y = arcHead (getD xs (2 * i) 0) in
-      rw (t .first i l, t .second i l, head-arc x (arcWeight (getD xs (2 * i) 0)) (low-head _), head-arc y (arcWeight (getD xs (2 * i + 1) 0)) (low-head _), weight-arc y (arcWeight (getD xs (2 * i + 1) 0)) (low-head _))
+      rw (t .first i l, t .second i l, head-arc x (arcWeight (getD xs (2 * i) 0)) (low-weight _), head-arc y (arcWeight (getD xs (2 * i + 1) 0)) (low-weight _), weight-arc y (arcWeight (getD xs (2 * i + 1) 0)) (low-weight _))
 
   pub turned-net : (es fs : List Edge) → Net es fs xs → Net (map reverse es) (map reverse fs) ys
   turned-net es fs d =
@@ -92,12 +92,12 @@ module _ (xs ys : List ℕ) (t : Turned xs ys (pairs xs)) where
       pick (no d) e = let z = t .size in rw (t .rest k (omega arith)) (h k (omega arith))
       pick (yes d) (yes e) =
           let x = h (2 * (k / 2) + 1) (omega arith) in
-          let w = head-arc (arcHead (getD xs (2 * (k / 2) + 1) 0)) (arcWeight (getD xs (2 * (k / 2)) 0)) (low-head _) in
+          let w = head-arc (arcHead (getD xs (2 * (k / 2) + 1) 0)) (arcWeight (getD xs (2 * (k / 2)) 0)) (low-weight _) in
           let v : arcHead (getD ys k 0) ≡ arcHead (getD xs (2 * (k / 2) + 1) 0) = ap (λ (i : ℕ). arcHead (getD ys i 0)) e ∙ ap arcHead (t .first (k / 2) d) ∙ w in
           omega (arith, v, x)
       pick (yes d) (no e) =
           let o : k ≡ 2 * (k / 2) + 1 = omega arith in
           let x = h (2 * (k / 2)) (omega arith) in
-          let w = head-arc (arcHead (getD xs (2 * (k / 2)) 0)) (arcWeight (getD xs (2 * (k / 2) + 1) 0)) (low-head _) in
+          let w = head-arc (arcHead (getD xs (2 * (k / 2)) 0)) (arcWeight (getD xs (2 * (k / 2) + 1) 0)) (low-weight _) in
           let v : arcHead (getD ys k 0) ≡ arcHead (getD xs (2 * (k / 2)) 0) = ap (λ (i : ℕ). arcHead (getD ys i 0)) o ∙ ap arcHead (t .second (k / 2) d) ∙ w in
           omega (arith, v, x)

@@ -10,7 +10,7 @@
 use Rattle.property.proofs.Basics.{_≡_, refl, sym, ap, _∙_, _⊎_, ⊎-elim, Bool, true, false, not, _&&_, cond, true≢false, false≢true, List, List·Memᴰ, ℕ, _+_, _*_, _/_, _≤_, _<_, ℕ-discrete, decLt, arith, length, getD, set, take, length-set, getD-set-same, getD-set-other, length-take-le, getD-take, eqb, ltb, ltb-true, ltb-false, lt-ltb, eqb-true, eqb-false, eq-eqb, ne-eqb, not-true, not-false}
 use Rattle.graph.specs.Limits.{maxVertices, maxEdges, maxWeight}
 use Rattle.graph.specs.Refusal.{accept}
-use Rattle.graph.specs.Arc.{arcHeads, arc, arcHead, arcWeight}
+use Rattle.graph.specs.Arc.{arcWeights, arc, arcHead, arcWeight}
 use Rattle.graph.specs.Edge.{Edge, edge, edges, alike, precedes, among}
 use Rattle.graph.specs.Table.{rules}
 use Rattle.graph.specs.Code.{Room, edgeAt, position}
@@ -22,7 +22,7 @@ use Rattle.graph.proofs.Lists.{mem-index}
 use Rattle.graph.proofs.Lookup.{find-same, find-other}
 use Rattle.graph.proofs.Own.{tails-below, heads-below, weights-range}
 use Rattle.graph.proofs.Records.{edges-length, edges-at, edges-mem}
-use Rattle.affected.specs.Affected.{removed}
+use Rattle.affected.specs.Affected.{absent}
 use Rattle.compare.specs.Code.{before, after, Inside, Lists, Net, Passed, Tables}
 use Rattle.compare.proofs.Among.{found-among, none-among}
 use Rattle.compare.proofs.Listing.{passed-none, passed-more, passed-next, passed-position}
@@ -73,8 +73,8 @@ module _ (n m : ℕ) (ts hs ws : List ℕ) (r : Room m ts hs ws) (a : rules n (e
     place = passed-position n ts′ hs′ ws′ m′ (getD ts i 0) (getD hs i 0) j r′ a′ p (due-first i m ts hs j m′ ts′ hs′ d .1)
 
     -- the edge stands nowhere in the other table
-    lone-removed : due j m′ ts′ hs′ i m ts hs ≡ false → removed (edges ts′ hs′ ws′ m′) (edgeAt ts hs ws i) ≡ true
-    lone-removed e =
+    lone-absent : due j m′ ts′ hs′ i m ts hs ≡ false → absent (edges ts′ hs′ ws′ m′) (edgeAt ts hs ws i) ≡ true
+    lone-absent e =
         let f = find-other ts′ hs′ ws′ m′ r′ n a′ (getD ts i 0) (getD hs i 0) j place (λ l x y. apart l x y) in
         sym (ap not (none-among n ts′ hs′ ws′ m′ r′ a′ (getD ts i 0) (getD hs i 0) (getD ws i 0) (sym f)))
       where
@@ -86,8 +86,8 @@ module _ (n m : ℕ) (ts hs ws : List ℕ) (r : Room m ts hs ws) (a : rules n (e
             true≢false (sym o ∙ q)
 
     -- the weight decides
-    met-removed : due j m′ ts′ hs′ i m ts hs ≡ true → removed (edges ts′ hs′ ws′ m′) (edgeAt ts hs ws i) ≡ not (eqb (getD ws i 0) (getD ws′ j 0))
-    met-removed e =
+    met-absent : due j m′ ts′ hs′ i m ts hs ≡ true → absent (edges ts′ hs′ ws′ m′) (edgeAt ts hs ws i) ≡ not (eqb (getD ws i 0) (getD ws′ j 0))
+    met-absent e =
         let q = met-pair d e in
         let f = find-same ts′ hs′ ws′ m′ r′ n a′ (getD ts i 0) (getD hs i 0) j place (due-first j m′ ts′ hs′ i m ts hs e .0) (q .0) (q .1) in
         sym (ap not (found-among n ts′ hs′ ws′ m′ r′ a′ (getD ts i 0) (getD hs i 0) (getD ws i 0) j (sym f)))
@@ -159,15 +159,15 @@ module _ (n m : ℕ) (ts hs ws : List ℕ) (m′ : ℕ) (ts′ hs′ ws′ : Lis
 
 pub record Half (fs : List Edge) (i g : ℕ) (f A : ℕ → Edge) : Type 0 where
   pub among : (k : ℕ) → k < g → 0 < f k .weight → (a : ℕ) × (a < i) × (A a ≡ f k)
-  pub lacks : (k : ℕ) → k < g → 0 < f k .weight → removed fs (f k) ≡ true
-  pub all : (a : ℕ) → a < i → removed fs (A a) ≡ true → (k : ℕ) × (k < g) × (f k ≡ A a)
+  pub lacks : (k : ℕ) → k < g → 0 < f k .weight → absent fs (f k) ≡ true
+  pub all : (a : ℕ) → a < i → absent fs (A a) ≡ true → (k : ℕ) × (k < g) × (f k ≡ A a)
 
 pub half-none : (fs : List Edge) (f A : ℕ → Edge) → Half fs 0 0 f A
 half-none fs f A = record { among = λ k l. absurd (omega arith); lacks = λ k l. absurd (omega arith); all = λ a l. absurd (omega arith) }
 
 -- what was listed stays, one change more is listed, and i′ edges are gone past
 module _ (fs : List Edge) (i i′ g : ℕ) (f h A : ℕ → Edge) (up : i ≤ i′) (s : (k : ℕ) → k < g → h k ≡ f k) (t : Half fs i g f A) where
-  half-more : (0 < h g .weight → ((a : ℕ) × (a < i′) × (A a ≡ h g)) × (removed fs (h g) ≡ true)) → ((a : ℕ) → i ≤ a → a < i′ → removed fs (A a) ≡ true → h g ≡ A a) → Half fs i′ (g + 1) h A
+  half-more : (0 < h g .weight → ((a : ℕ) × (a < i′) × (A a ≡ h g)) × (absent fs (h g) ≡ true)) → ((a : ℕ) → i ≤ a → a < i′ → absent fs (A a) ≡ true → h g ≡ A a) → Half fs i′ (g + 1) h A
   half-more z y = record {
     among = λ k l w. old k l w (decLt k g);
     lacks = λ k l w. out k l w (decLt k g);
@@ -181,23 +181,23 @@ module _ (fs : List Edge) (i i′ g : ℕ) (f h A : ℕ → Edge) (up : i ≤ i�
       old k l w (yes b) = let x = s k b in let q = t .among k b (rw x at w) in (q .0, (let o : q .0 < i = q .1 in omega arith), q .2 ∙ sym x)
       old k l w (no d) = let e = end k l d in rw e (z (rw e at w) .0)
 
-      out : (k : ℕ) → k < g + 1 → 0 < h k .weight → Dec (k < g) → removed fs (h k) ≡ true
-      out k l w (yes b) = let x = s k b in ap (removed fs) x ∙ t .lacks k b (rw x at w)
+      out : (k : ℕ) → k < g + 1 → 0 < h k .weight → Dec (k < g) → absent fs (h k) ≡ true
+      out k l w (yes b) = let x = s k b in ap (absent fs) x ∙ t .lacks k b (rw x at w)
       out k l w (no d) = let e = end k l d in rw e (z (rw e at w) .1)
 
-      every : (a : ℕ) → a < i′ → removed fs (A a) ≡ true → Dec (a < i) → (k : ℕ) × (k < g + 1) × (h k ≡ A a)
+      every : (a : ℕ) → a < i′ → absent fs (A a) ≡ true → Dec (a < i) → (k : ℕ) × (k < g + 1) × (h k ≡ A a)
       every a l r (yes b) = let q = t .all a b r in (q .0, (let o : q .0 < g = q .1 in omega arith), s (q .0) (q .1) ∙ q .2)
       every a l r (no d) = (g, omega arith, y a (omega arith) l r)
 
   -- none is listed more, and those that are gone past are not absent
-  half-same : ((a : ℕ) → i ≤ a → a < i′ → removed fs (A a) ≡ false) → Half fs i′ g h A
+  half-same : ((a : ℕ) → i ≤ a → a < i′ → absent fs (A a) ≡ false) → Half fs i′ g h A
   half-same y = record {
     among = λ k b w. let x = s k b in let q = t .among k b (rw x at w) in (q .0, (let o : q .0 < i = q .1 in omega arith), q .2 ∙ sym x);
-    lacks = λ k b w. let x = s k b in ap (removed fs) x ∙ t .lacks k b (rw x at w);
+    lacks = λ k b w. let x = s k b in ap (absent fs) x ∙ t .lacks k b (rw x at w);
     all = λ a l r. every a l r (decLt a i);
   }
     where
-      every : (a : ℕ) → a < i′ → removed fs (A a) ≡ true → Dec (a < i) → (k : ℕ) × (k < g) × (h k ≡ A a)
+      every : (a : ℕ) → a < i′ → absent fs (A a) ≡ true → Dec (a < i) → (k : ℕ) × (k < g) × (h k ≡ A a)
       every a l r (yes b) = let q = t .all a b r in (q .0, q .1, s (q .0) (q .1) ∙ q .2)
       every a l r (no d) = absurd (true≢false (sym r ∙ y a (omega arith) l))
 
@@ -206,11 +206,11 @@ module _ (fs : List Edge) (i g : ℕ) (f h A : ℕ → Edge) (s : (k : ℕ) → 
   this : (a : ℕ) → i ≤ a → a < i + 1 → i ≡ a
   this a l b = omega arith
 
-  half-list : removed fs (A i) ≡ true → h g ≡ A i → Half fs (i + 1) (g + 1) h A
-  half-list r e = half-more fs i (i + 1) g f h A (omega arith) s t (λ w. ((i, omega arith, sym e), ap (removed fs) e ∙ r)) (λ a l b q. e ∙ ap A (this a l b))
+  half-list : absent fs (A i) ≡ true → h g ≡ A i → Half fs (i + 1) (g + 1) h A
+  half-list r e = half-more fs i (i + 1) g f h A (omega arith) s t (λ w. ((i, omega arith, sym e), ap (absent fs) e ∙ r)) (λ a l b q. e ∙ ap A (this a l b))
 
-  half-skip : removed fs (A i) ≡ false → Half fs (i + 1) g h A
-  half-skip r = half-same fs i (i + 1) g f h A (omega arith) s t (λ a l b. ap (λ (x : ℕ). removed fs (A x)) (sym (this a l b)) ∙ r)
+  half-skip : absent fs (A i) ≡ false → Half fs (i + 1) g h A
+  half-skip r = half-same fs i (i + 1) g f h A (omega arith) s t (λ a l b. ap (λ (x : ℕ). absent fs (A x)) (sym (this a l b)) ∙ r)
 
   -- none is, and what is listed more has no weight
   half-stay : h g .weight ≡ 0 → Half fs i (g + 1) h A
@@ -221,7 +221,7 @@ module _ (fs : List Edge) (i g : ℕ) (f h A : ℕ → Edge) (s : (k : ℕ) → 
 abbrev pub stored : List ℕ → ℕ → ℕ → ℕ → ℕ → ℕ → List ℕ
 stored xs g t h o w = set (set xs (2 * g) (arc t o)) (2 * g + 1) (arc h w)
 
-module _ (xs : List ℕ) (g t h o w : ℕ) (long : 2 * g + 1 < length xs) (small : t < arcHeads) (short : h < arcHeads) where
+module _ (xs : List ℕ) (g t h o w : ℕ) (long : 2 * g + 1 < length xs) (small : o < arcWeights) (short : w < arcWeights) where
   abbrev here : List ℕ
   here = stored xs g t h o w
 
@@ -286,15 +286,15 @@ module _ (n m : ℕ) (ts hs ws : List ℕ) (m′ : ℕ) (ts′ hs′ ws′ : Lis
     abbrev f : Edge
     f = edgeAt ts′ hs′ ws′ j
 
-    made : (b c : Bool) → due i m ts hs j m′ ts′ hs′ ≡ b → due j m′ ts′ hs′ i m ts hs ≡ c → (x y o w g′ : ℕ) → x < n → y < n → g′ ≤ g + 1 → g′ ≤ cond b (i + 1) i + cond c (j + 1) j
+    made : (b c : Bool) → due i m ts hs j m′ ts′ hs′ ≡ b → due j m′ ts′ hs′ i m ts hs ≡ c → (x y o w g′ : ℕ) → x < n → y < n → o < arcWeights → w < arcWeights → g′ ≤ g + 1 → g′ ≤ cond b (i + 1) i + cond c (j + 1) j
         → Half (edges ts′ hs′ ws′ m′) (cond b (i + 1) i) g′ (before (stored xs g x y o w)) (edgeAt ts hs ws) → Half (edges ts hs ws m) (cond c (j + 1) j) g′ (after (stored xs g x y o w)) (edgeAt ts′ hs′ ws′)
         → Walk n m ts hs ws m′ ts′ hs′ ws′ (stored xs g x y o w) (cond b (i + 1) i) (cond c (j + 1) j) g′
-    made b c d h x y o w g′ lx ly lg fg old new = record {
+    made b c d h x y o w g′ lx ly so sw lg fg old new = record {
       old = old;
       new = new;
       behind = passed-step n m ts hs ws (t .old .1) (t .old .2) m′ ts′ hs′ ws′ (t .new .1) (t .new .2) i j (wk .behind) b c d h _ _ refl refl;
       ahead = passed-step n m′ ts′ hs′ ws′ (t .new .1) (t .new .2) m ts hs ws (t .old .1) (t .old .2) j i (wk .ahead) c b h d _ _ refl refl;
-      inside = λ k l. stored-inside xs g x y o w long (let z = t .few in omega arith) (let z = t .few in omega arith) n lx ly (wk .inside) k (omega arith);
+      inside = λ k l. stored-inside xs g x y o w long so sw n lx ly (wk .inside) k (omega arith);
       low = up b d;
       low′ = up′ c h;
       few = fg;
@@ -325,29 +325,29 @@ module _ (n m : ℕ) (ts hs ws : List ℕ) (m′ : ℕ) (ts′ hs′ ws′ : Lis
         ly : e .head < n
         ly = heads-below n m ts hs ws (t .old .1) (t .old .2) i li
 
-        sx : e .tail < arcHeads
-        sx = let z = t .few in let y = lx in omega arith
+        sx : e .weight < arcWeights
+        sx = let z = weights-range n m ts hs ws (t .old .1) (t .old .2) i li .1 in omega arith
 
-        sy : e .head < arcHeads
-        sy = let z = t .few in let y = ly in omega arith
+        sy : f .weight < arcWeights
+        sy = let z = weights-range n m′ ts′ hs′ ws′ (t .new .1) (t .new .2) j lj .1 in omega arith
 
         pair : (f .tail ≡ e .tail) × (f .head ≡ e .head)
         pair = met-pair n m ts hs ws (t .old .1) (t .old .2) m′ ts′ hs′ ws′ (t .new .1) (t .new .2) i j d h
 
-        gone : removed (edges ts′ hs′ ws′ m′) e ≡ not (eqb (e .weight) (f .weight))
-        gone = met-removed n m ts hs ws (t .old .1) (t .old .2) m′ ts′ hs′ ws′ (t .new .1) (t .new .2) i j (wk .behind li) d h
+        gone : absent (edges ts′ hs′ ws′ m′) e ≡ not (eqb (e .weight) (f .weight))
+        gone = met-absent n m ts hs ws (t .old .1) (t .old .2) m′ ts′ hs′ ws′ (t .new .1) (t .new .2) i j (wk .behind li) d h
 
-        come : removed (edges ts hs ws m) f ≡ not (eqb (f .weight) (e .weight))
-        come = met-removed n m′ ts′ hs′ ws′ (t .new .1) (t .new .2) m ts hs ws (t .old .1) (t .old .2) j i (wk .ahead lj) h d
+        come : absent (edges ts hs ws m) f ≡ not (eqb (f .weight) (e .weight))
+        come = met-absent n m′ ts′ hs′ ws′ (t .new .1) (t .new .2) m ts hs ws (t .old .1) (t .old .2) j i (wk .ahead lj) h d
 
         pick : (q : Bool) → eqb (e .weight) (f .weight) ≡ q → Walk n m ts hs ws m′ ts′ hs′ ws′ (stored xs g (e .tail) (e .head) (e .weight) (f .weight)) (i + 1) (j + 1) (cond q g (g + 1))
         pick true k =
-            made true true d h (e .tail) (e .head) (e .weight) (f .weight) g lx ly (omega arith) (let z = wk .few in omega arith)
+            made true true d h (e .tail) (e .head) (e .weight) (f .weight) g lx ly sx sy (omega arith) (let z = wk .few in omega arith)
             (half-skip _ i g (before xs) _ (edgeAt ts hs ws) (kept-before xs g (e .tail) (e .head) (e .weight) (f .weight) long sx sy) (wk .old) (gone ∙ ap not k))
             (half-skip _ j g (after xs) _ (edgeAt ts′ hs′ ws′) (kept-after xs g (e .tail) (e .head) (e .weight) (f .weight) long sx sy) (wk .new)
             (come ∙ ap not (eq-eqb (f .weight) (e .weight) (sym (eqb-true (e .weight) (f .weight) k)))))
         pick false k =
-            made true true d h (e .tail) (e .head) (e .weight) (f .weight) (g + 1) lx ly (omega arith) (let z = wk .few in omega arith)
+            made true true d h (e .tail) (e .head) (e .weight) (f .weight) (g + 1) lx ly sx sy (omega arith) (let z = wk .few in omega arith)
             (half-list _ i g (before xs) _ (edgeAt ts hs ws) (kept-before xs g (e .tail) (e .head) (e .weight) (f .weight) long sx sy) (wk .old) (gone ∙ ap not k) (stored-before xs g (e .tail) (e .head) (e .weight) (f .weight) long sx sy))
             (half-list _ j g (after xs) _ (edgeAt ts′ hs′ ws′) (kept-after xs g (e .tail) (e .head) (e .weight) (f .weight) long sx sy) (wk .new)
             (come ∙ ap not (ne-eqb (f .weight) (e .weight) (λ p. eqb-false (e .weight) (f .weight) k (sym p))))
@@ -360,13 +360,12 @@ module _ (n m : ℕ) (ts hs ws : List ℕ) (m′ : ℕ) (ts′ hs′ ws′ : Lis
         let li = due-first i m ts hs j m′ ts′ hs′ d .0 in
         let lx = tails-below n m ts hs ws (t .old .1) (t .old .2) i li in
         let ly = heads-below n m ts hs ws (t .old .1) (t .old .2) i li in
-        let w = weights-range n m ts hs ws (t .old .1) (t .old .2) i li .0 in
-        let z = t .few in
+        let (w, v) = weights-range n m ts hs ws (t .old .1) (t .old .2) i li in
         let k : eqb (e .weight) 0 ≡ false = ne-eqb (e .weight) 0 (λ p. omega arith) in
         rw k
-        (made true false d h (e .tail) (e .head) (e .weight) 0 (g + 1) lx ly (omega arith) (let z = wk .few in omega arith)
+        (made true false d h (e .tail) (e .head) (e .weight) 0 (g + 1) lx ly (omega arith) (omega arith) (omega arith) (let z = wk .few in omega arith)
         (half-list _ i g (before xs) _ (edgeAt ts hs ws) (kept-before xs g (e .tail) (e .head) (e .weight) 0 long (omega arith) (omega arith)) (wk .old)
-        (lone-removed n m ts hs ws (t .old .1) (t .old .2) m′ ts′ hs′ ws′ (t .new .1) (t .new .2) i j (wk .behind li) d h) (stored-before xs g (e .tail) (e .head) (e .weight) 0 long (omega arith) (omega arith)))
+        (lone-absent n m ts hs ws (t .old .1) (t .old .2) m′ ts′ hs′ ws′ (t .new .1) (t .new .2) i j (wk .behind li) d h) (stored-before xs g (e .tail) (e .head) (e .weight) 0 long (omega arith) (omega arith)))
         (half-stay _ j g (after xs) _ (edgeAt ts′ hs′ ws′) (kept-after xs g (e .tail) (e .head) (e .weight) 0 long (omega arith) (omega arith)) (wk .new)
         (ap (λ (x : Edge). x .weight) (stored-after xs g (e .tail) (e .head) (e .weight) 0 long (omega arith) (omega arith)))))
 
@@ -377,15 +376,14 @@ module _ (n m : ℕ) (ts hs ws : List ℕ) (m′ : ℕ) (ts′ hs′ ws′ : Lis
         let lj = due-first j m′ ts′ hs′ i m ts hs h .0 in
         let lx = tails-below n m′ ts′ hs′ ws′ (t .new .1) (t .new .2) j lj in
         let ly = heads-below n m′ ts′ hs′ ws′ (t .new .1) (t .new .2) j lj in
-        let w = weights-range n m′ ts′ hs′ ws′ (t .new .1) (t .new .2) j lj .0 in
-        let z = t .few in
+        let (w, v) = weights-range n m′ ts′ hs′ ws′ (t .new .1) (t .new .2) j lj in
         let k : eqb 0 (f .weight) ≡ false = ne-eqb 0 (f .weight) (λ p. omega arith) in
         rw k
-        (made false true d h (f .tail) (f .head) 0 (f .weight) (g + 1) lx ly (omega arith) (let z = wk .few in omega arith)
+        (made false true d h (f .tail) (f .head) 0 (f .weight) (g + 1) lx ly (omega arith) (omega arith) (omega arith) (let z = wk .few in omega arith)
         (half-stay _ i g (before xs) _ (edgeAt ts hs ws) (kept-before xs g (f .tail) (f .head) 0 (f .weight) long (omega arith) (omega arith)) (wk .old)
         (ap (λ (x : Edge). x .weight) (stored-before xs g (f .tail) (f .head) 0 (f .weight) long (omega arith) (omega arith))))
         (half-list _ j g (after xs) _ (edgeAt ts′ hs′ ws′) (kept-after xs g (f .tail) (f .head) 0 (f .weight) long (omega arith) (omega arith)) (wk .new)
-        (lone-removed n m′ ts′ hs′ ws′ (t .new .1) (t .new .2) m ts hs ws (t .old .1) (t .old .2) j i (wk .ahead lj) h d) (stored-after xs g (f .tail) (f .head) 0 (f .weight) long (omega arith) (omega arith))))
+        (lone-absent n m′ ts′ hs′ ws′ (t .new .1) (t .new .2) m ts hs ws (t .old .1) (t .old .2) j i (wk .ahead lj) h d) (stored-after xs g (f .tail) (f .head) 0 (f .weight) long (omega arith) (omega arith))))
 
     -- any step
     pub walk-turn : (b c : Bool) → b ≡ due i m ts hs j m′ ts′ hs′ → c ≡ due j m′ ts′ hs′ i m ts hs → (x y o w : ℕ) → x ≡ cond b (e .tail) (f .tail) → y ≡ cond b (e .head) (f .head) → o ≡ cond b (e .weight) 0 → w ≡ cond c (f .weight) 0
@@ -402,12 +400,12 @@ half-done : (ts hs ws : List ℕ) (m : ℕ) (r : Room m ts hs ws) (n : ℕ) → 
     → Half fs m g f (edgeAt ts hs ws) → Lists (edges ts hs ws m) fs j k
 half-done ts hs ws m r n a fs g f k j q s t = rw q (record {
   among = λ i b w. let x = s i b in let z = t .among i b (rw x at w) in rw (x, sym (z .2)) (edges-mem ts hs ws m r (z .0) (z .1));
-  lacks = λ i b w. let x = s i b in ap (removed fs) x ∙ t .lacks i b (rw x at w);
+  lacks = λ i b w. let x = s i b in ap (absent fs) x ∙ t .lacks i b (rw x at w);
   all = λ e i b.
       let z = mem-index (edge 0 0 0) i in
       let l : z .0 < m = (let y = z .1 in omega (arith, edges-length ts hs ws m r)) in
       let p : edgeAt ts hs ws (z .0) ≡ e = sym (edges-at ts hs ws m r (z .0) l) ∙ z .2 in
-      let y = t .all (z .0) l (ap (removed fs) p ∙ b) in
+      let y = t .all (z .0) l (ap (absent fs) p ∙ b) in
       let u = s (y .0) (y .1) ∙ y .2 in
       (y .0, y .1, u ∙ p, rw u (weights-range n m ts hs ws r a (z .0) l .0));
 })

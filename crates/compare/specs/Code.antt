@@ -19,7 +19,7 @@ use Rattle.graph.specs.Arc.{arcHead, arcWeight}
 use Rattle.graph.specs.Edge.{Edge, edge, edges, precedes}
 use Rattle.graph.specs.Table.{rules}
 use Rattle.graph.specs.Code.{Room, edgeAt}
-use Rattle.affected.specs.Affected.{removed}
+use Rattle.affected.specs.Affected.{absent}
 
 -- ---- a list of changes
 
@@ -37,8 +37,8 @@ Inside n xs = (k : ℕ) → k < length xs → arcHead (getD xs k 0) < n
 
 pub record Lists (es fs : List Edge) (g : ℕ) (f : ℕ → Edge) : Type 0 where
   pub among : (k : ℕ) → k < g → 0 < f k .weight → List·Memᴰ (f k) es
-  pub lacks : (k : ℕ) → k < g → 0 < f k .weight → removed fs (f k) ≡ true
-  pub all : (e : Edge) → List·Memᴰ e es → removed fs e ≡ true → (k : ℕ) × (k < g) × (f k ≡ e) × (0 < f k .weight)
+  pub lacks : (k : ℕ) → k < g → 0 < f k .weight → absent fs (f k) ≡ true
+  pub all : (e : Edge) → List·Memᴰ e es → absent fs e ≡ true → (k : ℕ) × (k < g) × (f k ≡ e) × (0 < f k .weight)
 
 pub record Net (es fs : List Edge) (xs : List ℕ) : Type 0 where
   pub removed : Lists es fs (pairs xs) (before xs)

@@ -60,6 +60,7 @@ pub fn contains(ws: &Words, i: usize) -> bool
 
 // The first vertex at or after `i` that waits. `size` is for callers: nothing else tells them how many bits lie behind a `&Words`.
 pub fn next_from(ws: &Words, i: usize) -> Next
+    requires { ⌜ i < capacity ⌝ }
     ensures next { λ r. ⌜ r ≡ nextFrom (waitingOf (now (ws .entry))) i ⌝ }
     ensures size { λ _. ⌜ length (waitingOf (now (ws .entry))) ≡ capacity ⌝ }
 {

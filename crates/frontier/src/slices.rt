@@ -44,22 +44,33 @@ pub fn contains(ws: &[u64], i: usize) -> bool
     (ws[i / 64] >> (i % 64)) & 1 == 1
 }
 
-// The first vertex at or after `i` that waits: the lowest set bit of the first word that is not 0, with the bits below `i` masked.
-pub fn next_from(ws: &[u64], i: usize) -> Next
+// The first vertex from word `from` on that waits: the lowest set bit of the first word that is not 0.
+fn next_word(ws: &[u64], from: usize) -> Next
     requires { ⌜ 64 * length (now ws) < 2 ^ 64 ⌝ }
-    ensures { λ r. ⌜ r ≡ nextFrom (waitingOf (now (ws .entry))) i ⌝ }
+    ensures { λ r. ⌜ r ≡ nextFrom (waitingOf (now (ws .entry))) (from * 64) ⌝ }
 {
-    let mut k = i / 64;
-    let mut mask = u64::MAX << (i % 64);
+    let mut k = from;
     while k < ws.len() {
-        let w = ws[k] & mask;
+        let w = ws[k];
         if w != 0 {
             return Next::At(k * 64 + u64::trailing_zeros(w) as usize);
         }
         k += 1;
-        mask = u64::MAX;
     }
     Next::None
+}
+
+// The first vertex at or after `i` that waits: in the word of `i`, with the bits below `i` masked, or in the words after it.
+pub fn next_from(ws: &[u64], i: usize) -> Next
+    requires { ⌜ (i < 64 * length (now ws)) × (64 * length (now ws) < 2 ^ 64) ⌝ }
+    ensures { λ r. ⌜ r ≡ nextFrom (waitingOf (now (ws .entry))) i ⌝ }
+{
+    let k = i / 64;
+    let w = ws[k] & (u64::MAX << (i % 64));
+    if w != 0 {
+        return Next::At(k * 64 + u64::trailing_zeros(w) as usize);
+    }
+    next_word(ws, k + 1)
 }
 
 // How many vertices wait.

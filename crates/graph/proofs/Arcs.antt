@@ -1,7 +1,7 @@
 -- The head and the weight of an arc; an index as one list, from first edges, heads and weights; and the arcs of the reversed table, placed
 -- one by one. Assumes nothing.
 use Rattle.property.proofs.Basics.{_≡_, refl, sym, ap, ap₂, _∙_, ⊎-elim, List, [], _∷_, map, ℕ, zero, suc, _+_, _-_, _<_, _≤_, arith, length, getD, set, take, length-set, getD-set-same, getD-set-other, ℕ-discrete}
-use Rattle.graph.specs.Arc.{arcHeads, arcWeights, arc, arcHead, arcWeight}
+use Rattle.graph.specs.Arc.{arcWeights, arc, arcHead, arcWeight}
 use Rattle.graph.specs.Edge.{Edge, edge, leaving, edges, range}
 use Rattle.graph.specs.Code.{Room, Firsts}
 use Rattle.graph.specs.Own as split
@@ -9,18 +9,15 @@ use Rattle.graph.specs.Index.{part, Fit, Own, Indexes, ReversedArcs}
 use Rattle.graph.proofs.Lists.{length-table, table-at}
 use Rattle.graph.proofs.Places.{Filled, filled-none, filled-place, filled-store, filled-end}
 
-pub head-arc : (h w : ℕ) → h < arcHeads → arcHead (arc h w) ≡ h
+pub head-arc : (h w : ℕ) → w < arcWeights → arcHead (arc h w) ≡ h
 head-arc h w l = omega arith
 
-pub weight-arc : (h w : ℕ) → h < arcHeads → arcWeight (arc h w) ≡ w
+pub weight-arc : (h w : ℕ) → w < arcWeights → arcWeight (arc h w) ≡ w
 weight-arc h w l = omega arith
 
 module _ (n m : ℕ) (fs hs ws is : List ℕ) (f : split.Fit n m fs hs ws) (size : n + 1 + m ≤ length is) (last : getD fs n 0 ≤ m)
     (places : (u : ℕ) → u ≤ n → getD is u 0 ≡ getD fs u 0 + (n + 1))
     (arcs : (k : ℕ) → k < m → getD is (n + 1 + k) 0 ≡ arc (getD hs k 0) (getD ws k 0)) where
-  small : (k : ℕ) → k < m → getD hs k 0 < arcHeads
-  small k l = let a = f .inside k l in let b = f .few in omega arith
-
   rises : (u k : ℕ) → u + k ≡ n → getD fs u 0 ≤ getD fs n 0
   rises u zero e = let z : u ≡ n = omega arith in rw z (omega arith)
   rises u (suc k) e = let a = f .rising u (omega arith) in let b = rises (u + 1) k (omega arith) in omega arith
@@ -40,7 +37,7 @@ module _ (n m : ℕ) (fs hs ws is : List ℕ) (f : split.Fit n m fs hs ws) (size
             let j : n + 1 + (k - (n + 1)) ≡ k = omega arith in
             let l : k - (n + 1) < m = omega arith in
             let d = arcs (k - (n + 1)) l in
-            let h = head-arc (getD hs (k - (n + 1)) 0) (getD ws (k - (n + 1)) 0) (small (k - (n + 1)) l) in
+            let h = head-arc (getD hs (k - (n + 1)) 0) (getD ws (k - (n + 1)) 0) (f .light (k - (n + 1)) l) in
             let i = f .inside (k - (n + 1)) l in
             let q : arcHead (getD is k 0) ≡ getD hs (k - (n + 1)) 0 = ap (λ (x : ℕ). arcHead (getD is x 0)) (sym j) ∙ ap arcHead d ∙ h in
             omega (arith, q, i);
@@ -52,8 +49,8 @@ module _ (n m : ℕ) (fs hs ws is : List ℕ) (f : split.Fit n m fs hs ws) (size
   packed-part u j (suc k) l =
       let x : j + (n + 1) ≡ n + 1 + j = omega arith in
       let e = ap (λ (i : ℕ). getD is i 0) x ∙ arcs j (omega arith) in
-      let h = head-arc (getD hs j 0) (getD ws j 0) (small j (omega arith)) in
-      let w = weight-arc (getD hs j 0) (getD ws j 0) (small j (omega arith)) in
+      let h = head-arc (getD hs j 0) (getD ws j 0) (f .light j (omega arith)) in
+      let w = weight-arc (getD hs j 0) (getD ws j 0) (f .light j (omega arith)) in
       let y : suc (j + (n + 1)) ≡ suc j + (n + 1) = omega arith in
       rw (e, h, w) (ap (λ (l : List Edge). edge u (getD hs j 0) (getD ws j 0) ∷ l) (ap (λ (i : ℕ). part is u i k) y ∙ packed-part u (suc j) k (omega arith)))
 

@@ -17,7 +17,7 @@ use Rattle.graph.specs.Parted.{Ascending}
 use Rattle.graph.proofs.Lists.{getD-mem}
 use Rattle.graph.proofs.Edges.{leaving-in, keep-in, keep-reverse, reverse-mem}
 use Rattle.graph.proofs.Sorted.{sorted-before}
-use Rattle.graph.proofs.Order.{table-ordered, Sound, rules-accept, sound-fit, precedes-tail, Within, within}
+use Rattle.graph.proofs.Order.{table-ordered, EdgeFacts, Sound, rules-accept, sound-fit, precedes-tail, Within, within}
 use Rattle.graph.proofs.Records.{tailsOf, headsOf, edges-length, edges-at, edges-mem, edges-more, edges-tails, edges-heads}
 use Rattle.graph.proofs.Counts.{below-zero, below-suc, below-le}
 use Rattle.graph.proofs.Places.{into-length}
@@ -189,6 +189,7 @@ module _ (n m : ℕ) (ts hs ws : List ℕ) (r : Room m ts hs ws) (a : rules n (e
     rising = λ u l. firsts-rise n (take m ts) fs f u l;
     within = λ u l. let b = firsts-end n (take m ts) fs f u l in let t = length-take-le m ts (r .tails) in omega arith;
     inside = heads-below;
+    light = λ k l. let w = weights-range k l in omega (arith, w .1);
   }
 
   -- what the index of the tails and that of the heads are asked
@@ -211,8 +212,8 @@ module _ (n m : ℕ) (ts hs ws rts rhs rws fs : List ℕ) (r : Room m ts hs ws) 
       own-firsts n (take m hs) fs f u l rhs rws
       ∙ part-is rts rhs rws m s u (below u (take m hs)) (equal u (take m hs)) (leaving u (map reverse es)) (omega arith) (rw e (rw h at (reversed-part n u es l))) (λ x i. leaving-in u (map reverse es) x i .1)
 
-  in-reversed : (k : ℕ) → k < m → List·Memᴰ (edge (getD rhs k 0) (getD rts k 0) (getD rws k 0)) (edges ts hs ws m)
-  in-reversed k l = reversed-in 0 n (edges ts hs ws m) (edgeAt rts rhs rws k) (rw e at (edges-mem rts rhs rws m s k l))
+  facts : rules n (edges ts hs ws m) ≡ accept → (k : ℕ) → k < m → EdgeFacts n (reverse (edgeAt rts rhs rws k))
+  facts a k l = sound-fit n (edges ts hs ws m) (rules-accept n (edges ts hs ws m) a) _ (reversed-in 0 n (edges ts hs ws m) (edgeAt rts rhs rws k) (rw e at (edges-mem rts rhs rws m s k l)))
 
   pub fit-reversed : rules n (edges ts hs ws m) ≡ accept → n ≤ maxVertices → m ≤ maxEdges → n < length fs → Fit n m fs rhs rws
   fit-reversed a p q i = record {
@@ -223,5 +224,6 @@ module _ (n m : ℕ) (ts hs ws rts rhs rws fs : List ℕ) (r : Room m ts hs ws) 
     weights = s .weights;
     rising = λ u l. firsts-rise n (take m hs) fs f u l;
     within = λ u l. let b = firsts-end n (take m hs) fs f u l in let t = length-take-le m hs (r .heads) in omega arith;
-    inside = λ k l. within n (edges ts hs ws m) (rules-accept n (edges ts hs ws m) a) .tails (edge (getD rhs k 0) (getD rts k 0) (getD rws k 0)) (in-reversed k l);
+    inside = λ k l. facts a k l .tail-below;
+    light = λ k l. let w = facts a k l .weight-most in omega arith;
   }

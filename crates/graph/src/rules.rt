@@ -4,8 +4,9 @@ use super::MAX_EDGES;
 use super::MAX_VERTICES;
 use super::MAX_WEIGHT;
 ghost use mathlib.Core.Path.{_≡_};
-ghost use mathlib.Core.Bool.{true, _&&_};
+ghost use mathlib.Core.Bool.{true, not, _&&_};
 ghost use Prim.Native.Nat.{_+_, _<_};
+ghost use lib.Dec.{eqb, ltb};
 ghost use Rattle.graph.specs.Limits.{maxEdges};
 ghost use Rattle.graph.specs.Refusal.{accept, refuseIf};
 ghost use Rattle.graph.specs.Edge.{edge, edges, precedes};
@@ -100,15 +101,15 @@ fn judge_rules(n: u32, tails: &[u32], heads: &[u32], weights: &[u32], count: usi
     Judged::Fine
 }
 
-// Whether an edge keeps the rules after the pair before it: `in_order` and `is_edge` without a branch, so that `are_sound` goes by vectors.
+// Whether an edge keeps the rules after the pair before it, but for the bound of its tail: `in_order` and `is_edge` without a branch, so that
+// `are_sound` goes by vectors.
 fn is_next(n: u32, t: u32, h: u32, u: u32, g: u32, w: u32) -> bool
-    ensures { λ r. ⌜ r ≡ (precedes (edge t h 0) (edge u g w) && isEdge n (edge u g w)) ⌝ }
+    ensures { λ r. ⌜ r ≡ (precedes (edge t h 0) (edge u g w) && (ltb g n && (not (eqb u g) && isWeight w))) ⌝ }
 {
-    ((t < u) | ((t == u) & (h < g)))
-        & ((u < n) & ((g < n) & ((u != g) & ((0 < w) & (w <= MAX_WEIGHT)))))
+    ((t < u) | ((t == u) & (h < g))) & ((g < n) & ((u != g) & ((0 < w) & (w <= MAX_WEIGHT))))
 }
 
-// Whether all records keep the rules. It goes over all of them and never stops early.
+// Whether all records keep the rules. It goes over all of them and never stops early. Tails never fall, so the bound of the last is that of all.
 fn are_sound(n: u32, tails: &[u32], heads: &[u32], weights: &[u32], count: usize) -> bool
     requires { ⌜ (0 < count) × Room count (now tails) (now heads) (now weights) ⌝ }
     ensures { λ r. ⌜ (r ≡ true → accept ≡ rules n (edges (now (tails .entry)) (now (heads .entry)) (now (weights .entry)) count)) ⌝ }
@@ -120,7 +121,7 @@ fn are_sound(n: u32, tails: &[u32], heads: &[u32], weights: &[u32], count: usize
         all = all & is_next(n, tails[j], heads[j], tails[k], heads[k], weights[k]);
         k += 1;
     }
-    all
+    all & (tails[count - 1] < n)
 }
 
 // The table's rules, at the cost of a pass without branches where all records keep them.

@@ -49,7 +49,7 @@ pub fn row_number(
     if !calls::is_in(landmark, landmarks, 0) {
         return Judged::Refused(3, 0);
     }
-    rules::refuse_if(!calls::is_property(property) || side > 1, 5, 0)
+    rules::refuse_if(!calls::is_property(property) | (side > 1), 5, 0)
 }
 
 // The row of a side (0 forward, 1 backward), a landmark and a property; a refused look-up shows the empty part.

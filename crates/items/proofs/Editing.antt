@@ -1,6 +1,6 @@
 -- The changes of a batch, judged and applied one by one: four lists read side by side, one change's refusals, what is left of a chain of
 -- changes after one. Assumes nothing.
-use Rattle.property.proofs.Basics.{_≡_, refl, sym, ap, _∙_, _⊎_, inl, inr, Bool, true, false, not, _&&_, _||_, cond, List, [], _∷_, ℕ, zero, suc, _+_, _<_, _≤_, add-one, arith, length, getD, drop, ltb, eqb, lt-ltb, le-ltb, eq-eqb, ne-eqb, eqb-true, not-false}
+use Rattle.property.proofs.Basics.{_≡_, refl, sym, ap, _∙_, _⊎_, inl, inr, Bool, true, false, not, _&&_, _||_, cond, List, [], _∷_, ℕ, zero, suc, _+_, _<_, _≤_, min, add-one, arith, length, getD, drop, ltb, eqb, lt-ltb, le-ltb, eq-eqb, ne-eqb, eqb-true, not-false}
 use Rattle.graph.specs.declared.Found.the-variants.{At, Absent}
 use Rattle.graph.specs.Limits.{maxEdges}
 use Rattle.graph.specs.Refusal.{Verdict, accept, refuse, _▷_, refuseIf}
@@ -21,16 +21,14 @@ use Rattle.network.proofs.Items.{item-good}
 
 -- ---- four lists side by side
 
--- no list is shorter than the changes are many
-pub changes-short : (ks ts hs ws : List ℕ)
-    → (length (changes ks ts hs ws) ≤ length ks) × (length (changes ks ts hs ws) ≤ length ts)
-    × (length (changes ks ts hs ws) ≤ length hs) × (length (changes ks ts hs ws) ≤ length ws)
+-- how many changes there are
+pub changes-length : (ks ts hs ws : List ℕ) → min (min (length ks) (length ts)) (min (length hs) (length ws)) ≡ length (changes ks ts hs ws)
 unfolding changes
-changes-short [] ts hs ws = (omega arith, omega arith, omega arith, omega arith)
-changes-short (k ∷ ks) [] hs ws = (omega arith, omega arith, omega arith, omega arith)
-changes-short (k ∷ ks) (t ∷ ts) [] ws = (omega arith, omega arith, omega arith, omega arith)
-changes-short (k ∷ ks) (t ∷ ts) (h ∷ hs) [] = (omega arith, omega arith, omega arith, omega arith)
-changes-short (k ∷ ks) (t ∷ ts) (h ∷ hs) (w ∷ ws) = let z = changes-short ks ts hs ws in (omega arith, omega arith, omega arith, omega arith)
+changes-length [] ts hs ws = omega arith
+changes-length (k ∷ ks) [] hs ws = omega arith
+changes-length (k ∷ ks) (t ∷ ts) [] ws = omega arith
+changes-length (k ∷ ks) (t ∷ ts) (h ∷ hs) [] = omega arith
+changes-length (k ∷ ks) (t ∷ ts) (h ∷ hs) (w ∷ ws) = let z = changes-length ks ts hs ws in omega arith
 
 changes-next : (ks ts hs ws : List ℕ) (k : ℕ) → k < length (changes ks ts hs ws)
     → drop k (changes ks ts hs ws) ≡ change (getD ks k 0) (getD ts k 0) (getD hs k 0) (getD ws k 0) ∷ drop (suc k) (changes ks ts hs ws)

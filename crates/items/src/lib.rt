@@ -125,10 +125,19 @@ fn apply_item(
     delete_item(n, t, h, tails, heads, weights, count, place)
 }
 
+// How many changes four lists hold side by side: as many as the shortest has words.
+pub fn count_changes(kinds: &[u32], froms: &[u32], tos: &[u32], values: &[u32]) -> usize
+    ensures { λ r. ⌜ r ≡ length (changes (now (kinds .entry)) (now (froms .entry)) (now (tos .entry)) (now (values .entry))) ⌝ }
+{
+    graph::lesser(
+        graph::lesser(kinds.len(), froms.len()),
+        graph::lesser(tos.len(), values.len()),
+    )
+}
+
 // The changes of a batch, in order, on a scratch table: the new count, or the first that is refused.
 pub fn apply_items(
     n: u32,
-    size: usize,
     kinds: &[u32],
     froms: &[u32],
     tos: &[u32],
@@ -138,11 +147,11 @@ pub fn apply_items(
     weights: &mut [u32],
     count: usize,
 ) -> Edited
-    requires { ⌜ size ≡ length (changes (now kinds) (now froms) (now tos) (now values)) ⌝ }
     requires { ⌜ Tabled n count (now tails) (now heads) (now weights) ⌝ }
     ensures { λ r. ⌜ verdict r ≡ items n 0 (edges (now (tails .entry)) (now (heads .entry)) (now (weights .entry)) count) (changes (now (kinds .entry)) (now (froms .entry)) (now (tos .entry)) (now (values .entry))) ⌝ }
     ensures { λ r. ⌜ Leaves n r (now (tails .exit)) (now (heads .exit)) (now (weights .exit)) (edits (edges (now (tails .entry)) (now (heads .entry)) (now (weights .entry)) count) (changes (now (kinds .entry)) (now (froms .entry)) (now (tos .entry)) (now (values .entry)))) ⌝ }
 {
+    let size = count_changes(kinds, froms, tos, values);
     let mut m = count;
     let mut k = 0;
     while k < size {

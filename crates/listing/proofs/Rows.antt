@@ -1,7 +1,11 @@
 -- The lines of a source by its five rows of settled words. Assumes nothing.
-use Rattle.property.proofs.Basics.{_≡_, refl, sym, ap, ap₂, _∙_, List, [], _∷_, _++_, ℕ, zero, suc, _+_, _-_, _*_, _^_, _≤_, _<_, add-one, arith, length, getD, replicate, length-append}
-use Rattle.property.specs.Property.{property}
+use Rattle.property.proofs.Basics.{_≡_, refl, sym, ap, _∙_, true, false, List, [], _∷_, _++_, map, ℕ, zero, suc, _+_, _-_, _*_, _^_, _≤_, _<_, add-one, arith, ltb, ltb-true, ltb-false, length, getD, take, replicate, length-append, length-take-le, getD-take, List·getD-append}
+use lib.Seq.{getD-append-add}
+use borrow.Rule.Slice.PartMut.{putMid}
+use Rattle.property.proofs.Tests.{by-test}
+use Rattle.property.specs.Property.{property, properties}
 use Rattle.graph.specs.Edge.{range}
+use Rattle.calls.proofs.Rows.{row-ends}
 use Rattle.graph.specs.Limits.{maxVertices}
 use Rattle.graph.proofs.Lists.{getD-within}
 use Rattle.network.specs.Network.{Network}
@@ -22,19 +26,50 @@ pub row-settled : (n : ℕ) (ls : List ℕ) (w : Network) (s p : ℕ) (vs xs ys 
     → bs ≡ settledRow n ls w s p
 row-settled n ls w s p vs xs ys as′ bs r e a b c = rw (a, b, c) at (ap (λ o. o .memory .settled) e)
 
+-- ---- rows one after the other
+
+-- each of the first p rows of n words is that of f
+abbrev pub Filled : (ℕ → List ℕ) → ℕ → ℕ → List ℕ → Type 0
+Filled f n p xs = (r : ℕ) → r < p → (length (f r) ≡ n) × ((t : ℕ) → t < n → getD xs (r * n + t) 0 ≡ getD (f r) t 0)
+
+pub filled-turn : (f : ℕ → List ℕ) (n p k : ℕ) (xs ys : List ℕ) → p * n + n ≤ length xs → length ys ≡ n → ys ≡ f p → Filled f n p xs → Filled f n (p + 1) (putMid (p * n) k xs ys)
+filled-turn f n p k xs ys h l e i r hr = by-test (ltb r p) (λ b. before (ltb-true r p b)) (λ b. (rw (last b) (sym (ap length e) ∙ l), λ t ht. this t ht (last b)))
+  where
+    front : length (take (p * n) xs) ≡ p * n
+    front = length-take-le (p * n) xs (omega arith)
+
+    before : r < p → (length (f r) ≡ n) × ((t : ℕ) → t < n → getD (putMid (p * n) k xs ys) (r * n + t) 0 ≡ getD (f r) t 0)
+    before b =
+        let m = row-ends r p n (p * n) b (omega arith) in
+        let (u, v) = i r b in
+        (u, λ t ht. List·getD-append (take (p * n) xs) _ 0 (r * n + t) (omega (arith, front)) ∙ getD-take (p * n) xs (r * n + t) 0 (omega arith) ∙ v t ht)
+
+    last : ltb r p ≡ false → r ≡ p
+    last b = omega (arith, ltb-false r p b)
+
+    this : (t : ℕ) → t < n → r ≡ p → getD (putMid (p * n) k xs ys) (r * n + t) 0 ≡ getD (f r) t 0
+    this t ht q =
+        rw q
+        (ap (λ (j : ℕ). getD (putMid (p * n) k xs ys) (j + t) 0) (sym front)
+        ∙ getD-append-add (take (p * n) xs) _ t 0
+        ∙ List·getD-append ys _ 0 t (omega arith)
+        ∙ ap (λ (x : List ℕ). getD x t 0) e)
+
 -- ---- one line
 
-abbrev pub fieldsAt : ℕ → List ℕ → List ℕ → List ℕ → List ℕ → List ℕ → List ℕ
-fieldsAt t a b c d e = (t + 1) ∷ getD a t 0 ∷ getD b t 0 ∷ getD c t 0 ∷ getD d t 0 ∷ getD e t 0 ∷ []
+five : {v₁ v₂ v₃ v₄ v₅ w₁ w₂ w₃ w₄ w₅ : ℕ} → v₁ ≡ w₁ → v₂ ≡ w₂ → v₃ ≡ w₃ → v₄ ≡ w₄ → v₅ ≡ w₅ → v₁ ∷ v₂ ∷ v₃ ∷ v₄ ∷ v₅ ∷ [] ≡ w₁ ∷ w₂ ∷ w₃ ∷ w₄ ∷ w₅ ∷ []
+five h₁ h₂ h₃ h₄ h₅ = cc
 
-pub line-fields : (s t : ℕ) (a b c d e : List ℕ) → rowsLine s t (a ∷ b ∷ c ∷ d ∷ e ∷ []) ≡ digits (s + 1) ++ fieldsOf (fieldsAt t a b c d e) ++ (10 ∷ [])
-unfolding spaced
-line-fields s t a b c d e = rw (add-one s, add-one t)
+-- the line by the numbers that are put
+pub line-fields : (s t n : ℕ) (xs : List ℕ) {v₁ v₂ v₃ v₄ v₅ : ℕ} → v₁ ≡ getD xs (0 * n + t) 0 → v₂ ≡ getD xs (1 * n + t) 0 → v₃ ≡ getD xs (2 * n + t) 0 → v₄ ≡ getD xs (3 * n + t) 0 → v₅ ≡ getD xs (4 * n + t) 0
+    → rowsLine s t n xs ≡ digits (s + 1) ++ fieldsOf ((t + 1) ∷ v₁ ∷ v₂ ∷ v₃ ∷ v₄ ∷ v₅ ∷ []) ++ (10 ∷ [])
+unfolding spaced range
+line-fields s t n xs h₁ h₂ h₃ h₄ h₅ = rw (add-one s, add-one t) (ap (λ (vs : List ℕ). spaced (suc s ∷ suc t ∷ vs)) (sym (five h₁ h₂ h₃ h₄ h₅)))
 
 -- ---- how many bytes
 
 abbrev pub Words : List ℕ → Type 0
-Words r = (i : ℕ) → getD r i 0 < 2 ^ 32
+Words xs = (i : ℕ) → getD xs i 0 < 2 ^ 32
 
 -- ten digits are enough for a word and for the number after it
 width-ten : (v : ℕ) → v ≤ 2 ^ 32 → length (digits v) ≤ 10
@@ -44,66 +79,62 @@ field-most : (v : ℕ) (vs : List ℕ) (k : ℕ) → v ≤ 2 ^ 32 → length (fi
 unfolding fieldsOf
 field-most v vs k h l = omega (arith, length-append (digits v) (fieldsOf vs), width-ten v h)
 
-fields-none : length (fieldsOf []) ≤ 0
-unfolding fieldsOf
-fields-none = omega arith
+module _ (s n : ℕ) (xs : List ℕ) (hs : s < 2 ^ 32) (h : Words xs) where
+  words-most : (t : ℕ) (rs : List ℕ) → length (fieldsOf (map (λ p. getD xs (p * n + t) 0) rs)) ≤ 11 * length rs
+  unfolding fieldsOf
+  words-most t [] = omega arith
+  words-most t (r ∷ rs) = omega (arith, field-most (getD xs (r * n + t) 0) (map (λ p. getD xs (p * n + t) 0) rs) (11 * length rs) (omega (arith, h (r * n + t))) (words-most t rs))
 
-pub line-most : (s t : ℕ) (a b c d e : List ℕ) → s < 2 ^ 32 → t < 2 ^ 32 → Words a → Words b → Words c → Words d → Words e → length (rowsLine s t (a ∷ b ∷ c ∷ d ∷ e ∷ [])) ≤ maxLine
-line-most s t a b c d e hs ht ha hb hc hd he =
-    let f5 = field-most (getD e t 0) [] 0 (omega (arith, he t)) fields-none in
-    let f4 = field-most (getD d t 0) (getD e t 0 ∷ []) 11 (omega (arith, hd t)) f5 in
-    let f3 = field-most (getD c t 0) (getD d t 0 ∷ getD e t 0 ∷ []) 22 (omega (arith, hc t)) f4 in
-    let f2 = field-most (getD b t 0) (getD c t 0 ∷ getD d t 0 ∷ getD e t 0 ∷ []) 33 (omega (arith, hb t)) f3 in
-    let f1 = field-most (getD a t 0) (getD b t 0 ∷ getD c t 0 ∷ getD d t 0 ∷ getD e t 0 ∷ []) 44 (omega (arith, ha t)) f2 in
-    let f0 = field-most (t + 1) (getD a t 0 ∷ getD b t 0 ∷ getD c t 0 ∷ getD d t 0 ∷ getD e t 0 ∷ []) 55 (omega arith) f1 in
-    let w = width-ten (s + 1) (omega arith) in
-    omega (arith, ap length (line-fields s t a b c d e), length-append (digits (s + 1) ++ fieldsOf (fieldsAt t a b c d e)) (10 ∷ []), length-append (digits (s + 1)) (fieldsOf (fieldsAt t a b c d e)))
+  line-most : (t : ℕ) → t < 2 ^ 32 → length (rowsLine s t n xs) ≤ maxLine
+  unfolding spaced range
+  line-most t ht =
+      let vs : List ℕ = map (λ p. getD xs (p * n + t) 0) (range 0 properties) in
+      omega (
+        arith,
+        length-append (digits (suc s) ++ fieldsOf (suc t ∷ vs)) (10 ∷ []),
+        length-append (digits (suc s)) (fieldsOf (suc t ∷ vs)),
+        field-most (suc t) vs 55 (omega arith) (words-most t (range 0 properties)),
+        width-ten (suc s) (omega arith),
+      )
+
+  pub lines-most : (k t : ℕ) → t + k ≤ maxVertices → length (rowsLines s n xs (range t k)) ≤ maxLine * k
+  unfolding rowsLines range
+  lines-most zero t l = omega arith
+  lines-most (suc k) t l = omega (arith, length-append (rowsLine s t n xs) (rowsLines s n xs (range (suc t) k)), line-most t (omega arith), lines-most k (suc t) (omega arith))
 
 -- ---- the lines of a source
 
-pub lines-more : (s t n : ℕ) (rs : List (List ℕ)) → t < n → rowsLines s (range t (n - t)) rs ≡ rowsLine s t rs ++ rowsLines s (range (t + 1) (n - (t + 1))) rs
+pub lines-more : (s n : ℕ) (xs : List ℕ) (t m : ℕ) → t < m → rowsLines s n xs (range t (m - t)) ≡ rowsLine s t n xs ++ rowsLines s n xs (range (t + 1) (m - (t + 1)))
 unfolding rowsLines range
-lines-more s t n rs l =
-    let e : n - t ≡ suc (n - (t + 1)) = omega arith in
+lines-more s n xs t m l =
+    let e : m - t ≡ suc (m - (t + 1)) = omega arith in
     rw (e, add-one t)
 
-pub lines-done : (s t n : ℕ) (rs : List (List ℕ)) → n ≤ t → rowsLines s (range t (n - t)) rs ≡ []
+pub lines-done : (s n : ℕ) (xs : List ℕ) (t m : ℕ) → m ≤ t → rowsLines s n xs (range t (m - t)) ≡ []
 unfolding rowsLines range
-lines-done s t n rs l =
-    let e : n - t ≡ 0 = omega arith in
+lines-done s n xs t m l =
+    let e : m - t ≡ 0 = omega arith in
     rw e
 
-module _ (s : ℕ) (a b c d e : List ℕ) (hs : s < 2 ^ 32) (ha : Words a) (hb : Words b) (hc : Words c) (hd : Words d) (he : Words e) where
-  pub lines-most : (k t : ℕ) → t + k ≤ maxVertices → length (rowsLines s (range t k) (a ∷ b ∷ c ∷ d ∷ e ∷ [])) ≤ maxLine * k
-  unfolding rowsLines range
-  lines-most zero t l = omega arith
-  lines-most (suc k) t l =
-      omega (arith, length-append (rowsLine s t (a ∷ b ∷ c ∷ d ∷ e ∷ [])) (rowsLines s (range (suc t) k) (a ∷ b ∷ c ∷ d ∷ e ∷ [])), line-most s t a b c d e hs (omega arith) ha hb hc hd he, lines-most k (suc t) (omega arith))
-
 -- the rows are those of the queries, so that the lines are those of the definition
-module _ (g : Graph) (w : Network) (s : ℕ) where
-  pub record Settled (p : ℕ) (r : List ℕ) : Type 0 where
-    pub words : r ≡ settledRow (g .n) (landmarksOf g) w s p
-    pub whole : length r ≡ g .n
+module _ (g : Graph) (w : Network) (s : ℕ) (ls xs : List ℕ) (chosen : landmarksOf g ≡ ls) (filled : Filled (λ p. settledRow (g .n) ls w s (p + 1)) (g .n) properties xs) where
+  value-row : (t p : ℕ) → t < g .n → p < properties → valueAt g w s t (p + 1) ≡ getD xs (p * g .n + t) 0
+  value-row t p l h =
+      let (a, b) = filled p h in
+      ap (λ (v : List ℕ). getD (settledRow (g .n) v w s (p + 1)) t (property (p + 1) .none)) chosen
+      ∙ getD-within (settledRow (g .n) ls w s (p + 1)) t (property (p + 1) .none) 0 (omega (arith, a))
+      ∙ sym (b t l)
 
-  pub settled-row : (p : ℕ) (r : List ℕ) (n : ℕ) (ls : List ℕ) → g .n ≡ n → landmarksOf g ≡ ls → r ≡ settledRow n ls w s p → length r ≡ n → Settled p r
-  settled-row p r n ls a b e l = record { words = e ∙ ap₂ (λ (k : ℕ) (xs : List ℕ). settledRow k xs w s p) (sym a) (sym b); whole = l ∙ sym a }
+  line-rows : (t : ℕ) → t < g .n → lineOf g w s t ≡ rowsLine s t (g .n) xs
+  unfolding lineOf range
+  line-rows t l =
+      ap (λ (vs : List ℕ). spaced (suc s ∷ suc t ∷ vs))
+      (five (value-row t 0 l (omega arith)) (value-row t 1 l (omega arith)) (value-row t 2 l (omega arith)) (value-row t 3 l (omega arith)) (value-row t 4 l (omega arith)))
 
-  value-row : (p t : ℕ) (r : List ℕ) → Settled p r → t < g .n → valueAt g w s t p ≡ getD r t 0
-  value-row p t r h l = ap (λ (x : List ℕ). getD x t (property p .none)) (sym (h .words)) ∙ getD-within r t (property p .none) 0 (omega (arith, h .whole))
-
-  five : {v₁ v₂ v₃ v₄ v₅ w₁ w₂ w₃ w₄ w₅ : ℕ} → v₁ ≡ w₁ → v₂ ≡ w₂ → v₃ ≡ w₃ → v₄ ≡ w₄ → v₅ ≡ w₅ → v₁ ∷ v₂ ∷ v₃ ∷ v₄ ∷ v₅ ∷ [] ≡ w₁ ∷ w₂ ∷ w₃ ∷ w₄ ∷ w₅ ∷ []
-  five h₁ h₂ h₃ h₄ h₅ = cc
-
-  module _ (a b c d e : List ℕ) (ha : Settled 1 a) (hb : Settled 2 b) (hc : Settled 3 c) (hd : Settled 4 d) (he : Settled 5 e) where
-    line-rows : (t : ℕ) → t < g .n → lineOf g w s t ≡ rowsLine s t (a ∷ b ∷ c ∷ d ∷ e ∷ [])
-    unfolding lineOf range
-    line-rows t l = ap (λ (vs : List ℕ). spaced (suc s ∷ suc t ∷ vs)) (five (value-row 1 t a ha l) (value-row 2 t b hb l) (value-row 3 t c hc l) (value-row 4 t d hd l) (value-row 5 t e he l))
-
-    pub lines-rows : (k t : ℕ) → t + k ≤ g .n → linesOf g w s (range t k) ≡ rowsLines s (range t k) (a ∷ b ∷ c ∷ d ∷ e ∷ [])
-    unfolding linesOf rowsLines range
-    lines-rows zero t l = refl
-    lines-rows (suc k) t l = rw (line-rows t (omega arith), lines-rows k (suc t) (omega arith))
+  pub lines-rows : (k t : ℕ) → t + k ≤ g .n → linesOf g w s (range t k) ≡ rowsLines s (g .n) xs (range t k)
+  unfolding linesOf rowsLines range
+  lines-rows zero t l = refl
+  lines-rows (suc k) t l = rw (line-rows t (omega arith), lines-rows k (suc t) (omega arith))
 
 -- ---- the line of a refusal
 

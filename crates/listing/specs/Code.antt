@@ -7,10 +7,9 @@
 --   RowLists f b                       == two lists with room for the rows of any network
 --   LinesFit n xs                      == n is at most 256, and xs has room for a line of each of n vertices
 --   settledRow n ls w s p              == the settled words of a query for property p from s, with an empty schedule
---   Rows n a b c d e                   == five rows have a word for each of n vertices
---   Whole n a b c d e                  == they have no more
---   rowsLine s t rs                    == the line of source s and vertex t, with the vertex's word of each row of rs
---   rowsLines s ts rs                  == the lines of source s and the vertices ts
+--   Rows n xs                          == xs has a row of n words for each property, one after the other, and n is at most 256
+--   rowsLine s t n xs                  == the line of source s and vertex t, with the vertex's word of each row of xs
+--   rowsLines s n xs ts                == the lines of source s and the vertices ts
 --   Loaded n es ts hs ws m             == three lists of 2,048 words hold the table of the edges es, m of them, and zeros past them
 --   Ready n es ts hs ws m k vs f b     == the network of n and es is opened: its k landmarks stand in front of vs, its rows in front of f and b
 --   GraphRead gr r ts hs ws            == the reply r to reading deck.gr tells its verdict, and where it is read, three lists are loaded with it
@@ -24,7 +23,7 @@
 --   Shown gr ss p ts hs ws xs f b      == a Prepared tells the verdict of two files, and where it accepts, the lists hold them
 use mathlib.Core.Path.{_≡_}
 use mathlib.Core.List.{List, [], _∷_, _++_, map}
-use Prim.Native.Nat.{ℕ, suc, _*_, _≤_}
+use Prim.Native.Nat.{ℕ, suc, _+_, _*_, _≤_}
 use lib.ListN.{length, getD, take, replicate}
 use Rattle.property.specs.Property.{properties}
 use Rattle.graph.specs.declared.Judged.the-variants.{Refused}
@@ -75,26 +74,16 @@ pub record LinesFit (n : ℕ) (xs : List ℕ) : Type 0 where
 abbrev pub settledRow : ℕ → List ℕ → Network → ℕ → ℕ → List ℕ
 settledRow n ls w s p = (queried n ls w p s []) .memory .settled
 
-pub record Rows (n : ℕ) (a b c d e : List ℕ) : Type 0 where
-  pub sssp : n ≤ length a
-  pub bfs : n ≤ length b
-  pub sswp : n ≤ length c
-  pub ssnp : n ≤ length d
-  pub ssr : n ≤ length e
+pub record Rows (n : ℕ) (xs : List ℕ) : Type 0 where
+  pub vertices : n ≤ maxVertices
+  pub room : properties * n ≤ length xs
 
-pub record Whole (n : ℕ) (a b c d e : List ℕ) : Type 0 where
-  pub sssp : length a ≡ n
-  pub bfs : length b ≡ n
-  pub sswp : length c ≡ n
-  pub ssnp : length d ≡ n
-  pub ssr : length e ≡ n
+abbrev pub rowsLine : ℕ → ℕ → ℕ → List ℕ → List ℕ
+rowsLine s t n xs = spaced (suc s ∷ suc t ∷ map (λ p. getD xs (p * n + t) 0) (range 0 properties))
 
-abbrev pub rowsLine : ℕ → ℕ → List (List ℕ) → List ℕ
-rowsLine s t rs = spaced (suc s ∷ suc t ∷ map (λ r. getD r t 0) rs)
-
-unfoldable pub rowsLines : ℕ → List ℕ → List (List ℕ) → List ℕ
-rowsLines s [] rs = []
-rowsLines s (t ∷ ts) rs = rowsLine s t rs ++ rowsLines s ts rs
+unfoldable pub rowsLines : ℕ → ℕ → List ℕ → List ℕ → List ℕ
+rowsLines s n xs [] = []
+rowsLines s n xs (t ∷ ts) = rowsLine s t n xs ++ rowsLines s n xs ts
 
 -- ---- the network
 

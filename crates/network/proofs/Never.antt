@@ -4,19 +4,26 @@
 --   openNumber k          == k is 1 to 4
 --   batchNumber k         == k is 1, or 6 to 12
 --   queryNumber k         == k is 1, 2, 5 or 6
-use Rattle.property.proofs.Basics.{_≡_, refl, sym, _∙_, Bool, true, false, _&&_, _||_, true≢false, List, [], _∷_, map, ℕ, suc, length, leb, eqb}
+use Rattle.property.proofs.Basics.{_≡_, refl, sym, _∙_, Bool, true, false, _&&_, _||_, true≢false, subst, List, [], _∷_, map, List·Memᴰ, ℕ, suc, _+_, _*_, _≤_, _<_, decLt, arith, length, getD, drop, List·getD-eq-default, length-take, length-drop, getD-take, getD-drop, leb, eqb}
+use mathlib.Core.List.{Memᴰ·of-map}
+use Rattle.property.specs.Property.{M, property}
+use Rattle.property.proofs.Instances.{property-laws}
 use Rattle.frontier.specs.Waiting.{anyOf}
 use Rattle.graph.specs.Refusal.{Verdict, accept, refuse, _▷_, refuseIf, Reply, verdictOf}
-use Rattle.graph.specs.Edge.{Edge, reverse}
+use Rattle.graph.specs.Edge.{Edge, reverse, range}
 use Rattle.graph.specs.Table.{follow, rules}
 use Rattle.graph.specs.Sorted as order
 use Rattle.graph.proofs.Tests.{or-false}
 use Rattle.graph.proofs.Verdicts.{accept-then, accept-if, then-same, then-last, verdict-replied}
 use Rattle.graph.proofs.Order.{within}
+use Rattle.graph.proofs.Lists.{getD-within}
+use Rattle.run.specs.Run.{word}
+use Rattle.run.specs.Start.{Landmark}
+use Rattle.theory.proofs.Fits.{Told}
 use Rattle.theory.proofs.Reverse.{within-reverse}
-use Rattle.network.specs.Network.{Network, edgesIn, faults}
+use Rattle.network.specs.Network.{Network, edgesIn, faults, row}
 use Rattle.network.specs.Open.{openVerdict, openCall}
-use Rattle.network.specs.Query.{Query, Words, scheduled, longSchedule, shortWords, atEnd, queryFaults, queryVerdict, queryCall}
+use Rattle.network.specs.Query.{Query, Words, known, scheduled, longSchedule, shortWords, atEnd, queryFaults, queryVerdict, queryCall}
 use Rattle.network.specs.Change.{Change, edit, words, against, item, items}
 use Rattle.network.specs.Batch.{batchCall}
 use Rattle.network.specs.Current.{turnedBack, queryBack}
@@ -25,23 +32,54 @@ use Rattle.network.specs.Never.{Never, OpenNever, BatchNever, QueryNever
 use Rattle.network.proofs.Items.{table-sound}
 use Rattle.network.proofs.Rows.{open-rests}
 use Rattle.network.proofs.Moment.{Good, faults-parts, steps, moment-good}
-use Rattle.network.proofs.Query.{query-request, query-rests}
+use Rattle.network.proofs.Ends.{query-ends}
+use Rattle.network.proofs.Query.{query-parts, query-request, query-rests}
 
 -- ---- what turns each call back
 
 -- An opening, on whatever lists, is turned back by numbers 1 to 4 alone. Where these accept, its edges lie within the n vertices, and so do
 -- the reversed ones: nothing waits after n rounds.
-pub open-judged : (n : ℕ) (ls : List ℕ) (w : Network) → verdictOf ((openCall n ls w) .reply) ≡ faults n ls w
-unfolding openCall
-open-judged n ls w = verdict-replied (openVerdict n ls w) tt ∙ then-last (faults n ls w) (λ h.
+pub open-verdict : (n : ℕ) (ls : List ℕ) (w : Network) → openVerdict n ls w ≡ faults n ls w
+open-verdict n ls w = then-last (faults n ls w) (λ h.
     let f = faults-parts n ls w h in
     let i = within n (edgesIn w) ((table-sound n (w .memory .table) (w .count) (f .4)) .1) in
     accept-if 13 0 (or-false (open-rests n ls (f .3) (edgesIn w) i) (open-rests n ls (f .3) (map reverse (edgesIn w)) (within-reverse n (edgesIn w) i))))
+
+pub open-judged : (n : ℕ) (ls : List ℕ) (w : Network) → verdictOf ((openCall n ls w) .reply) ≡ faults n ls w
+unfolding openCall
+open-judged n ls w = verdict-replied (openVerdict n ls w) tt ∙ open-verdict n ls w
 
 -- a batch on a network that keeps the invariant, by what document 01 has for a batch on its edges alone
 pub batch-judged : (n : ℕ) (ls : List ℕ) (w : Network) (b : List Change) → Good n ls w
     → verdictOf ((batchCall n ls w b) .reply) ≡ turnedBack n (edgesIn w) b
 batch-judged n ls w b g = (steps n ls w b g) .applied .judged
+
+-- each word of a list fits 32 bits
+abbrev pub FitList : List ℕ → Type 0
+FitList xs = (i : ℕ) → getD xs i 0 ≤ M
+
+-- .. and so does each that is read of a row of it, no route included
+row-fits : (p n r : ℕ) (xs : List ℕ) → FitList xs → (t : ℕ) → word (property p) (row n r xs) t ≤ M
+row-fits p n r xs h t = pick (decLt t (length (row n r xs)))
+  where
+    pick : Dec (t < length (row n r xs)) → word (property p) (row n r xs) t ≤ M
+    pick (no d) = rw (List·getD-eq-default (row n r xs) (property p .none) {n = t} (omega arith)) (property-laws p .none-fits)
+    pick (yes l) =
+        let z : (t < n) × (r * n + t < length xs) = let e = length-take n (drop (r * n) xs) in let g = length-drop (r * n) xs in (omega arith, omega arith) in
+        rw (getD-take n (drop (r * n) xs) t (property p .none) (z .0), getD-drop (r * n) xs t (property p .none), getD-within xs (r * n + t) (property p .none) 0 (z .1))
+        (h (r * n + t))
+
+-- A query on whatever words of 32 bits the row lists hold is turned back by the numbers before the run alone: nothing waits after n rounds.
+pub query-verdict : (n : ℕ) (ls : List ℕ) (w : Network) (q : Query) (out : Words) → FitList (w .memory .rows .forward) → FitList (w .memory .rows .backward)
+    → queryVerdict n ls w q out ≡ queryFaults n ls w q (length (out .starts)) (length (out .settled))
+query-verdict n ls w q out f b = then-last _ (λ h.
+    let i = within n (edgesIn w) ((table-sound n (w .memory .table) (w .count) (query-parts n ls w q _ _ h .6)) .1) in
+    accept-if 13 0 (query-ends n ls w q i told))
+  where
+    told : (l : Landmark) → List·Memᴰ l (known n ls w q) → Told (property (q .property)) l
+    told l m =
+        let (i, k, e) = Memᴰ·of-map _ (range 0 (length ls)) m in
+        subst (Told (property (q .property))) e (record { into = row-fits (q .property) n _ _ b (q .source); row = row-fits (q .property) n _ _ f })
 
 -- A query on a network that keeps the invariant is turned back by its own numbers alone. The network's size, lists, landmarks and table
 -- are as they must be. Where property and source are too, its start words are words, and so are those that the schedule leaves: nothing

@@ -58,28 +58,28 @@ module _ (P : Property) (es fs : List Edge) (s : ℕ) (ws : List ℕ) (n : ℕ) 
 
   -- the edges by which a vertex t waits
   abbrev Woken : ℕ → Type 0
-  Woken t = (e : Edge) × List·Memᴰ e fs × (e .tail ≡ t) × (Affected P es fs s ws (e .head) ⊎ (List·Memᴰ e es → ⊥))
+  Woken t = (e : Edge) × List·Memᴰ e fs × (e .tail ≡ t) × (Affected P es fs s ws (e .head) ⊎ (added P es e ≡ true))
 
   abbrev wakes : ℕ → Edge → Bool
-  wakes t e = eqb (e .tail) t && (marked marks (e .head) || added es e)
+  wakes t e = eqb (e .tail) t && (marked marks (e .head) || added P es e)
 
   -- an edge of the test is one into an affected vertex, or an added one
   woken : (t : ℕ) → exists (wakes t) fs ≡ true → Woken t
   woken t h =
       let (e, m, q) = exists-true (wakes t) fs h in
-      let z = both (eqb (e .tail) t) (marked marks (e .head) || added es e) q in
+      let z = both (eqb (e .tail) t) (marked marks (e .head) || added P es e) q in
       (e, m, eqb-true _ _ (z .0), which e (marked marks (e .head)) refl (z .1))
     where
-      which : (e : Edge) (b : Bool) → marked marks (e .head) ≡ b → (b || added es e) ≡ true → Affected P es fs s ws (e .head) ⊎ (List·Memᴰ e es → ⊥)
+      which : (e : Edge) (b : Bool) → marked marks (e .head) ≡ b → (b || added P es e) ≡ true → Affected P es fs s ws (e .head) ⊎ (added P es e ≡ true)
       which e true p h = inl (affected-exact P es fs s ws n heads (e .head) .0 p)
-      which e false p h = inr (λ m. true≢false (sym (mem-among m) ∙ not-true _ h))
+      which e false p h = inr h
 
   waking : (t : ℕ) → Woken t → exists (wakes t) fs ≡ true
   waking t (e, m, q, w) = true-exists (wakes t) m (and-true (eq-eqb (e .tail) t q) (either w))
     where
-      either : Affected P es fs s ws (e .head) ⊎ (List·Memᴰ e es → ⊥) → (marked marks (e .head) || added es e) ≡ true
+      either : Affected P es fs s ws (e .head) ⊎ (added P es e ≡ true) → (marked marks (e .head) || added P es e) ≡ true
       either (inl a) = rw (affected-exact P es fs s ws n heads (e .head) .1 a)
-      either (inr d) = or-right (marked marks (e .head)) (ap not (is-false (among es e) (λ h. d (among-mem es e h))))
+      either (inr d) = or-right (marked marks (e .head)) d
 
   -- The marks are the closure: so the prepared state is the one that document 01 names, word by word and bit by bit.
   prepared-start : RowStart P es fs s ws n (prepared P es fs s ws n)

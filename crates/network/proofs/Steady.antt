@@ -17,7 +17,7 @@ use Rattle.run.specs.Run.{State, word, settle}
 use Rattle.theory.proofs.Settle.{Settled, settle-idle}
 use Rattle.theory.proofs.Value.{best-settled}
 use Rattle.theory.proofs.Reverse.{within-reverse}
-use Rattle.affected.specs.Affected.{removed, added, Affected, at-removed, onward, marked, affected}
+use Rattle.affected.specs.Affected.{absent, added, Affected, at-removed, onward, marked, affected}
 use Rattle.affected.specs.Prepared.{cleared, reopened, prepared}
 use Rattle.affected.proofs.Sweeps.{unaffected-unmarked}
 use Rattle.network.specs.Network.{Rows, Network, edgesIn, rowCount, shortRows, landmarks, faults, row, propertyOf, landmarkOf, rowsOf, flat, unsettled, storesOf}
@@ -34,7 +34,7 @@ use Rattle.network.proofs.Never.{open-judged}
 
 -- ---- nothing is removed, and nothing added
 
-unmoved : {es : List Edge} {e : Edge} → List·Memᴰ e es → removed es e ≡ false
+unmoved : {es : List Edge} {e : Edge} → List·Memᴰ e es → absent es e ≡ false
 unmoved m = ap not (mem-among m)
 
 -- where no edge is removed, no vertex is affected: a chain of held edges would have to begin at a removed one
@@ -53,12 +53,12 @@ module _ (P : Property) (es : List Edge) (s : ℕ) (ws : List ℕ) (n : ℕ) whe
 
   -- the test by which a vertex t waits
   abbrev wakes : ℕ → Bool
-  wakes t = exists (λ e. eqb (e .tail) t && (marked (affected P es es s ws n) (e .head) || added es e)) es
+  wakes t = exists (λ e. eqb (e .tail) t && (marked (affected P es es s ws n) (e .head) || added P es e)) es
 
   asleep : (t : ℕ) → wakes t ≡ false
   asleep t = is-false (wakes t) (λ h.
-      let (e, m, q) = exists-true (λ e. eqb (e .tail) t && (marked (affected P es es s ws n) (e .head) || added es e)) es h in
-      let z = (both (eqb (e .tail) t) (marked (affected P es es s ws n) (e .head) || added es e) q) .1 in
+      let (e, m, q) = exists-true (λ e. eqb (e .tail) t && (marked (affected P es es s ws n) (e .head) || added P es e)) es h in
+      let z = (both (eqb (e .tail) t) (marked (affected P es es s ws n) (e .head) || added P es e) q) .1 in
       false≢true (sym (or-false (unmarked (e .head)) (unmoved m)) ∙ z))
 
   asleep-at : (t : ℕ) → getD (map wakes (range 0 n)) t false ≡ false

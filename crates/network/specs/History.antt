@@ -39,7 +39,7 @@ use Rattle.graph.specs.Edge.{Edge, reverse}
 use Rattle.graph.specs.Route.{Best}
 use Rattle.run.specs.Run.{State, Tally, noTally, word, waits, relaxable, pass}
 use Rattle.run.specs.Rounds.{Rounds}
-use Rattle.affected.specs.Affected.{Affected}
+use Rattle.affected.specs.Affected.{added, Affected}
 use Rattle.network.specs.Network.{Network, edgesIn, faults, rowCount, row, propertyOf, landmarkOf, rowsOf}
 use Rattle.network.specs.Open.{openCall}
 use Rattle.network.specs.Query.{Query, Words, queryCall}
@@ -109,7 +109,7 @@ pub record RowStart (P : Property) (es fs : List Edge) (s : ℕ) (ws : List ℕ)
   pub cleared : (t : ℕ) → t < n → Affected P es fs s ws t → word P (st .words) t ≡ P .none
   pub kept : (t : ℕ) → t < n → (Affected P es fs s ws t → ⊥) → word P (st .words) t ≡ word P ws t
   pub wakes : (t : ℕ) → t < n
-      → (waits st t ≡ true) ↔ ((e : Edge) × List·Memᴰ e fs × (e .tail ≡ t) × (Affected P es fs s ws (e .head) ⊎ (List·Memᴰ e es → ⊥)))
+      → (waits st t ≡ true) ↔ ((e : Edge) × List·Memᴰ e fs × (e .tail ≡ t) × (Affected P es fs s ws (e .head) ⊎ (added P es e ≡ true)))
   pub untallied : st .tally ≡ noTally
 
 pub data TotalStores (n : ℕ) (ls : List ℕ) (es fs : List Edge) (xs : List ℕ) : List ℕ → ℕ → Type 0 where

@@ -18,16 +18,6 @@ use Rattle.network.proofs.Moment.{faults-parts}
 use Rattle.graph.proofs.Judging.{size-accept, lengths-accept, table-accept}
 use Rattle.calls.proofs.Judging.{rows-accept, landmarks-accept}
 
--- ---- how many changes
-
-pub changes-length : (ks ts hs ws : List ℕ) → min (min (length ks) (length ts)) (min (length hs) (length ws)) ≡ length (changes ks ts hs ws)
-unfolding changes
-changes-length [] ts hs ws = omega arith
-changes-length (k ∷ ks) [] hs ws = omega arith
-changes-length (k ∷ ks) (t ∷ ts) [] ws = omega arith
-changes-length (k ∷ ks) (t ∷ ts) (h ∷ hs) [] = omega arith
-changes-length (k ∷ ks) (t ∷ ts) (h ∷ hs) (w ∷ ws) = let z = changes-length ks ts hs ws in omega arith
-
 -- ---- a part of the changes
 
 -- where one list is empty, there are no changes

@@ -13,16 +13,6 @@ ghost use Rattle.calls.specs.Code.{network};
 ghost use Rattle.items.specs.Code.{changes};
 ghost use Rattle.apply.specs.Code.{batchOutcome};
 
-// How many changes four lists hold side by side: as many as the shortest has words.
-pub fn count_changes(kinds: &[u32], froms: &[u32], tos: &[u32], values: &[u32]) -> usize
-    ensures { λ r. ⌜ r ≡ length (changes (now (kinds .entry)) (now (froms .entry)) (now (tos .entry)) (now (values .entry))) ⌝ }
-{
-    graph::lesser(
-        graph::lesser(kinds.len(), froms.len()),
-        graph::lesser(tos.len(), values.len()),
-    )
-}
-
 // Numbers 1 to 4 of a batch of `size` changes.
 fn judge_batch(
     n: u32,
@@ -88,7 +78,7 @@ pub fn batch_lists(
 ) -> Applied
     ensures { λ r. ⌜ batchOutcome r (now (tails .exit)) (now (heads .exit)) (now (weights .exit)) (now (forward .exit)) (now (backward .exit)) ≡ batchCall n (now (landmarks .entry)) (network (now (tails .entry)) (now (heads .entry)) (now (weights .entry)) (now (forward .entry)) (now (backward .entry)) count) (changes (now (kinds .entry)) (now (froms .entry)) (now (tos .entry)) (now (values .entry))) ⌝ }
 {
-    let size = count_changes(kinds, froms, tos, values);
+    let size = items::count_changes(kinds, froms, tos, values);
     let judged = judge_batch(
         n,
         landmarks,
@@ -118,7 +108,6 @@ pub fn batch_lists(
     );
     let edited = items::apply_items(
         n,
-        size,
         kinds,
         froms,
         tos,

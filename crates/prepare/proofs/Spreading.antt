@@ -112,7 +112,7 @@ module _ {P : Property} {n s : ℕ} {f : ℕ → Edge} {on : ℕ → Bool} {j : 
           ⊎-elim (old t)
           (λ z. let o = both (on k) _ (z .0) in let m = g k low (omega arith) (o .0) in
           rw (z .1) (touches-named P xs fs s vs (waitingOf cs) (f k) old (m .0) (and-true (both (not (marked (waitingOf cs) h)) _ (o .1) .1)
-          (⊎-elim (λ r. rw r) (λ r. or-right (removed fs (f k)) (at .grown .keeps _ r)) (m .1)))))
+          (⊎-elim (λ r. rw r) (λ r. or-right (removed P fs (f k)) (at .grown .keeps _ r)) (m .1)))))
           (raise-only (waitingOf cs) h hit t (rw p at y));
       heads = λ i a b o u. elim (ℕ-discrete i k) [ yes e ↦ rw e (done (rw e at o) (rw e at u)) | no d ↦ keeps _ (at .heads i a (omega arith) o u) ];
     }
@@ -212,9 +212,9 @@ module _ (P : Property) (n s : ℕ) (xs vs : List ℕ) (bs ds bs′ ds′ bs″ 
     marks-found heads d =
         closed-exact P es fs s vs n heads (bits n bs″) (bits-length n bs″ (go .marks))
         (λ t h. sp .named fs (k .named es fs (λ i a b w. (d .among i b (ltb-true _ _ w), inl (d .lacks i b (ltb-true _ _ w)))) (λ i h. absurd (false≢true (sym (unmarked i) ∙ h)))) t (sym (bits-all n bs″ (go .marks) t) ∙ h))
-        (λ e i h. bits-all n bs″ (go .marks) (e .head) ∙ shut e i (both (held P s vs e) _ h .0) (removed fs e) refl (both (held P s vs e) _ h .1))
+        (λ e i h. bits-all n bs″ (go .marks) (e .head) ∙ shut e i (both (held P s vs e) _ h .0) (removed P fs e) refl (both (held P s vs e) _ h .1))
       where
-        shut : (e : Edge) → List·Memᴰ e es → held P s vs e ≡ true → (b : Bool) → removed fs e ≡ b → (b || marked (bits n bs″) (e .tail)) ≡ true
+        shut : (e : Edge) → List·Memᴰ e es → held P s vs e ≡ true → (b : Bool) → removed P fs e ≡ b → (b || marked (bits n bs″) (e .tail)) ≡ true
             → marked (waitingOf bs″) (e .head) ≡ true
         shut e i h false r c =
             ⊎-elim (λ a. a) (λ a. absurd (false≢true (sym (idle (e .tail)) ∙ a))) (covered e i h (sym (bits-all n bs″ (go .marks) (e .tail)) ∙ c))

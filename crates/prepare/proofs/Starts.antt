@@ -118,8 +118,8 @@ module _ (bs cs : List Bool) (ms is : List ℕ) (i : ℕ) (a : Raised bs cs (Beh
 
 -- ---- who waits
 
-abbrev pub opens : List Edge → List Bool → ℕ → Edge → Bool
-opens es ms t e = eqb (e .tail) t && (marked ms (e .head) || added es e)
+abbrev pub opens : Property → List Edge → List Bool → ℕ → Edge → Bool
+opens P es ms t e = eqb (e .tail) t && (marked ms (e .head) || added P es e)
 
 -- The added edges' tails are set first, then those of the edges into marked vertices. A bit that is set is of such an edge of the new
 -- list; and each such edge is listed, or stands in the index at its head.
@@ -127,24 +127,24 @@ module _ (n : ℕ) (xs is ms : List ℕ) (marks : Marks n ms) (bs cs ds : List �
     (a : Raised (waitingOf bs) (waitingOf cs) (Woken xs (pairs xs)))
     (b : Raised (waitingOf cs) (waitingOf ds) (λ t. (v : ℕ) × (getD (waitingOf ms) v false ≡ true) × Entering is (getD is v 0) (getD is (v + 1) 0) t))
     (fine : Marks n ds) (marked-within : (v : ℕ) → getD (waitingOf ms) v false ≡ true → v < n) where
-  module _ (es fs : List Edge) (heads : (e : Edge) → List·Memᴰ e fs → e .head < n) (q : Lists fs es (pairs xs) (after xs)) (o : Own n is (map reverse fs)) where
-    witness : (t : ℕ) (e : Edge) → List·Memᴰ e fs → e .tail ≡ t → (marked (bits n ms) (e .head) || added es e) ≡ true → exists (opens es (bits n ms) t) fs ≡ true
-    witness t e i j k = true-exists (opens es (bits n ms) t) i (and-true (eq-eqb (e .tail) t j) k)
+  module _ (P : Property) (es fs : List Edge) (heads : (e : Edge) → List·Memᴰ e fs → e .head < n) (q : Lists fs es (pairs xs) (after xs)) (o : Own n is (map reverse fs)) where
+    witness : (t : ℕ) (e : Edge) → List·Memᴰ e fs → e .tail ≡ t → (marked (bits n ms) (e .head) || added P es e) ≡ true → exists (opens P es (bits n ms) t) fs ≡ true
+    witness t e i j k = true-exists (opens P es (bits n ms) t) i (and-true (eq-eqb (e .tail) t j) k)
 
-    sound : (t : ℕ) → getD (waitingOf ds) t false ≡ true → exists (opens es (bits n ms) t) fs ≡ true
+    sound : (t : ℕ) → getD (waitingOf ds) t false ≡ true → exists (opens P es (bits n ms) t) fs ≡ true
     sound t h = ⊎-elim (λ y. ⊎-elim (λ z. absurd (false≢true (sym (replicate-at capacity t false) ∙ (ap (λ (l : List Bool). getD l t false) (sym p) ∙ z)))) listed (a .only t y)) into (b .only t h)
       where
-        listed : Woken xs (pairs xs) t → exists (opens es (bits n ms) t) fs ≡ true
+        listed : Woken xs (pairs xs) t → exists (opens P es (bits n ms) t) fs ≡ true
         listed z = let w = ltb-true _ _ (z .3) in witness t (after xs (z .0)) (q .among (z .0) (z .2) w) (z .4) (or-right (marked (bits n ms) _) (q .lacks (z .0) (z .2) w))
 
-        into : ((v : ℕ) × (getD (waitingOf ms) v false ≡ true) × Entering is (getD is v 0) (getD is (v + 1) 0) t) → exists (opens es (bits n ms) t) fs ≡ true
+        into : ((v : ℕ) × (getD (waitingOf ms) v false ≡ true) × Entering is (getD is v 0) (getD is (v + 1) 0) t) → exists (opens P es (bits n ms) t) fs ≡ true
         into (v, on, (k, lo, hi, _, e)) =
             let z = reverse-mem fs _ (own-reads n is (map reverse fs) o v k (marked-within v on) lo hi) in
-            witness t (edge (arcHead (getD is k 0)) v (arcWeight (getD is k 0))) z e (ap (λ c. c || added es (edge (arcHead (getD is k 0)) v (arcWeight (getD is k 0)))) (bits-all n ms marks v ∙ on))
+            witness t (edge (arcHead (getD is k 0)) v (arcWeight (getD is k 0))) z e (ap (λ c. c || added P es (edge (arcHead (getD is k 0)) v (arcWeight (getD is k 0)))) (bits-all n ms marks v ∙ on))
 
-    whole : (t : ℕ) → exists (opens es (bits n ms) t) fs ≡ true → getD (waitingOf ds) t false ≡ true
+    whole : (t : ℕ) → exists (opens P es (bits n ms) t) fs ≡ true → getD (waitingOf ds) t false ≡ true
     whole t h =
-        let z = exists-true (opens es (bits n ms) t) fs h in
+        let z = exists-true (opens P es (bits n ms) t) fs h in
         let y = both (eqb ((z .0) .tail) t) _ (z .2) in
         let j = eqb-true _ _ (y .0) in
         by-test (marked (bits n ms) ((z .0) .head))
@@ -152,10 +152,10 @@ module _ (n : ℕ) (xs is ms : List ℕ) (marks : Marks n ms) (bs cs ds : List �
         b .all t ((z .0) .head, sym (bits-all n ms marks ((z .0) .head)) ∙ on, (w .0, w .1, w .2, refl, ap (λ (x : Edge). x .head) (w .3) ∙ j)))
         (λ on. let w = q .all (z .0) (z .1) (rw on at (y .1)) in b .kept t (a .all t (w .0, omega arith, w .1, lt-ltb _ _ (w .3), ap (λ (l : Edge). l .tail) (w .2) ∙ j)))
 
-    pub reopen-done : bits n ds ≡ reopened es fs (bits n ms) n
+    pub reopen-done : bits n ds ≡ reopened P es fs (bits n ms) n
     unfolding reopened
     reopen-done =
-        let f : ℕ → Bool = λ t. exists (opens es (bits n ms) t) fs in
+        let f : ℕ → Bool = λ t. exists (opens P es (bits n ms) t) fs in
         ext-getD false (bits n ds) (map f (range 0 n)) (bits-length n ds fine ∙ sym (length-table f 0 n))
         (λ t h. let l : t < n = omega (arith, bits-length n ds fine) in
         bits-all n ds fine t ∙ same-test (getD (waitingOf ds) t false) (f t) (sound t, whole t) ∙ sym (table-at f n t false l))
@@ -163,7 +163,7 @@ module _ (n : ℕ) (xs is ms : List ℕ) (marks : Marks n ms) (bs cs ds : List �
 -- ---- the whole start
 
 pub prepared-made : (P : Property) (es fs : List Edge) (s n : ℕ) (vs : List ℕ) {out : List ℕ} {ms bs : List Bool} → ms ≡ affected P es fs s vs n
-    → out ≡ cleared P ms vs n → bs ≡ reopened es fs ms n → record { words = out; waiting = bs; tally = noTally } ≡ prepared P es fs s vs n
+    → out ≡ cleared P ms vs n → bs ≡ reopened P es fs ms n → record { words = out; waiting = bs; tally = noTally } ≡ prepared P es fs s vs n
 unfolding prepared
 prepared-made P es fs s n vs e p q =
-    λ i. record { words = (p ∙ ap (λ x. cleared P x vs n) e) i; waiting = (q ∙ ap (λ x. reopened es fs x n) e) i; tally = noTally }
+    λ i. record { words = (p ∙ ap (λ x. cleared P x vs n) e) i; waiting = (q ∙ ap (λ x. reopened P es fs x n) e) i; tally = noTally }

@@ -71,7 +71,7 @@ marksChange P s ws ms e = ltb 0 (e .weight) && marksHead P s ws ms e
 pub record Gone (P : Property) (n s : ℕ) (f : ℕ → Edge) (on : ℕ → Bool) (j k : ℕ) (vs bs ds bs′ ds′ : List ℕ) : Type 0 where
   pub going : Going n bs′ ds′
   pub grown : Grown (waitingOf bs) (waitingOf ds) (waitingOf bs′) (waitingOf ds′)
-  pub named : (es fs : List Edge) → ((i : ℕ) → j ≤ i → i < k → on i ≡ true → List·Memᴰ (f i) es × ((removed fs (f i) ≡ true) ⊎ (marked (waitingOf bs) (f i .tail) ≡ true)))
+  pub named : (es fs : List Edge) → ((i : ℕ) → j ≤ i → i < k → on i ≡ true → List·Memᴰ (f i) es × ((removed P fs (f i) ≡ true) ⊎ (marked (waitingOf bs) (f i .tail) ≡ true)))
       → Named P es fs s vs (waitingOf bs) → Named P es fs s vs (waitingOf bs′)
   pub heads : (i : ℕ) → j ≤ i → i < k → on i ≡ true → held P s vs (f i) ≡ true → marked (waitingOf bs′) (f i .head) ≡ true
 

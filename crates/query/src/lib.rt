@@ -55,7 +55,7 @@ fn judge_outputs(n: u32, starts: usize, settled: usize) -> Judged
     ensures { λ r. ⌜ told r ≡ shortWords n starts settled ⌝ }
 {
     let words = n as usize;
-    rules::refuse_if(starts < words || settled < words, 2, 0)
+    rules::refuse_if((starts < words) | (settled < words), 2, 0)
 }
 
 // Numbers 5 and 6: no property, a source or an entry of the schedule that is no vertex.
@@ -165,8 +165,8 @@ fn start_words(
     out[source] = property::start(p);
 }
 
-// A query that every refusal before the run lets pass, by an index of the table and in scratch lists: start words, run, and the answer
-// where it came to rest.
+// A query that every refusal before the run lets pass, by an index of the table: start words, made in a scratch list, and the run, in the
+// lent list. Nothing waits after n rounds.
 fn query_in(
     n: usize,
     landmarks: &[u32],
@@ -177,24 +177,26 @@ fn query_in(
     source: usize,
     schedule: &[u32],
     start: &mut [u32],
-    row: &mut [u32],
     starts: &mut [u32],
     settled: &mut [u32],
 ) -> Answered
     requires { ⌜ Fit n (now index) × Rowed n (now landmarks) property source (now forward) (now backward) × Scheduled n (now schedule) ⌝ }
-    requires { ⌜ (length (now start) ≡ n) × (length (now row) ≡ n) × (n ≤ length (now starts)) × (n ≤ length (now settled)) ⌝ }
+    requires { ⌜ (length (now start) ≡ n) × (n ≤ length (now starts)) × (n ≤ length (now settled)) ⌝ }
     ensures { λ r. ⌜ ((ts hs ws : List ℕ) (m : ℕ) → Own n (now (index .entry)) (edges ts hs ws m) → queryFaults n (now (landmarks .entry)) (network ts hs ws (now (forward .entry)) (now (backward .entry)) m) (asking property source (now (schedule .entry))) (length (now (starts .entry))) (length (now (settled .entry))) ≡ accept → asOutcome r (now (starts .exit)) (now (settled .exit)) ≡ queryCall n (now (landmarks .entry)) (network ts hs ws (now (forward .entry)) (now (backward .entry)) m) (asking property source (now (schedule .entry))) (wordsOf (now (starts .entry)) (now (settled .entry)))) ⌝ }
 {
     start_words(property, n, landmarks, source, forward, backward, start);
-    graph::words::copy(n, start, row, 0);
+    graph::words::copy(n, start, starts, 0);
+    graph::words::copy(n, start, settled, 0);
     let mut waiting = frontier::empty();
     run::start_at(n, source, &mut waiting);
-    let tally = run::run_counted(property, n, index, schedule, row, &mut waiting);
-    if frontier::any(&waiting) {
-        return Answered::Refused(13, 0);
-    }
-    graph::words::copy(n, start, starts, 0);
-    graph::words::copy(n, row, settled, 0);
+    let tally = run::run_counted(
+        property,
+        n,
+        index,
+        schedule,
+        &mut settled[..n],
+        &mut waiting,
+    );
     Answered::Settled(tally)
 }
 
@@ -247,7 +249,6 @@ pub fn query(
         &mut index,
     );
     let mut start = [0u32; graph::VERTEX_WORDS];
-    let mut row = [0u32; graph::VERTEX_WORDS];
     query_in(
         size,
         landmarks,
@@ -258,7 +259,6 @@ pub fn query(
         source as usize,
         schedule,
         &mut start[..size],
-        &mut row[..size],
         starts,
         settled,
     )

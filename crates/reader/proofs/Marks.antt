@@ -1,9 +1,11 @@
 -- What a line says, by its mark and its fields. The readers try one mark after the other, and no line has two. Assumes nothing.
-use Rattle.property.proofs.Basics.{_≡_, refl, sym, _∙_, Bool, true, false, List, [], _∷_, map, Option, none, some, bind, ℕ, eqb, eqb-true, ne-eqb}
+use Rattle.property.proofs.Basics.{_≡_, refl, sym, ap, _∙_, Bool, true, false, List, [], _∷_, Option, none, some, bind, ℕ, length, drop, eqb, eqb-true, ne-eqb}
+use Rattle.property.proofs.Tests.{by-test}
 use Rattle.dimacs.specs.Read.{after}
 use Rattle.dimacs.specs.Network.{orElse}
-use Rattle.dimacs.proofs.Options.{none-some, some-same}
-use Rattle.scanner.specs.Capped.{cap, capFields}
+use Rattle.dimacs.proofs.Options.{none-some}
+use Rattle.scanner.specs.Capped.{capFields}
+use Rattle.scanner.specs.Code.{begun}
 
 -- ---- marks
 
@@ -11,42 +13,35 @@ use Rattle.scanner.specs.Capped.{cap, capFields}
 after-apart : (c d : ℕ) (p q l r : List ℕ) → (c ≡ d → ⊥) → some r ≡ after (c ∷ p) l → after (d ∷ q) l ≡ none
 unfolding after
 after-apart c d p q [] r n h = refl
-after-apart c d p q (b ∷ s) r n h = pick (eqb b c) refl
-  where
-    pick : (t : Bool) → eqb b c ≡ t → after (d ∷ q) (b ∷ s) ≡ none
-    pick true e = rw (ne-eqb b d (λ z. n (sym (eqb-true b c e) ∙ z)))
-    pick false e = absurd (none-some (sym (rw e at h)))
+after-apart c d p q (b ∷ s) r n h = by-test (eqb b c)
+    (λ e. rw (ne-eqb b d (λ z. n (sym (eqb-true b c e) ∙ z))))
+    (λ e. absurd (none-some (sym (rw e at h))))
 
 else-none : {A : Type 0} (o : Option A) → orElse o none ≡ o
 unfolding orElse
 else-none none = refl
 else-none (some a) = refl
 
-module _ {A : Type 0} (f g : List ℕ → Option A) where
-  pub first-mark : (c d : ℕ) (p q l r : List ℕ) → (c ≡ d → ⊥) → some r ≡ after (c ∷ p) l
-      → f r ≡ orElse (bind (after (c ∷ p) l) f) (bind (after (d ∷ q) l) g)
+-- what a line says that begins with the first mark, the second, or neither; `shown` caps an item
+module _ {A : Type 0} (shown : Option A → Option A) (f g : List ℕ → Option A) (c d : ℕ) (p q l : List ℕ) {b : Bool} (e : begun b (c ∷ p) l ≡ after (c ∷ p) l) where
+  pub first-mark : {x : Option A} → (c ≡ d → ⊥) → b ≡ true → x ≡ shown (f (drop (length (c ∷ p)) l)) → x ≡ shown (orElse (bind (after (c ∷ p) l) f) (bind (after (d ∷ q) l) g))
   unfolding bind
-  first-mark c d p q l r n h = rw (after-apart c d p q l r n h, ← h) (sym (else-none (f r)))
+  first-mark n t h =
+      let y : some (drop (length (c ∷ p)) l) ≡ after (c ∷ p) l = rw t at e in
+      h ∙ ap shown (rw (after-apart c d p q l _ n y, ← y) (sym (else-none (f (drop (length (c ∷ p)) l)))))
 
-  pub second-mark : (p q l r : List ℕ) → none ≡ after p l → some r ≡ after q l → g r ≡ orElse (bind (after p l) f) (bind (after q l) g)
-  unfolding bind orElse
-  second-mark p q l r e h = rw (← e, ← h)
+  module _ {b′ : Bool} (e′ : begun b′ (d ∷ q) l ≡ after (d ∷ q) l) (t : b ≡ false) where
+    pub second-mark : {x : Option A} → b′ ≡ true → x ≡ shown (g (drop (length (d ∷ q)) l)) → x ≡ shown (orElse (bind (after (c ∷ p) l) f) (bind (after (d ∷ q) l) g))
+    unfolding bind orElse
+    second-mark t′ h = h ∙ ap shown (rw (← (rw t at e), ← (rw t′ at e′)))
 
-  pub neither-mark : (p q l : List ℕ) → none ≡ after p l → none ≡ after q l → none ≡ orElse (bind (after p l) f) (bind (after q l) g)
-  unfolding bind orElse
-  neither-mark p q l e h = rw (← e, ← h)
+    pub neither-mark : b′ ≡ false → shown none ≡ shown (orElse (bind (after (c ∷ p) l) f) (bind (after (d ∷ q) l) g))
+    unfolding bind orElse
+    neither-mark t′ = ap shown (rw (← (rw t at e), ← (rw t′ at e′)))
 
 -- ---- fields, their numbers capped
 
-module _ {A : Type 0} (f : List ℕ → Option A) where
-  pub fields-lost : (o : Option (List ℕ)) → none ≡ capFields o → none ≡ bind o f
-  unfolding capFields bind
-  fields-lost none h = refl
-  fields-lost (some vs) h = absurd (none-some h)
-
-  -- what is said by fields whose capped numbers are ws; g caps an item
-  pub fields-read : (g : Option A → Option A) (ws : List ℕ) (x : Option A) → ((vs : List ℕ) → map cap vs ≡ ws → x ≡ g (f vs))
-      → (o : Option (List ℕ)) → some ws ≡ capFields o → x ≡ g (bind o f)
-  unfolding capFields bind
-  fields-read g ws x k none h = absurd (none-some (sym h))
-  fields-read g ws x k (some vs) h = k vs (sym (some-same h))
+-- what the fields of an answer say, where saying and capping may change places
+pub said-fields : {A R : Type 0} (f : List ℕ → Option A) (g : Option A → Option A) (of : R → Option (List ℕ)) → ((o : Option (List ℕ)) → bind (capFields o) f ≡ g (bind o f))
+    → {r s : R} (o : Option (List ℕ)) → r ≡ s → of r ≡ capFields o → bind (of s) f ≡ g (bind o f)
+said-fields f g of h o q e = ap (λ x. bind (of x) f) (sym q) ∙ ap (λ x. bind x f) e ∙ h o

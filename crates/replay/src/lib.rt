@@ -36,7 +36,7 @@ fn apply_part(
 ) -> Applied
     ensures { λ r. ⌜ batchOutcome r (now (tails .exit)) (now (heads .exit)) (now (weights .exit)) (now (forward .exit)) (now (backward .exit)) ≡ batchCall n (now (landmarks .entry)) (network (now (tails .entry)) (now (heads .entry)) (now (weights .entry)) (now (forward .entry)) (now (backward .entry)) count) (take (to - from) (drop from (changes (now (kinds .entry)) (now (froms .entry)) (now (tos .entry)) (now (values .entry))))) ⌝ }
 {
-    let size = plain_batch::count_changes(kinds, froms, tos, values);
+    let size = items::count_changes(kinds, froms, tos, values);
     let end = graph::lesser(to, size);
     let start = graph::lesser(from, end);
     plain_batch::batch_lists(

@@ -63,16 +63,7 @@ pub fn batch_rows(
     while r < size {
         let start = r * n;
         let end = start + n;
-        let row = batch_row(
-            r,
-            n,
-            landmarks,
-            net,
-            old,
-            new,
-            into,
-            &mut rows[start..end],
-        );
+        let row = batch_row(r, n, landmarks, net, old, new, into, &mut rows[start..end]);
         affected += row.affected;
         stores += row.stores;
         r += 1;

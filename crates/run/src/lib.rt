@@ -66,10 +66,10 @@ pub fn handle(
     ensures { λ r. ⌜ ((es : List Edge) → Own n (now (index .entry)) es → state n (now (words .exit)) (now (waiting .exit)) r ≡ spec.handle (property p) es (state n (now (words .entry)) (now (waiting .entry)) tally) u) ⌝ }
     ensures { λ r. ⌜ Ran n (now (words .exit)) (now (waiting .exit)) tally r 0 0 maxEdges ⌝ }
 {
-    frontier::remove(waiting, u);
+    let v = words[u];
     let hi = index[u + 1] as usize;
     let mut j = index[u] as usize;
-    let v = words[u];
+    frontier::remove(waiting, u);
     let mut t = tally;
     while j < hi {
         let a = index[j];

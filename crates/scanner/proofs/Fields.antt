@@ -2,8 +2,11 @@
 use Rattle.property.proofs.Basics.{_≡_, refl, sym, ap, _∙_, true, false, true≢false, List, [], _∷_, Option, none, some, bind, ℕ, zero, suc, _+_, _≤_, _<_, arith, add-one, eqb, length, getD, drop, drop-of-length-le, drop-cons}
 use Rattle.dimacs.specs.Decimal.{number}
 use Rattle.dimacs.specs.Read.{after, fields}
-use Rattle.dimacs.proofs.Options.{none-some, some-same, bind-bind}
+use Rattle.dimacs.proofs.Options.{bind-bind}
 use Rattle.dimacs.proofs.Positions as at
+use Rattle.scanner.specs.declared.numbers.Parsed.{Parsed}
+use Rattle.scanner.specs.declared.numbers.Parsed.the-variants.{At, Nothing}
+use Rattle.scanner.specs.Code.{parsed}
 use Rattle.scanner.specs.Capped.{cap, capNumber, field, capFields, starts, commented}
 
 -- ---- bytes
@@ -76,26 +79,26 @@ fields-field : (k : ℕ) (s : List ℕ) → fields (suc k) s ≡ bind (field s) 
 unfolding fields field
 fields-field k s = sym (bind-bind (after (32 ∷ []) s) number (λ q. bind (fields k (q .1)) (λ vs. some (q .0 ∷ vs))))
 
-fields-from : (k : ℕ) (o : Option (ℕ × List ℕ)) (v : ℕ) (r : List ℕ) → _≡_ {A = Option (ℕ × List ℕ)} (some (v, r)) (capNumber o)
-    → capFields (bind o (λ q. bind (fields k (q .1)) (λ vs. some (q .0 ∷ vs)))) ≡ put v (capFields (fields k r))
-unfolding capNumber bind
-fields-from k none v r h = absurd (none-some (sym h))
-fields-from k (some q) v r h =
-    let e : _≡_ {A = ℕ × List ℕ} (v, r) (cap (q .0), q .1) = some-same h in
-    put-some (fields k (q .1)) (q .0) ∙ ap (λ (p : ℕ × List ℕ). put (p .0) (capFields (fields k (p .1)))) (sym e)
+-- the fields after a first one that is read as o
+abbrev rest : ℕ → Option (ℕ × List ℕ) → Option (List ℕ)
+rest k o = bind o (λ q. put (q .0) (capFields (fields k (q .1))))
 
-fields-lost : (k : ℕ) (o : Option (ℕ × List ℕ)) → none ≡ capNumber o → capFields (bind o (λ q. bind (fields k (q .1)) (λ vs. some (q .0 ∷ vs)))) ≡ none
+fields-from : (k : ℕ) (o : Option (ℕ × List ℕ)) → rest k (capNumber o) ≡ capFields (bind o (λ q. bind (fields k (q .1)) (λ vs. some (q .0 ∷ vs))))
 unfolding capNumber bind capFields
-fields-lost k none h = refl
-fields-lost k (some q) h = absurd (none-some h)
+fields-from k none = refl
+fields-from k (some q) = sym (put-some (fields k (q .1)) (q .0))
 
-module _ (k : ℕ) (s : List ℕ) (i : ℕ) where
-  pub fields-none : none ≡ capNumber (field (drop i s)) → capFields (fields (suc k) (drop i s)) ≡ none
-  fields-none h = ap capFields (fields-field k (drop i s)) ∙ fields-lost k (field (drop i s)) h
+module _ (k : ℕ) (s x : List ℕ) {r : Parsed} (h : parsed s r ≡ capNumber (field x)) where
+  first : (t : Parsed) → r ≡ t → rest k (parsed s t) ≡ capFields (fields (suc k) x)
+  first t q = ap (λ p. rest k (parsed s p)) (sym q) ∙ ap (rest k) h ∙ fields-from k (field x) ∙ ap capFields (sym (fields-field k x))
 
-  pub fields-more : (v e : ℕ) → _≡_ {A = Option (ℕ × List ℕ)} (some (v, drop e s)) (capNumber (field (drop i s)))
-      → (o : Option (List ℕ)) → o ≡ capFields (fields k (drop e s)) → capFields (fields (suc k) (drop i s)) ≡ put v o
-  fields-more v e h o g = ap capFields (fields-field k (drop i s)) ∙ (fields-from k (field (drop i s)) v (drop e s) h ∙ ap (put v) (sym g))
+  pub fields-none : r ≡ Nothing → none ≡ capFields (fields (suc k) x)
+  unfolding bind
+  fields-none q = first Nothing q
+
+  pub fields-more : {v e : ℕ} {o : Option (List ℕ)} → r ≡ At v e → o ≡ capFields (fields k (drop e s)) → put v o ≡ capFields (fields (suc k) x)
+  unfolding bind
+  fields-more {v} {e} {o} q g = ap (put v) g ∙ first (At v e) q
 
 pub fields-over : (s : List ℕ) (i : ℕ) → length s ≤ i → some [] ≡ capFields (fields 0 (drop i s))
 unfolding capFields

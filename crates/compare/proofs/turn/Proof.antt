@@ -37,7 +37,10 @@ slice-read-b : tie.Need-slice-read-b Inv-loop μ-loop
 slice-read-b c = within (c .before .before)
 
 arc-requires : tie.Need-arc-requires Inv-loop μ-loop
-arc-requires c κs = let l = c .before .before .before .before .before in (omega (arith, c .before .head .ensures), omega (arith, c .weight .ensures, c .before .before .before .slice-known2 .given (2 * l .loop .k)))
+arc-requires c κs =
+    let b = c .before .before in
+    let k = b .before .before .before .loop .k in
+    (omega (arith, c .before .head .ensures, b .before .slice-known2 .given (2 * k), b .slice-known3 .given (2 * k + 1)), omega (arith, c .weight .ensures))
 
 mul-list : tie.Need-mul-list Inv-loop μ-loop
 mul-list c = let w = within (c .before .before .before .before .before) in omega arith
@@ -46,7 +49,10 @@ slice-write-list : tie.Need-slice-write-list Inv-loop μ-loop
 slice-write-list c = let w = within (c .before .before .before .before .before) in omega arith
 
 arc-requires-2 : tie.Need-arc-requires-2 Inv-loop μ-loop
-arc-requires-2 c κs = let l = c .before .before .before .before .before .before .before .before in (omega (arith, c .before .head2 .ensures), omega (arith, c .weight2 .ensures, c .before .before .before .before .before .slice-known3 .given (2 * l .loop .k + 1)))
+arc-requires-2 c κs =
+    let b = c .before .before .before .before .before in
+    let k = b .before .before .before .loop .k in
+    (omega (arith, c .before .head2 .ensures, b .before .slice-known2 .given (2 * k), b .slice-known3 .given (2 * k + 1)), omega (arith, c .weight2 .ensures))
 
 add-list : tie.Need-add-list Inv-loop μ-loop
 add-list c = let w = within (c .before .before .before .before .before .before .before .before) in omega arith

@@ -5,39 +5,39 @@ use Rattle.graph.specs.Edge.{edges}
 use Rattle.network.specs.Change.{edits, items}
 use Rattle.items.specs.Code.{changes, verdict}
 use Rattle.calls.specs.Code.{Tabled}
-use Rattle.items.proofs.Editing.{changes-short, changes-more, items-more, items-stop, items-none, edits-more, edits-none, leaves-refused, leaves-count}
+use Rattle.items.proofs.Editing.{changes-length, changes-more, items-more, items-stop, items-none, edits-more, edits-none, leaves-refused, leaves-count}
 use Rattle.items.proofs.apply_items.Statement.{statement}
 use Rattle.items.proofs.apply_items.Tie as tie
 
 abbrev Inv-loop : tie.InvT-loop
-Inv-loop n size kinds froms tos values tails₀ heads₀ weights₀ count m₀ k₀ tails heads weights m k =
+Inv-loop n kinds froms tos values tails₀ heads₀ weights₀ count size m₀ k₀ tails heads weights m k =
     (items n k (edges tails heads weights m) (drop k (changes kinds froms tos values)) ≡ items n 0 (edges tails₀ heads₀ weights₀ count) (changes kinds froms tos values))
     × (edits (edges tails heads weights m) (drop k (changes kinds froms tos values)) ≡ edits (edges tails₀ heads₀ weights₀ count) (changes kinds froms tos values))
     × Tabled n m tails heads weights
     × (k ≤ size) × (length tails ≡ length tails₀) × (length heads ≡ length heads₀) × (length weights ≡ length weights₀)
 
 abbrev μ-loop : tie.MeasureT-loop
-μ-loop n size kinds froms tos values tails₀ heads₀ weights₀ count m₀ k₀ tails heads weights m k = size - k
+μ-loop n kinds froms tos values tails₀ heads₀ weights₀ count size m₀ k₀ tails heads weights m k = size - k
 
 abbrev start : tie.At-loop Inv-loop μ-loop → tie.Start Inv-loop μ-loop
-start l = l .before .before .before .before .before .before .before .before
+start l = l .before .before .before .before .before .before .before .before .before
 
 within : (c : tie.In-loop Inv-loop μ-loop) → let a = start (c .before) .args in c .before .loop .k < length (changes (a .kinds .now) (a .froms .now) (a .tos .now) (a .values .now))
-within c = let e = start (c .before) .pre .0 in omega arith
+within c = let e = c .before .before .count-changes .ensures in omega arith
 
 -- the place of the change at hand is in all four lists
 inside : (c : tie.In-loop Inv-loop μ-loop) → let a = start (c .before) .args in let k = c .before .loop .k in
     (k < length (a .kinds .now)) × (k < length (a .froms .now)) × (k < length (a .tos .now)) × (k < length (a .values .now))
 inside c =
     let a = start (c .before) .args in
-    let z = changes-short (a .kinds .now) (a .froms .now) (a .tos .now) (a .values .now) in
-    let e = start (c .before) .pre .0 in
+    let z = changes-length (a .kinds .now) (a .froms .now) (a .tos .now) (a .values .now) in
+    let e = c .before .before .count-changes .ensures in
     (omega arith, omega arith, omega arith, omega arith)
 
 loop-holds : tie.Need-loop-holds Inv-loop μ-loop
 loop-holds c =
-    let s = c .before .before .before .before .before .before .before in
-    (refl, refl, s .pre .1, omega arith, refl, refl, refl)
+    let s = c .before .before .before .before .before .before .before .before in
+    (refl, refl, s .pre, omega arith, refl, refl, refl)
 
 mul-apply-item : tie.Need-mul-apply-item Inv-loop μ-loop
 mul-apply-item c = let z = inside (c) in search needs
@@ -102,7 +102,7 @@ unfolding verdict
 returns-2 c =
     let l = c .before in
     let a = start l .args in
-    let e = start l .pre .0 in
+    let e = l .before .count-changes .ensures in
     let z = drop-of-length-le (changes (a .kinds .now) (a .froms .now) (a .tos .now) (a .values .now)) {i = l .loop .k} (omega arith) in
     (items-none _ _ _ _ z (l .loop .inv .0), leaves-count _ _ _ _ _ _ (l .loop .inv .2) (edits-none _ _ z (l .loop .inv .1)))
 
@@ -112,6 +112,7 @@ apply-items-spec =
     (tie.spec
     Inv-loop
     μ-loop
+    (λ c κs. search needs)
     loop-holds
     mul-apply-item
     shared-slice-read-apply-item

@@ -1,14 +1,11 @@
 -- `open::open` meets its contract. Assumes nothing.
-use Rattle.property.proofs.Basics.{_≡_, sym, ℕ, _*_, _≤_, arith, replicate, length-take-le, needs}
-use Rattle.property.specs.Property.{properties}
+use Rattle.property.proofs.Basics.{_≡_, sym, _∙_, _*_, _≤_, arith, length, length-take-le, needs}
 use Rattle.graph.proofs.Judging.{fine-accept}
-use Rattle.graph.specs.Limits.{maxVertices, maxLandmarks}
 use Rattle.graph.specs.Refusal.{accept}
-use Rattle.network.specs.Network.{rowCount}
-use Rattle.network.specs.Network.{faults}
-use Rattle.calls.specs.Code.{network}
+use Rattle.network.specs.Network.{rowCount, faults}
+use Rattle.calls.specs.Code.{network, Openable}
 use Rattle.calls.proofs.Rows.{rows-most}
-use Rattle.open.proofs.Opening.{open-accept, open-refused}
+use Rattle.open.proofs.Opening.{open-accept, open-refused, open-written}
 use Rattle.open.proofs.open.Statement.{statement}
 use Rattle.open.proofs.open.Tie as tie
 
@@ -20,12 +17,13 @@ fine : (c : tie.After-enum-told) → let g = begin (c .before .before) .args in
     faults (g .n) (g .landmarks .now) (network (g .tails .now) (g .heads .now) (g .weights .now) (g .forward .now) (g .backward .now) (g .count)) ≡ accept
 fine c = fine-accept _ _ (c .before .before .judge-all .ensures) (c .enum-told .given .1)
 
--- .. so that the rows fit the scratch lists
-few : (c : tie.After-enum-told) → let g = begin (c .before .before) .args in rowCount (g .landmarks .now) * g .n ≤ maxLandmarks * properties * maxVertices
-few c =
+-- .. which leaves
+sound : (c : tie.After-enum-told) → let g = begin (c .before .before) .args in
+    Openable (g .n) (g .count) (g .landmarks .now) (g .tails .now) (g .heads .now) (g .weights .now)
+    × (rowCount (g .landmarks .now) * g .n ≤ length (g .forward .now)) × (rowCount (g .landmarks .now) * g .n ≤ length (g .backward .now))
+sound c =
     let g = begin (c .before .before) .args in
-    let o = open-accept (g .n) (g .landmarks .now) (g .tails .now) (g .heads .now) (g .weights .now) (g .forward .now) (g .backward .now) (g .count) (fine c) .0 in
-    rows-most _ _ (o .landmarks .few) (o .few)
+    open-accept (g .n) (g .landmarks .now) (g .tails .now) (g .heads .now) (g .weights .now) (g .forward .now) (g .backward .now) (g .count) (fine c)
 
 returns : tie.Need-returns
 returns c =
@@ -35,30 +33,35 @@ returns c =
     _ (j .judge-all .ensures) (c .before .judged .given .1)
 
 mul-k-2 : tie.Need-mul-k-2
-mul-k-2 c = let e = few c in omega arith
+mul-k-2 c = let o = sound c .0 in let e = rows-most _ _ (o .landmarks .few) (o .few) in omega arith
 
-array-borrow-prefix-fwd : tie.Need-array-borrow-prefix-fwd
-array-borrow-prefix-fwd c = few c
+slice-relend-prefix-open-forward : tie.Need-slice-relend-prefix-open-forward
+slice-relend-prefix-open-forward c = sound c .1
 
-slice-aggregate-open-in : tie.Need-slice-aggregate-open-in
-slice-aggregate-open-in c =
-    let g = begin (c .before .before .before) .args in
-    sym (length-take-le (rowCount (g .landmarks .now) * g .n) (replicate (maxLandmarks * properties * maxVertices) 0) (few (c .before)))
+slice-aggregate-open-forward : tie.Need-slice-aggregate-open-forward
+slice-aggregate-open-forward c = sym (length-take-le _ _ (sound (c .before) .1))
 
-array-borrow-prefix-bwd : tie.Need-array-borrow-prefix-bwd
-array-borrow-prefix-bwd c = few (c .before)
+open-forward-requires : tie.Need-open-forward-requires
+open-forward-requires c κs = (sound (c .before) .0, length-take-le _ _ (sound (c .before) .1))
 
-slice-aggregate-open-in-2 : tie.Need-slice-aggregate-open-in-2
-slice-aggregate-open-in-2 c =
-    let g = begin (c .before .before .before .before) .args in
-    sym (length-take-le (rowCount (g .landmarks .now) * g .n) (replicate (maxLandmarks * properties * maxVertices) 0) (few (c .before .before)))
+slice-relend-prefix-open-backward : tie.Need-slice-relend-prefix-open-backward
+slice-relend-prefix-open-backward c = sound (c .before .before .before .before) .2
 
-open-in-requires : tie.Need-open-in-requires
-open-in-requires c κs =
-    let d = c .before .before .before .before in
+slice-aggregate-open-backward : tie.Need-slice-aggregate-open-backward
+slice-aggregate-open-backward c = sym (length-take-le _ _ (sound (c .before .before .before .before .before) .2))
+
+open-backward-requires : tie.Need-open-backward-requires
+open-backward-requires c κs = let d = c .before .before .before .before .before in (sound d .0, length-take-le _ _ (sound d .2))
+
+returns-2 : tie.Need-returns-2
+returns-2 c =
+    let b = c .before .before in
+    let f = b .before .before .before .before in
+    let d = f .before .before in
     let g = begin (d .before .before) .args in
-    let e = length-take-le {A = ℕ} (rowCount (g .landmarks .now) * g .n) (replicate (maxLandmarks * properties * maxVertices) 0) (few d) in
-    (fine d, (e, e))
+    open-written (g .n) (g .landmarks .now) (g .tails .now) (g .heads .now) (g .weights .now) (g .forward .now) (g .backward .now) (g .count) (fine d)
+    _ _ _ (f .open-forward .kept .1 .1 .1 .1 .1 .1 .0 ∙ length-take-le _ _ (sound d .1)) (b .open-backward .kept .1 .1 .1 .1 .1 .1 .0 ∙ length-take-le _ _ (sound d .2))
+    (f .open-forward .ensures) (b .open-backward .ensures)
 
 pub open-spec : {M : Type 1} → statement M
 open-spec =
@@ -72,11 +75,12 @@ open-spec =
     (λ c. search needs)
     (λ c. search needs)
     mul-k-2
-    array-borrow-prefix-fwd
-    slice-aggregate-open-in
-    array-borrow-prefix-bwd
-    slice-aggregate-open-in-2
-    open-in-requires
+    slice-relend-prefix-open-forward
+    slice-aggregate-open-forward
+    open-forward-requires
+    slice-relend-prefix-open-backward
+    slice-aggregate-open-backward
+    open-backward-requires
     (λ c. search needs)
     (λ c. search needs)
-    (λ c. search needs))
+    returns-2)

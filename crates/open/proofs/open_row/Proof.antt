@@ -15,12 +15,12 @@ open-row-requires c κs =
 
 returns : tie.Need-returns
 returns c =
-    let q = c .before .before .before .before in
+    let q = c .before .before in
     let o = q .before .before .before .before .before in
     let i = o .before .before .before .before in
     let p = i .before in
     let g = p .before .before .before .before .args in
-    λ es h. row-settled (g .n) (g .r) (g .landmarks .now) es _ _ _ _ (q .run-unscheduled .result) (p .row-property .ensures) (i .row-landmark .ensures) (o .open-row .ensures .0) (q .run-unscheduled .ensures .0 es h) (c .any .result) (q .run-unscheduled .ensures .1 .sized .waiting) (c .any .ensures)
+    λ es h. row-settled (g .n) (g .r) (g .landmarks .now) es _ _ _ _ (q .run-unscheduled .result) (p .row-property .ensures) (i .row-landmark .ensures) (o .open-row .ensures .0) (q .run-unscheduled .ensures .0 es h)
 
 pub open-row-spec : {M : Type 1} → statement M
 open-row-spec =
@@ -32,7 +32,6 @@ open-row-spec =
     (λ c. search needs)
     cast-s
     open-row-requires
-    (λ c κs. search needs)
     (λ c κs. search needs)
     (λ c. search needs)
     returns)

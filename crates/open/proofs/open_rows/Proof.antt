@@ -1,24 +1,22 @@
--- `open::open_rows` meets its contract. The loop's invariant: the rows so far stand one after the other in the list, and the answer is whether
--- some vertex waits in one of them. Assumes nothing.
+-- `open::open_rows` meets its contract. The loop's invariant: the rows so far stand one after the other in the list. Assumes nothing.
 use Rattle.property.proofs.Basics.{_≡_, refl, _∙_, List, map, _+_, _-_, _*_, _≤_, arith, length, take, needs}
 use borrow.Rule.Slice.PartMut.{same-len-mid}
 use Rattle.graph.specs.Edge.{Edge, range}
 use Rattle.graph.specs.Index.{Own}
-use Rattle.network.specs.Network.{rowCount}
+use Rattle.network.specs.Network.{rowCount, flat}
 use Rattle.network.specs.Open.{openRow}
-use Rattle.calls.specs.Code.{AreRows}
 use Rattle.calls.proofs.Rows.{row-ends}
-use Rattle.calls.proofs.Flat.{row-size, rows-none, rows-turn, rows-done}
+use Rattle.calls.proofs.Flat.{row-size, flat-none, flat-turn, flat-done}
 use Rattle.open.proofs.open_rows.Statement.{statement}
 use Rattle.open.proofs.open_rows.Tie as tie
 
 abbrev Inv-loop : tie.InvT-loop
-Inv-loop n landmarks index out₀ rows waiting₀ waits₀ r₀ out waiting waits r =
-    ((es : List Edge) → Own n index es → AreRows (map (openRow n landmarks es) (range 0 r)) (take (r * n) out) waits)
+Inv-loop n landmarks index out₀ rows waiting₀ r₀ out waiting r =
+    ((es : List Edge) → Own n index es → take (r * n) out ≡ flat (map (openRow n landmarks es) (range 0 r)))
     × (r ≤ rows) × (length out ≡ length out₀)
 
 abbrev μ-loop : tie.MeasureT-loop
-μ-loop n landmarks index out₀ rows waiting₀ waits₀ r₀ out waiting waits r = rows - r
+μ-loop n landmarks index out₀ rows waiting₀ r₀ out waiting r = rows - r
 
 abbrev begin : tie.At-loop Inv-loop μ-loop → tie.Start Inv-loop μ-loop
 begin l = l .before .before .before .before .before
@@ -33,7 +31,7 @@ within c =
 loop-holds : tie.Need-loop-holds Inv-loop μ-loop
 loop-holds c =
     let g = c .before .before .before .before .args in
-    (λ es o. rows-none (openRow (g .n) (g .landmarks .now) es) (g .n) (g .out .now), omega arith, refl)
+    (λ es o. flat-none (openRow (g .n) (g .landmarks .now) es) (g .n) (g .out .now), omega arith, refl)
 
 mul-start : tie.Need-mul-start Inv-loop μ-loop
 mul-start c = omega (arith, within c)
@@ -68,7 +66,7 @@ loop-again c =
     let call = c .before .before .open-row in
     let part = call .last .1 .1 .1 .1 .1 .0 in
     let size = call .kept .1 .1 .1 .1 .1 .0 in (
-      λ es o. rows-turn (openRow (g .n) (g .landmarks .now) es) (g .n) (l .loop .r) (a + g .n - a) (l .loop .out) part (l .loop .waits) (call .result)
+      λ es o. flat-turn (openRow (g .n) (g .landmarks .now) es) (g .n) (l .loop .r) (a + g .n - a) (l .loop .out) part
           (omega (arith, within t))
           (size ∙ row-size (g .n) a (l .loop .out) (within t))
           (l .loop .inv .0 es o)
@@ -85,7 +83,7 @@ returns c =
     let l = c .before in
     let s = begin l in
     let g = s .args in
-    λ es o. rows-done (openRow (g .n) (g .landmarks .now) es) (g .n) (l .loop .r) (rowCount (g .landmarks .now)) (l .loop .out) (l .loop .waits) (omega arith) (l .loop .inv .2 ∙ s .pre .1) (l .loop .inv .0 es o)
+    λ es o. flat-done (openRow (g .n) (g .landmarks .now) es) (g .n) (l .loop .r) (rowCount (g .landmarks .now)) (l .loop .out) (omega arith) (l .loop .inv .2 ∙ s .pre .1) (l .loop .inv .0 es o)
 
 pub open-rows-spec : {M : Type 1} → statement M
 open-rows-spec =

@@ -56,7 +56,7 @@ copy-table-requires c κs =
     (room-less (t .few) (t .room), record { tails = t .few; heads = t .few; weights = t .few })
 
 apply-items-requires : tie.Need-apply-items-requires
-apply-items-requires c κs = let d = c .before .before .before .before .before .before in (told-fine d .before .before .before .before .before .before .before .before .count-changes .ensures, tabled d)
+apply-items-requires c κs = tabled (c .before .before .before .before .before .before)
 
 apply-requires : tie.Need-apply-requires
 apply-requires c κs =

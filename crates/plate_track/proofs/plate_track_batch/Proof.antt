@@ -5,9 +5,6 @@ use Rattle.plate_track.proofs.Spelling.{spelled-short, spelled-told}
 use Rattle.plate_track.proofs.plate_track_batch.Statement.{statement}
 use Rattle.plate_track.proofs.plate_track_batch.Tie as tie
 
-returns : tie.Need-returns
-returns c = spelled-short reportWords _ _ _ (c .if1 .taken)
-
 returns-2 : tie.Need-returns-2
 returns-2 c =
     let t = c .before .before in
@@ -18,7 +15,7 @@ pub plate-track-batch-spec : {M : Type 1} → statement M
 plate-track-batch-spec =
     tie.close
     (tie.spec
-    returns
+    (λ c. spelled-short reportWords _ _ _ (c .if1 .taken))
     (λ c κs. search needs)
     (λ c κs. search needs)
     (λ c. search needs)

@@ -5,9 +5,6 @@ use Rattle.plate_track.proofs.Spelling.{spelled-short, spelled-told}
 use Rattle.plate_track.proofs.plate_track_choose.Statement.{statement}
 use Rattle.plate_track.proofs.plate_track_choose.Tie as tie
 
-returns : tie.Need-returns
-returns c = spelled-short choiceWords _ _ _ (c .if1 .taken)
-
 returns-2 : tie.Need-returns-2
 returns-2 c =
     let t = c .before .before in
@@ -17,4 +14,4 @@ returns-2 c =
 pub plate-track-choose-spec : {M : Type 1} → statement M
 plate-track-choose-spec =
     tie.close
-    (tie.spec returns (λ c κs. search needs) (λ c κs. search needs) (λ c. search needs) returns-2)
+    (tie.spec (λ c. spelled-short choiceWords _ _ _ (c .if1 .taken)) (λ c κs. search needs) (λ c κs. search needs) (λ c. search needs) returns-2)

@@ -5,9 +5,6 @@ use Rattle.plate_track.proofs.Spelling.{spelled-short, spelled-told}
 use Rattle.plate_track.proofs.plate_track_read.Statement.{statement}
 use Rattle.plate_track.proofs.plate_track_read.Tie as tie
 
-returns : tie.Need-returns
-returns c = spelled-short sizeWords _ _ _ (c .if1 .taken)
-
 returns-2 : tie.Need-returns-2
 returns-2 c =
     let t = c .before .before in
@@ -18,7 +15,7 @@ pub plate-track-read-spec : {M : Type 1} → statement M
 plate-track-read-spec =
     tie.close
     (tie.spec
-    returns
+    (λ c. spelled-short sizeWords _ _ _ (c .if1 .taken))
     (λ c κs. search needs)
     (λ c κs. search needs)
     (λ c. search needs)

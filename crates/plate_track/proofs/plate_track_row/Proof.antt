@@ -20,9 +20,6 @@ shown c =
     let a = begin (c .before .before) .args in
     lookup-accept (a .n) (a .landmarks .now) (a .forward .now) (a .backward .now) (a .side) (a .landmark) (a .property) _ (c .before .before .row-number .ensures) (c .enum-told .given .1)
 
-returns : tie.Need-returns
-returns c = spelled-short oneWord _ _ _ (c .if1 .taken)
-
 returns-2 : tie.Need-returns-2
 returns-2 c =
     let o = c .before .before .before in
@@ -51,7 +48,7 @@ pub plate-track-row-spec : {M : Type 1} → statement M
 plate-track-row-spec =
     tie.close
     (tie.spec
-    returns
+    (λ c. spelled-short oneWord _ _ _ (c .if1 .taken))
     (λ c κs. search needs)
     (λ c. search needs)
     (λ c. search needs)

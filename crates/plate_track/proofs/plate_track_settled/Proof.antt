@@ -6,9 +6,6 @@ use Rattle.plate_track.proofs.Spelling.{spelled-short, spelled-told}
 use Rattle.plate_track.proofs.plate_track_settled.Statement.{statement}
 use Rattle.plate_track.proofs.plate_track_settled.Tie as tie
 
-returns : tie.Need-returns
-returns c = spelled-short checkWords _ _ _ (c .if1 .taken)
-
 returns-2 : tie.Need-returns-2
 returns-2 c =
     let t = c .before .before in
@@ -17,4 +14,4 @@ returns-2 c =
 
 pub plate-track-settled-spec : {M : Type 1} → statement M
 plate-track-settled-spec =
-    tie.close (tie.spec returns (λ c κs. search needs) (λ c κs. search needs) (λ c. search needs) returns-2)
+    tie.close (tie.spec (λ c. spelled-short checkWords _ _ _ (c .if1 .taken)) (λ c κs. search needs) (λ c κs. search needs) (λ c. search needs) returns-2)

@@ -58,7 +58,7 @@ reopen-marked-spec =
     Inv-loop
     μ-loop
     (λ c. let s = c .before .before in (give-start _ _ _ _ (s .pre .2), raised-none _ _ (λ t q. let a = q .1 in omega arith), s .pre .3))
-    (λ c κs. search needs)
+    (λ c κs. omega (arith, start (c .before) .pre .1 .few))
     (λ c. search needs)
     (λ c. search needs)
     (λ c. search needs)

@@ -50,22 +50,20 @@ array-borrow-prefix-start c = sound (c .before .before .before .before .before .
 slice-aggregate-query-in-2 : tie.Need-slice-aggregate-query-in-2
 slice-aggregate-query-in-2 c = sym (length-take-le (begin (c .before .before .before .before .before .before .before .before .before) .args .n) (replicate maxVertices 0) (sound (c .before .before .before .before .before .before .before) .rows .few))
 
-array-borrow-prefix-row : tie.Need-array-borrow-prefix-row
-array-borrow-prefix-row c = sound (c .before .before .before .before .before .before .before) .rows .few
-
-slice-aggregate-query-in-3 : tie.Need-slice-aggregate-query-in-3
-slice-aggregate-query-in-3 c = sym (length-take-le (begin (c .before .before .before .before .before .before .before .before .before .before) .args .n) (replicate maxVertices 0) (sound (c .before .before .before .before .before .before .before .before) .rows .few))
-
 query-in-requires : tie.Need-query-in-requires
 query-in-requires c κs =
-    let g = sound (c .before .before .before .before .before .before .before .before .before .before) in
-    let e = length-take-le {A = ℕ} (begin (c .before .before .before .before .before .before .before .before .before .before .before .before) .args .n) (replicate maxVertices 0) (g .rows .few) in
-    ((c .before .before .before .before .before .before .before .index2 .ensures .fit, g .rows, g .schedule), (e, e, g .starts, g .settled))
+    let d = c .before .before .before .before .before .before .before .before .before in
+    let g = sound d in
+    let e = length-take-le {A = ℕ} (begin (d .before .before) .args .n) (replicate maxVertices 0) (g .rows .few) in
+    ((c .before .before .before .before .before .before .index2 .ensures .fit, g .rows, g .schedule), (e, g .starts, g .settled))
 
 returns-2 : tie.Need-returns-2
 returns-2 c =
-    let a = begin (c .before .before .before .before .before .before .before .before .before .before .before .before .before .before .before .before .before .before .before) .args in
-    c .before .before .before .before .before .before .query-in .ensures (a .tails .now) (a .heads .now) (a .weights .now) (a .count) (c .before .before .before .before .before .before .before .before .before .before .before .before .before .before .index2 .ensures .own) (fine (c .before .before .before .before .before .before .before .before .before .before .before .before .before .before .before .before .before))
+    let q = c .before .before .before .before .before in
+    let i = q .before .before .before .before .before .before .before in
+    let d = i .before .before .before in
+    let a = begin (d .before .before) .args in
+    q .query-in .ensures (a .tails .now) (a .heads .now) (a .weights .now) (a .count) (i .index2 .ensures .own) (fine d)
 
 pub query-spec : {M : Type 1} → statement M
 query-spec =
@@ -81,8 +79,6 @@ query-spec =
     (λ c. search needs)
     array-borrow-prefix-start
     slice-aggregate-query-in-2
-    array-borrow-prefix-row
-    slice-aggregate-query-in-3
     query-in-requires
     (λ c. search needs)
     (λ c. search needs)

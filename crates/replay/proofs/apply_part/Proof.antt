@@ -3,7 +3,7 @@ use Rattle.property.proofs.Basics.{needs, arith, _≡_, ap, _∙_, _-_, _≤_, 
 use Rattle.network.specs.Batch.{batchCall}
 use Rattle.calls.specs.Code.{network}
 use Rattle.items.specs.Code.{changes}
-use Rattle.items.proofs.Editing.{changes-short}
+use Rattle.items.proofs.Editing.{changes-length}
 use Rattle.plain_batch.proofs.Calling.{changes-part}
 use Rattle.replay.proofs.Replaying.{part-cut}
 use Rattle.replay.proofs.apply_part.Statement.{statement}
@@ -17,7 +17,7 @@ within : (c : tie.After-lesser2) → let a = begin c .args in let end = c .befor
     (c .lesser2 .result ≤ end) × (end ≤ length (a .kinds .now)) × (end ≤ length (a .froms .now)) × (end ≤ length (a .tos .now)) × (end ≤ length (a .values .now))
 within c =
     let a = begin c .args in
-    let z = changes-short (a .kinds .now) (a .froms .now) (a .tos .now) (a .values .now) in
+    let z = changes-length (a .kinds .now) (a .froms .now) (a .tos .now) (a .values .now) in
     let s = c .before .before .count-changes .ensures in
     let e = c .before .lesser .ensures in
     let f = c .lesser2 .ensures in

@@ -16,28 +16,27 @@ use Rattle.run.proofs.handle.Statement.{statement}
 use Rattle.run.proofs.handle.Tie as tie
 
 abbrev Inv-loop : tie.InvT-loop
-Inv-loop p n u index words₀ waiting₀ hi j₀ v t₀ words waiting j t =
+Inv-loop p n u index words₀ waiting₀ v hi j₀ t₀ words waiting j t =
     (foldl (spec.relax (property p)) (state n words waiting t) (part index u j (hi - j))
     ≡ foldl (spec.relax (property p)) (state n words₀ waiting₀ t₀) (part index u j₀ (hi - j₀)))
     × (n < j₀) × (j₀ ≤ j) × (j ≤ hi) × (hi ≤ length index) × Ran n words waiting t₀ t 0 0 (j - j₀) × (getD words u 0 ≡ v) × (hi ≤ getD index n 0)
 
 abbrev μ-loop : tie.MeasureT-loop
-μ-loop p n u index words₀ waiting₀ hi j₀ v t₀ words waiting j t = hi - j
+μ-loop p n u index words₀ waiting₀ v hi j₀ t₀ words waiting j t = hi - j
 
 cast-hi : tie.Need-cast-hi Inv-loop μ-loop
-cast-hi c = omega (arith, c .shared-slice-known2 .given (c .before .before .before .before .before .args .u + 1))
+cast-hi c = omega (arith, c .shared-slice-known2 .given (c .before .before .before .before .args .u + 1))
 
 cast-j : tie.Need-cast-j Inv-loop μ-loop
-cast-j c = omega (arith, c .shared-slice-known3 .given (c .before .before .before .before .before .before .args .u))
+cast-j c = omega (arith, c .shared-slice-known3 .given (c .before .before .before .before .before .args .u))
 
 loop-holds : tie.Need-loop-holds Inv-loop μ-loop
 loop-holds c =
-    let r = c .before .before .before in
-    let s = r .before .before .before .before in
+    let s = c .before .before .before .before .before .before .before in
     let a = s .args in
     let f = s .pre .1 .index in
     let z = s .pre .1 .sized in
-    let h = marks-set (a .n) (a .u) (a .waiting .now) (r .remove .last .0) false (s .pre .0) (r .remove .ensures) (z .waiting) in (
+    let h = marks-set (a .n) (a .u) (a .waiting .now) (c .remove .last .0) false (s .pre .0) (c .remove .ensures) (z .waiting) in (
       refl,
       f .after (a .u) (omega (arith, s .pre .0)),
       omega arith,
@@ -80,7 +79,7 @@ loop-again c =
     let z = at .inv .5 .sized .words in
     let w = getD-within (at .words) (g .u) (P .none) 0 (omega (arith, s .pre .0)) in
     let v = ap (λ (x : ℕ). P .along x (arcWeight arc)) (w ∙ at .inv .6) ∙ ap (λ (x : ℕ). P .along (getD (g .words .now) (g .u) 0) x) (sym (a .before .weight .ensures)) ∙ sym (a .along .ensures) in
-    let m : getD (at .words) (g .u) 0 ≤ M = omega (arith, at .inv .6, l .before .slice-known2 .given (g .u)) in
+    let m : getD (at .words) (g .u) 0 ≤ M = omega (arith, at .inv .6, l .before .before .before .before .before .slice-known2 .given (g .u)) in
     let q = r .relax .ensures .0 e (sym (d .head .ensures)) v in
     let i = s .pre .1 .index .inside (at .j) (omega arith) (omega arith) in (
       fold-turn (spec.relax P) e (part-more _ _ _ _ (t .loop-test .taken)) q (at .inv .0),
@@ -99,7 +98,7 @@ returns c =
     let s = l .before .before .before .before .before .before .before .before in
     let g = s .args in
     let P = property (g .p) in
-    let r = l .before .before .before .before in (
+    let r = l .before in (
       λ es o.
           fold-done (spec.relax P) (part-none _ _ _ _ (c .loop-test .left)) (l .loop .inv .0)
           ∙ handle-own P es _ (state (g .n) (g .words .now) (g .waiting .now) (g .tally)) _ (g .u)
@@ -113,7 +112,8 @@ handle-spec =
     (tie.spec
     Inv-loop
     μ-loop
-    (λ c κs. search needs)
+    (λ c. search needs)
+    (λ c. search needs)
     (λ c. search needs)
     (λ c. search needs)
     (λ c. search needs)
@@ -121,8 +121,7 @@ handle-spec =
     (λ c. search needs)
     (λ c. search needs)
     cast-j
-    (λ c. search needs)
-    (λ c. search needs)
+    (λ c κs. search needs)
     loop-holds
     (λ c. search needs)
     (λ c. search needs)

@@ -103,7 +103,7 @@ round-of-spec =
     μ-loop
     (λ c. search needs)
     loop-holds
-    (λ c κs. search needs)
+    (λ c κs. omega (arith, c .before .before .before .before .before .before .pre .index .few))
     (λ c. search needs)
     (λ c. search needs)
     (λ c. search needs)

@@ -11,9 +11,6 @@ Inv-loop text at i₀ i = (plain (take (i - at) (drop at text)) ≡ true) × (at
 abbrev μ-loop : tie.MeasureT-loop
 μ-loop text at i₀ i = length text - i
 
-loop-holds : tie.Need-loop-holds Inv-loop μ-loop
-loop-holds c = (feed-start (c .args .text .now) (c .args .at), omega arith)
-
 returns : tie.Need-returns Inv-loop μ-loop
 returns c =
     let l = c .before .before .before in
@@ -38,7 +35,7 @@ line-feed-spec =
     (tie.spec
     Inv-loop
     μ-loop
-    loop-holds
+    (λ c. (feed-start (c .args .text .now) (c .args .at), omega arith))
     (λ c. omega arith)
     returns
     (λ c. omega arith)

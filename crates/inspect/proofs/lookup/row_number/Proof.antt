@@ -1,12 +1,10 @@
 -- `inspect::lookup::row_number` meets its contract: one refusal after the other. Assumes nothing.
-use Rattle.property.proofs.Basics.{needs, _≡_, sym, ap, _∙_, ⊎-elim, Bool, not, _||_, ltb}
+use Rattle.property.proofs.Basics.{needs, _≡_, sym, ap, _∙_, not}
 use Rattle.graph.proofs.Judging.{then-refused, then-judged, if-refused, if-judged}
-use Rattle.property.specs.Property.{isProperty}
 use Rattle.graph.specs.declared.Judged.{Judged}
-use Rattle.graph.specs.Refusal.{Verdict, _▷_, refuseIf}
+use Rattle.graph.specs.Refusal.{Verdict, _▷_}
 use Rattle.graph.specs.Table.{size}
 use Rattle.graph.specs.Code.{told}
-use Rattle.graph.proofs.Flags.{or-taken, or-left}
 use Rattle.network.specs.Network.{shortRows, landmarks}
 use Rattle.calls.specs.Code.{rowLists}
 use Rattle.inspect.proofs.LookupLaws.{number-told}
@@ -30,13 +28,6 @@ listed : (c : tie.After-enum-told5) (r : Judged) (w : Verdict) → told r ≡ w 
     told r ≡ (size (a .n) ▷ shortRows (a .n) (a .landmarks .now) (rowLists (a .forward .now) (a .backward .now)) ▷ landmarks (a .n) (a .landmarks .now) ▷ w)
 listed c r w e = spaced (c .before .before .before) r _ (then-judged _ r _ w (c .before .before .judge-landmarks .ensures) (c .enum-told5 .given .1) e)
 
-flag : (c : tie.Joined2) →
-    let a = start (c .before .before .before .before .before .before .before .before .before .before .before .before) .args in
-    c .if2 .refuse-if ≡ (not (isProperty (a .property)) || ltb 1 (a .side))
-flag c =
-    let e = ap not (c .before .is-property .ensures) in
-    ⊎-elim (λ w. w .1 ∙ (e ∙ or-taken _ _ (sym e ∙ w .0 .taken))) (λ w. w .1 ∙ or-left _ _ (sym e ∙ w .0 .left)) (c .if2 .came)
-
 returns : tie.Need-returns
 returns c = number-told _ _ _ _ _ _ _ _ (then-refused _ _ _ _ _ (c .before .before .judge-size .ensures) (c .enum-told2 .given .1))
 
@@ -57,11 +48,10 @@ returns-4 c =
 
 returns-5 : tie.Need-returns-5
 returns-5 c =
-    let e = c .before .before .before in
+    let e = c .before .before in
     let i = e .before in
     number-told _ _ _ _ _ _ _ _
-    (listed (i .before) _ _
-    (if-judged _ _ _ _ _ (sym (ap not (i .is-in .ensures)) ∙ e .if1 .left) (c .refuse-if .ensures ∙ ap (λ (b : Bool). refuseIf b 5 0) (flag (c .before)))))
+    (listed (i .before) _ _ (if-judged _ _ _ _ _ (sym (ap not (i .is-in .ensures)) ∙ e .if1 .left) (c .refuse-if .ensures ∙ rw (c .before .is-property .ensures))))
 
 pub row-number-spec : {M : Type 1} → statement M
 row-number-spec =

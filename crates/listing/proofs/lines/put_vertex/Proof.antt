@@ -1,58 +1,37 @@
 -- `listing::lines::put_vertex` meets its contract. Assumes nothing.
-use Rattle.property.proofs.Basics.{needs, arith}
+use Rattle.property.proofs.Basics.{needs, arith, _≡_, [], _∷_, _++_, _+_}
+use Rattle.dimacs.specs.Decimal.{digits}
+use Rattle.dimacs.specs.Lines.{fieldsOf}
+use Rattle.listing.specs.Code.{rowsLine}
 use Rattle.listing.proofs.Rows.{line-fields}
 use Rattle.listing.proofs.lines.put_vertex.Statement.{statement}
 use Rattle.listing.proofs.lines.put_vertex.Tie as tie
 
-cast-t15 : tie.Need-cast-t15
-cast-t15 c = omega (arith, c .shared-slice-known6 .given (c .before .before .before .before .before .before .before .args .vertex))
+abbrev start : tie.After-word5 → tie.Start
+start w = w .before .before .before .before .before .before .before
 
-cast-t19 : tie.Need-cast-t19
-cast-t19 c = omega (arith, c .shared-slice-known7 .given (c .before .before .before .before .before .before .before .before .args .vertex))
-
-cast-t23 : tie.Need-cast-t23
-cast-t23 c = omega (arith, c .shared-slice-known8 .given (c .before .before .before .before .before .before .before .before .before .args .vertex))
-
-cast-t27 : tie.Need-cast-t27
-cast-t27 c = omega (arith, c .shared-slice-known9 .given (c .before .before .before .before .before .before .before .before .before .before .args .vertex))
-
-cast-put-numbers : tie.Need-cast-put-numbers
-cast-put-numbers c = omega (arith, c .shared-slice-known10 .given (c .before .before .before .before .before .before .before .before .before .before .before .args .vertex))
-
-put-numbers-requires : tie.Need-put-numbers-requires
-put-numbers-requires c κs =
-    let s = c .before .before .before .before .before .before .before .before .before .before .before .before .before in
-    let a = s .args in
-    rw (line-fields (a .source) (a .vertex) (a .sssp .now) (a .bfs .now) (a .sswp .now) (a .ssnp .now) (a .ssr .now)) at (s .pre .1)
-
-returns : tie.Need-returns
-returns c =
-    let p = c .before .before in
-    let a = p .before .before .before .before .before .before .before .before .before .before .before .before .before .before .args in
-    rw (line-fields (a .source) (a .vertex) (a .sssp .now) (a .bfs .now) (a .sswp .now) (a .ssnp .now) (a .ssr .now)) (p .put-numbers .ensures)
+-- the line by the five words
+line : (e : tie.After-word5) → let d = e .before in let c = d .before in let b = c .before in let a = b .before in let x = start e .args in
+    rowsLine (x .source) (x .vertex) (x .n) (x .rows .now) ≡ digits (x .source + 1) ++ fieldsOf ((x .vertex + 1) ∷ a .word .result ∷ b .word2 .result ∷ c .word3 .result ∷ d .word4 .result ∷ e .word5 .result ∷ []) ++ (10 ∷ [])
+line e =
+    let d = e .before in
+    let c = d .before in
+    let b = c .before in
+    let x = start e .args in
+    line-fields (x .source) (x .vertex) (x .n) (x .rows .now) (b .before .word .ensures) (b .word2 .ensures) (c .word3 .ensures) (d .word4 .ensures) (e .word5 .ensures)
 
 pub put-vertex-spec : {M : Type 1} → statement M
 put-vertex-spec =
     tie.close
     (tie.spec
     (λ c. search needs)
+    (λ c κs. search needs)
+    (λ c κs. search needs)
+    (λ c κs. search needs)
+    (λ c κs. search needs)
+    (λ c κs. search needs)
     (λ c. search needs)
     (λ c. search needs)
-    cast-t15
+    (λ c κs. rw (line (c .before .before)) at (start (c .before .before) .pre .1))
     (λ c. search needs)
-    (λ c. search needs)
-    cast-t19
-    (λ c. search needs)
-    (λ c. search needs)
-    cast-t23
-    (λ c. search needs)
-    (λ c. search needs)
-    cast-t27
-    (λ c. search needs)
-    (λ c. search needs)
-    cast-put-numbers
-    (λ c. search needs)
-    (λ c. search needs)
-    put-numbers-requires
-    (λ c. search needs)
-    returns)
+    (λ c. rw (line (c .before .before .before .before .before)) (c .before .before .put-numbers .ensures)))

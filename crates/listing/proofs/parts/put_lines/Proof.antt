@@ -15,12 +15,6 @@ cells s = s .args .prepared .choice .count * properties * s .args .prepared .n
 most : (s : tie.Start) → cells s ≤ rowWords
 most s = let h = s .pre .1 .bounded in rows-most (s .args .prepared .choice .count) (s .args .prepared .n) (h .landmarks) (h .vertices)
 
-mul-k-2 : tie.Need-mul-k-2
-mul-k-2 c = omega (arith, most (c .before .before .before .before .before .before .before .before .before))
-
-array-share-prefix-vertices : tie.Need-array-share-prefix-vertices
-array-share-prefix-vertices c = let h = c .before .before .before .before .before .before .before .before .before .pre .1 .bounded in omega (arith, h .landmarks, h .places)
-
 slice-aggregate-put-source : tie.Need-slice-aggregate-put-source
 slice-aggregate-put-source c =
     let s = c .before .before .before .before .before .before .before .before .before .before in
@@ -54,8 +48,8 @@ put-lines-spec =
     (tie.spec
     (λ c. search needs)
     (λ c. search needs)
-    mul-k-2
-    array-share-prefix-vertices
+    (λ c. omega (arith, most (c .before .before .before .before .before .before .before .before .before)))
+    (λ c. let h = c .before .before .before .before .before .before .before .before .before .pre .1 .bounded in omega (arith, h .landmarks, h .places))
     slice-aggregate-put-source
     slice-aggregate-put-source-2
     slice-aggregate-put-source-3

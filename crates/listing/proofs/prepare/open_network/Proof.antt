@@ -34,31 +34,16 @@ ahead f = let s = begin (f .before .before .before .before) in omega (arith, mos
 back : (f : tie.After-fill2) → cells (f .before .before .before .before .before .before .before .before) ≤ length (f .fill2 .last .0)
 back f = let s = begin (f .before .before .before .before .before .before .before .before) in omega (arith, most (f .before .before .before .before .before .before .before .before), f .fill2 .kept .0, s .pre .1 .backward)
 
-mul-k : tie.Need-mul-k
-mul-k c = let h = few (c .before .before) in omega (arith, h .0)
-
-mul-k-2 : tie.Need-mul-k-2
-mul-k-2 c = omega (arith, most (c .before .before))
-
-array-share-prefix-vertices : tie.Need-array-share-prefix-vertices
-array-share-prefix-vertices c = let h = few (c .before .before .before .before .before .before .before .before .before .before) in omega (arith, h .0, h .1)
-
 slice-aggregate-open : tie.Need-slice-aggregate-open
 slice-aggregate-open c =
     let k = c .before .before .before .before .before .before .before .before .before .before .before in
     let h = few k in
     sym (length-take-le (held k) (k .choose-landmarks .result .choice .vertices) (omega (arith, h .0, h .1)))
 
-slice-relend-prefix-open : tie.Need-slice-relend-prefix-open
-slice-relend-prefix-open c = ahead (c .before .before .before .before .before .before .before)
-
 slice-aggregate-open-2 : tie.Need-slice-aggregate-open-2
 slice-aggregate-open-2 c =
     let f = c .before .before .before .before .before .before .before .before in
     sym (length-take-le (cells (f .before .before .before .before)) (f .fill .last .0) (ahead f))
-
-slice-relend-prefix-open-2 : tie.Need-slice-relend-prefix-open-2
-slice-relend-prefix-open-2 c = back (c .before .before .before .before)
 
 slice-aggregate-open-3 : tie.Need-slice-aggregate-open-3
 slice-aggregate-open-3 c =
@@ -90,15 +75,15 @@ open-network-spec =
     (tie.spec
     (λ c. search needs)
     (λ c κs. search needs)
-    mul-k
-    mul-k-2
+    (λ c. let h = few (c .before .before) in omega (arith, h .0))
+    (λ c. omega (arith, most (c .before .before)))
     (λ c κs. search needs)
     (λ c κs. search needs)
-    array-share-prefix-vertices
+    (λ c. let h = few (c .before .before .before .before .before .before .before .before .before .before) in omega (arith, h .0, h .1))
     slice-aggregate-open
-    slice-relend-prefix-open
+    (λ c. ahead (c .before .before .before .before .before .before .before))
     slice-aggregate-open-2
-    slice-relend-prefix-open-2
+    (λ c. back (c .before .before .before .before))
     slice-aggregate-open-3
     (λ c κs. search needs)
     (λ c. search needs)

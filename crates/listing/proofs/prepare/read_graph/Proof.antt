@@ -6,9 +6,6 @@ use Rattle.listing.proofs.Reading.{zero-columns, graph-long, graph-read
 use Rattle.listing.proofs.prepare.read_graph.Statement.{statement}
 use Rattle.listing.proofs.prepare.read_graph.Tie as tie
 
-returns : tie.Need-returns
-returns c = graph-long (c .before .before .before .before .before .args .gr .now) (omega arith)
-
 returns-2 : tie.Need-returns-2
 returns-2 c =
     let r = c .before .before .before .before .before .before in
@@ -23,7 +20,7 @@ pub read-graph-spec : {M : Type 1} → statement M
 read-graph-spec =
     tie.close
     (tie.spec
-    returns
+    (λ c. graph-long (c .before .before .before .before .before .args .gr .now) (omega arith))
     (λ c κs. search needs)
     (λ c κs. search needs)
     (λ c κs. search needs)

@@ -1,13 +1,15 @@
 -- `reader::sources::end_text` meets its contract. Assumes nothing.
-use Rattle.property.proofs.Basics.{needs, arith}
-use Rattle.reader.specs.SourcesCode.{readOf}
-use Rattle.reader.proofs.SourcesSteps.{held-inside, end-early, end-short, end-whole}
+use Rattle.property.proofs.Basics.{needs, add-one, arith}
+use Rattle.dimacs.specs.Read.{ended}
+use Rattle.dimacs.specs.Sources.{complete}
+use Rattle.reader.specs.SourcesCode.{stateOf, readOf}
+use Rattle.reader.proofs.SourcesSteps.{held-inside, end-short, end-whole}
 use Rattle.reader.proofs.sources.end_text.Statement.{statement}
 use Rattle.reader.proofs.sources.end_text.Tie as tie
 
 returns : tie.Need-returns
-unfolding readOf
-returns c = (λ n xs h. end-early xs _ n _ (c .enum-told .given .1), λ xs h. tt)
+unfolding readOf stateOf ended complete
+returns c = (λ n xs h. rw (c .enum-told .given .1, add-one), λ xs h. tt)
 
 returns-2 : tie.Need-returns-2
 unfolding readOf

@@ -1,12 +1,14 @@
 -- `reader::sources::read_in` meets its contract. Assumes nothing.
-use Rattle.property.proofs.Basics.{needs, arith, _≡_, sym, ap, _∙_, _≤_, _<_, length, length-take-le}
+use Rattle.property.proofs.Basics.{needs, arith, _≡_, sym, ap, subst, _∙_, _≤_, _<_, length, length-take-le}
 use Rattle.graph.specs.Refusal.{accept}
 use Rattle.graph.specs.Table.{size}
 use Rattle.graph.specs.Code.{told}
 use Rattle.graph.proofs.Judging.{size-accept}
 use Rattle.dimacs.specs.Sources.{maxSources}
 use Rattle.graph.proofs.Copies.{paste-front}
-use Rattle.reader.proofs.SourcesSteps.{text-bad, text-good, text-whole, call-size, call-short, call-bad, call-good}
+use Rattle.reader.specs.SourcesCode.{Whole, readOf}
+use Rattle.reader.proofs.Steps.{known}
+use Rattle.reader.proofs.SourcesSteps.{call-size, call-short, call-bad, call-good}
 use Rattle.reader.proofs.sources.read_in.Statement.{statement}
 use Rattle.reader.proofs.sources.read_in.Tie as tie
 
@@ -23,7 +25,7 @@ readOn k = k .before .before .before .before
 
 -- the file is good: how many sources there are
 count : (k : tie.After-count) → let t = readOn k in (k .count .given .0 .0 ≤ maxSources) × (maxSources ≤ length (t .read-text .last .1 .1 .0))
-count k = text-whole _ (k .count .given .1) (readOn k .read-text .ensures .1)
+count k = let t = readOn k .read-text in subst (λ r. Whole r (t .last .1 .1 .0)) (k .count .given .1) (t .ensures .1)
 
 returns : tie.Need-returns
 unfolding told
@@ -49,26 +51,16 @@ copy-requires c κs =
     let l = readOn k .before .before .if1 .left in
     (omega arith, omega arith)
 
-cast-t21 : tie.Need-cast-t21
-cast-t21 c = omega (arith, count (c .before .before .before .before .before .before))
-
-same-length : tie.Need-same-length
-same-length c = c .before .before .before .before .before .read-text .kept .1 .1 .0
-
 returns-3 : tie.Need-returns-3
+unfolding readOf
 returns-3 c =
     let l = c .before in
     let t = l .before .before .before .before in
     let e = t .before .before in
-    call-bad _ _ _ (fine (e .before)) (e .if1 .left) (text-bad _ (l .line .given .1) (t .read-text .ensures .0))
-
-same-length-2 : tie.Need-same-length-2
-same-length-2 c = c .before .before .copy .kept .1 .1 .0
-
-same-length-3 : tie.Need-same-length-3
-same-length-3 c = c .before .before .before .before .before .before .before .before .before .before .read-text .kept .1 .1 .0
+    call-bad _ _ _ (fine (e .before)) (e .if1 .left) (known (readOf _) (l .line .given .1) (t .read-text .ensures .0))
 
 returns-4 : tie.Need-returns-4
+unfolding readOf
 returns-4 c =
     let p = c .before .before in
     let k = p .before .before .before .before in
@@ -76,7 +68,7 @@ returns-4 c =
     let e = t .before .before in
     let w = count k in
     let fits : k .count .given .0 .0 ≤ length (t .read-text .last .1 .1 .0) = omega arith in
-    call-good _ _ _ (fine (e .before)) (e .if1 .left) _ _ _ (text-good _ (k .count .given .1) (t .read-text .ensures .0)) (length-take-le _ _ fits)
+    call-good _ _ _ (fine (e .before)) (e .if1 .left) _ _ _ (known (readOf _) (k .count .given .1) (t .read-text .ensures .0)) (length-take-le _ _ fits)
     (p .copy .ensures ∙ paste-front _ _ _ fits)
 
 pub read-in-spec : {M : Type 1} → statement M
@@ -92,9 +84,9 @@ read-in-spec =
     (λ c. search needs)
     (λ c. search needs)
     copy-requires
-    cast-t21
-    same-length
+    (λ c. omega (arith, count (c .before .before .before .before .before .before)))
+    (λ c. c .before .before .before .before .before .read-text .kept .1 .1 .0)
     returns-3
-    same-length-2
-    same-length-3
+    (λ c. c .before .before .copy .kept .1 .1 .0)
+    (λ c. c .before .before .before .before .before .before .before .before .before .before .read-text .kept .1 .1 .0)
     returns-4)

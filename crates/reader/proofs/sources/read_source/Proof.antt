@@ -1,24 +1,22 @@
 -- `reader::sources::read_source` meets its contract. Assumes nothing.
-use Rattle.property.proofs.Basics.{arith, _≡_, sym, ap, _∙_, [], _∷_, bind, drop, needs}
+use Rattle.property.proofs.Basics.{arith, _≡_, _∙_, [], _∷_, bind, drop, needs}
 use Rattle.dimacs.specs.Read.{fields}
 use Rattle.dimacs.specs.Sources.{sourceFrom}
 use Rattle.reader.specs.Capped.{capSources}
 use Rattle.scanner.specs.Code.{oneOf}
-use Rattle.reader.proofs.Marks.{fields-lost}
+use Rattle.reader.proofs.Marks.{said-fields}
 use Rattle.reader.proofs.SourcesItems.{source-read, source-zero, source-vertex}
 use Rattle.reader.proofs.sources.read_source.Statement.{statement}
 use Rattle.reader.proofs.sources.read_source.Tie as tie
 
 -- a number was read
 number : (k : tie.After-v) → sourceFrom (k .v .given .0 .0 ∷ []) ≡ capSources (bind (fields 1 (drop 1 (k .before .before .before .before .args .line .now))) sourceFrom)
-number k = source-read _ (k .v .given .0 .0) (ap oneOf (sym (k .v .given .1)) ∙ k .before .before .read-one .ensures)
+unfolding bind
+number k = said-fields sourceFrom capSources oneOf source-read _ (k .v .given .1) (k .before .before .read-one .ensures)
 
 returns : tie.Need-returns
-unfolding capSources
-returns c = ap capSources (fields-lost sourceFrom _ (ap oneOf (sym (c .enum-told .given .1)) ∙ c .before .before .read-one .ensures))
-
-returns-2 : tie.Need-returns-2
-returns-2 c = source-zero _ (c .if1 .taken) ∙ number (c .before .before)
+unfolding bind
+returns c = said-fields sourceFrom capSources oneOf source-read _ (c .enum-told .given .1) (c .before .before .read-one .ensures)
 
 returns-3 : tie.Need-returns-3
 returns-3 c =
@@ -28,4 +26,11 @@ returns-3 c =
 pub read-source-spec : {M : Type 1} → statement M
 read-source-spec =
     tie.close
-    (tie.spec (λ c κs. search needs) (λ c. search needs) (λ c. search needs) returns returns-2 (λ c. search needs) returns-3)
+    (tie.spec
+    (λ c κs. search needs)
+    (λ c. search needs)
+    (λ c. search needs)
+    returns
+    (λ c. source-zero _ (c .if1 .taken) ∙ number (c .before .before))
+    (λ c. search needs)
+    returns-3)

@@ -1,13 +1,13 @@
 -- `reader::sources::read_text` meets its contract: what is left of the file, from the state so far, comes to the same answer. Assumes nothing.
-use Rattle.property.proofs.Basics.{needs, arith, _≡_, refl, sym, ap, subst, _∙_, _-_, _≤_, _<_, length, drop}
+use Rattle.property.proofs.Basics.{needs, arith, _≡_, refl, sym, ap, subst, _∙_, _+_, _-_, _^_, _≤_, _<_, length, drop}
 use Rattle.dimacs.specs.Lines.{split}
 use Rattle.dimacs.specs.Read.{read}
 use Rattle.dimacs.specs.Sources as src
 use Rattle.scanner.specs.declared.Feed.the-variants.{Ends}
 use Rattle.scanner.specs.Code.{splitBy, inText}
-use Rattle.reader.specs.SourcesCode.{Held, stateOf, readOf}
+use Rattle.reader.specs.SourcesCode.{Held, stateOf, stepOf, readOf}
 use Rattle.dimacs.proofs.Reading.{left, left-open, left-stop, left-next, left-end}
-use Rattle.reader.proofs.SourcesSteps.{step-stops, step-goes, step-held}
+use Rattle.reader.proofs.Steps.{known}
 use Rattle.reader.proofs.sources.read_text.Statement.{statement}
 use Rattle.reader.proofs.sources.read_text.Tie as tie
 
@@ -27,6 +27,13 @@ start l = l .before .before .before
 abbrev turn : tie.After-end Inv-loop μ-loop → tie.At-loop Inv-loop μ-loop
 turn e = e .before .before .before .before
 
+abbrev line : tie.After-take-line Inv-loop μ-loop → tie.After-end Inv-loop μ-loop
+line t = t .before .before .before .before
+
+-- one line more can be counted
+counted : (l : tie.At-loop Inv-loop μ-loop) → l .loop .k + 1 < 2 ^ 64
+counted l = omega (arith, l .loop .inv .3, l .loop .inv .2, start l .good)
+
 -- the line ends inside the text
 inside : (e : tie.After-end Inv-loop μ-loop) → (turn e .loop .at ≤ e .end .given .0 .0) × (e .end .given .0 .0 < length (start (turn e) .args .text .now))
 inside e = subst (inText (start (turn e) .args .text .now) (turn e .loop .at)) (e .end .given .1) (e .before .before .line-feed .ensures .1)
@@ -44,9 +51,6 @@ loop-holds c =
     let s = c .before .before in
     (refl, record { room = s .pre .1; inside = tt }, omega arith, omega arith, refl)
 
-same-length : tie.Need-same-length Inv-loop μ-loop
-same-length c = c .before .before .before .before .loop .inv .4
-
 returns : tie.Need-returns Inv-loop μ-loop
 unfolding readOf
 returns c =
@@ -55,73 +59,35 @@ returns c =
     let s = start l .args .text .now in
     (sym (left-open src.itemIn (src.act _) src.complete s (l .loop .at) (l .loop .k) _ (f .before .loop-test .taken) (ap (splitBy s (l .loop .at)) (sym (c .enum-told .given .1)) ∙ f .line-feed .ensures .0)) ∙ l .loop .inv .0, tt)
 
-sub-take-line : tie.Need-sub-take-line Inv-loop μ-loop
-sub-take-line c = inside (c .before) .0
-
-part-take-line-start : tie.Need-part-take-line-start Inv-loop μ-loop
-part-take-line-start c = inside (c .before) .0
-
-part-take-line-end : tie.Need-part-take-line-end Inv-loop μ-loop
-part-take-line-end c = omega (arith, inside (c .before))
-
 take-line-requires : tie.Need-take-line-requires Inv-loop μ-loop
 take-line-requires c κs =
     let l = turn (c .before .before .before) in
     (start l .pre .0, l .loop .inv .1)
 
-add-t19 : tie.Need-add-t19 Inv-loop μ-loop
-add-t19 c =
-    let t = c .before .before .before .before in
-    let l = turn (t .before .before .before .before) in
-    omega (arith, l .loop .inv .3, l .loop .inv .2, start l .good)
-
-same-length-2 : tie.Need-same-length-2 Inv-loop μ-loop
-same-length-2 c = let t = c .before .before .before .before in t .take-line .kept .1 .1 .1 .0 ∙ turn (t .before .before .before .before) .loop .inv .4
-
 returns-2 : tie.Need-returns-2 Inv-loop μ-loop
-unfolding readOf
+unfolding readOf stepOf
 returns-2 c =
     let t = c .before .before .before .before in
-    let e = t .before .before .before .before in
+    let e = line t in
     let l = turn e in
     let s = start l .args .text .now in
-    (sym (left-stop src.itemIn (src.act _) src.complete s (l .loop .at) (l .loop .k) _ _ _ _ (parted e) (step-stops _ (c .enum-told2 .given .1) (t .take-line .ensures .0))) ∙ l .loop .inv .0, tt)
-
-add-at : tie.Need-add-at Inv-loop μ-loop
-add-at c =
-    let e = c .before .before .before .before .before .before .before .before .before in
-    omega (arith, inside e, start (turn e) .good)
-
-add-k : tie.Need-add-k Inv-loop μ-loop
-add-k c =
-    let l = turn (c .before .before .before .before .before .before .before .before .before) in
-    omega (arith, l .loop .inv .3, l .loop .inv .2, start l .good)
-
-loop-less : tie.Need-loop-less Inv-loop μ-loop
-loop-less c =
-    let e = c .before .before .before .before .before .before .before .before .before in
-    omega (arith, inside e, e .before .before .before .loop-test .taken)
+    (sym (left-stop src.itemIn (src.act _) src.complete s (l .loop .at) (l .loop .k) _ _ _ _ (parted e) (known (stepOf _) (c .enum-told2 .given .1) (t .take-line .ensures .0))) ∙ l .loop .inv .0, tt)
 
 loop-again : tie.Need-loop-again Inv-loop μ-loop
+unfolding stepOf
 loop-again c =
     let n = c .before in
     let t = n .before .before .before .before in
-    let e = t .before .before .before .before in
+    let e = line t in
     let l = turn e in
     let s = start l .args .text .now in
     let q = n .next .given .1 in (
-      sym (left-next src.itemIn (src.act _) src.complete s (l .loop .at) (l .loop .k) _ _ _ _ (parted e) _ (step-goes _ q (t .take-line .ensures .0))) ∙ l .loop .inv .0,
-      step-held _ q (t .take-line .ensures .1),
+      sym (left-next src.itemIn (src.act _) src.complete s (l .loop .at) (l .loop .k) _ _ _ _ (parted e) _ (known (stepOf _) q (t .take-line .ensures .0))) ∙ l .loop .inv .0,
+      rw q at (t .take-line .ensures .1),
       omega (arith, inside e),
       omega (arith, inside e, l .loop .inv .3),
       t .take-line .kept .1 .1 .1 .0 ∙ l .loop .inv .4,
     )
-
-end-text-requires : tie.Need-end-text-requires Inv-loop μ-loop
-end-text-requires c κs = let l = c .before in omega (arith, l .loop .inv .3, l .loop .inv .2, start l .good)
-
-same-length-3 : tie.Need-same-length-3 Inv-loop μ-loop
-same-length-3 c = c .before .before .loop .inv .4
 
 returns-3 : tie.Need-returns-3 Inv-loop μ-loop
 returns-3 c =
@@ -141,21 +107,21 @@ read-text-spec =
     (λ c. search needs)
     (λ c. search needs)
     (λ c. omega arith)
-    same-length
+    (λ c. c .before .before .before .before .loop .inv .4)
     returns
-    sub-take-line
-    part-take-line-start
-    part-take-line-end
+    (λ c. inside (c .before) .0)
+    (λ c. inside (c .before) .0)
+    (λ c. omega (arith, inside (c .before)))
     take-line-requires
     (λ c. search needs)
     (λ c. search needs)
-    add-t19
-    same-length-2
+    (λ c. omega (arith, counted (turn (line (c .before .before .before .before)))))
+    (λ c. let t = c .before .before .before .before in t .take-line .kept .1 .1 .1 .0 ∙ turn (line t) .loop .inv .4)
     returns-2
-    add-at
-    add-k
-    loop-less
+    (λ c. let e = line (c .before .before .before .before .before) in omega (arith, inside e, start (turn e) .good))
+    (λ c. omega (arith, counted (turn (line (c .before .before .before .before .before)))))
+    (λ c. let e = line (c .before .before .before .before .before) in omega (arith, inside e, e .before .before .before .loop-test .taken))
     loop-again
-    end-text-requires
-    same-length-3
+    (λ c κs. counted (c .before))
+    (λ c. c .before .before .loop .inv .4)
     returns-3)

@@ -15,9 +15,6 @@ returns c =
       c .take-header .ensures .1 _ (s .pre .room),
     )
 
-same-length : tie.Need-same-length
-same-length c = c .before .before .take-source .kept .1 .1 .1 .0
-
 returns-2 : tie.Need-returns-2
 unfolding bind
 returns-2 c =
@@ -42,6 +39,6 @@ take-item-spec =
     (λ c κs. search needs)
     (λ c. search needs)
     returns
-    same-length
+    (λ c. c .before .before .take-source .kept .1 .1 .1 .0)
     returns-2
     returns-3)

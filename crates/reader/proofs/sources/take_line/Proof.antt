@@ -1,7 +1,7 @@
 -- `reader::sources::take_line` meets its contract. Assumes nothing.
-use Rattle.property.proofs.Basics.{needs, sym, ap, _∙_, Bool, cond, none, some, bind}
-use Rattle.dimacs.specs.Sources.{itemIn, act, complete}
-use Rattle.reader.specs.SourcesCode.{stateOf, stepOf}
+use Rattle.property.proofs.Basics.{needs, true, false}
+use Rattle.dimacs.specs.Sources.{itemIn, complete}
+use Rattle.reader.specs.SourcesCode.{stepOf}
 use Rattle.reader.proofs.Steps.{step-comment, step-item}
 use Rattle.reader.proofs.SourcesItems.{item-empty}
 use Rattle.reader.proofs.SourcesSteps.{said-capped}
@@ -16,42 +16,21 @@ unfolding stepOf
 returns c =
     let i = c .before in
     let h = i .before .before in
-    let a = start h .args in
-    let st = stateOf (a .list .now) (a .state) in (
-      sym
-          (step-comment itemIn (act (a .n)) complete st (a .line .now) (sym (h .holds .ensures) ∙ i .before .if1 .taken)
-          ∙ ap (λ (b : Bool). cond b (some st) none) (sym (i .is-comment .ensures) ∙ c .if2 .taken)),
-      start h .pre .1,
-    )
+    (step-comment itemIn _ complete _ _ true (h .holds .ensures) (i .is-comment .ensures) (i .before .if1 .taken) (c .if2 .taken), start h .pre .1)
 
 returns-2 : tie.Need-returns-2
 unfolding stepOf
 returns-2 c =
     let i = c .before in
     let h = i .before .before in
-    let a = start h .args in
-    let st = stateOf (a .list .now) (a .state) in (
-      sym
-          (step-comment itemIn (act (a .n)) complete st (a .line .now) (sym (h .holds .ensures) ∙ i .before .if1 .taken)
-          ∙ ap (λ (b : Bool). cond b (some st) none) (sym (i .is-comment .ensures) ∙ c .if2 .left)),
-      tt,
-    )
-
-same-length : tie.Need-same-length
-same-length c = c .before .before .take-item .kept .1 .1 .1 .0
+    (step-comment itemIn _ complete _ _ false (h .holds .ensures) (i .is-comment .ensures) (i .before .if1 .taken) (c .if2 .left), tt)
 
 returns-3 : tie.Need-returns-3
 returns-3 c =
     let t = c .before .before in
     let r = t .before .before in
-    let e = r .before in
-    let s = start (e .before) in
-    let a = s .args in
-    let st = stateOf (a .list .now) (a .state) in (
-      t .take-item .ensures .0
-          ∙ (ap (λ o. bind o (act (a .n) st)) (r .read-item .ensures)
-          ∙ (said-capped (a .n) st (itemIn (a .line .now)) (s .pre .0)
-          ∙ sym (step-item itemIn (act (a .n)) complete st (a .line .now) item-empty (sym (e .before .holds .ensures) ∙ e .if1 .left)))),
+    let e = r .before in (
+      step-item itemIn _ complete _ _ item-empty (e .before .holds .ensures) (e .if1 .left) (t .take-item .ensures .0) (r .read-item .ensures) (said-capped _ _ _ (start (e .before) .pre .0)),
       t .take-item .ensures .1,
     )
 
@@ -65,5 +44,5 @@ take-line-spec =
     returns-2
     (λ c κs. search needs)
     (λ c κs. search needs)
-    same-length
+    (λ c. c .before .before .take-item .kept .1 .1 .1 .0)
     returns-3)

@@ -1,7 +1,8 @@
 -- `reader::sources::take_source` meets its contract. Assumes nothing.
 use Rattle.property.proofs.Basics.{needs, arith, _≤_, _<_, length, length-set}
-use Rattle.reader.specs.SourcesCode.{stepOf}
-use Rattle.reader.proofs.SourcesSteps.{held-inside, source-early, source-full, source-broken, source-next}
+use Rattle.dimacs.specs.Sources.{act}
+use Rattle.reader.specs.SourcesCode.{stateOf, stepOf}
+use Rattle.reader.proofs.SourcesSteps.{held-inside, source-full, source-broken, source-next}
 use Rattle.reader.proofs.sources.take_source.Statement.{statement}
 use Rattle.reader.proofs.sources.take_source.Tie as tie
 
@@ -17,8 +18,8 @@ inside c =
     omega arith
 
 returns : tie.Need-returns
-unfolding stepOf
-returns c = (source-early _ _ _ _ (c .enum-told .given .1), tt)
+unfolding stepOf stateOf act
+returns c = (rw (c .enum-told .given .1), tt)
 
 returns-2 : tie.Need-returns-2
 unfolding stepOf
@@ -33,9 +34,6 @@ returns-3 c =
     let a = start k .args in
     let m : a .n ≤ a .v = omega arith in
     (source-broken _ _ _ _ _ _ (k .state .given .1) (start k .pre) (c .before .if1 .left) m, tt)
-
-slice-write-list : tie.Need-slice-write-list
-slice-write-list c = inside (c .before)
 
 returns-4 : tie.Need-returns-4
 unfolding stepOf
@@ -59,7 +57,7 @@ take-source-spec =
     returns-2
     returns-3
     (λ c. search needs)
-    slice-write-list
+    (λ c. inside (c .before))
     (λ c. search needs)
     (λ c. search needs)
     returns-4)

@@ -4,8 +4,5 @@ use Rattle.dimacs.proofs.Digits.{is-digit}
 use Rattle.scanner.proofs.numbers.push.Statement.{statement}
 use Rattle.scanner.proofs.numbers.push.Tie as tie
 
-sub-x : tie.Need-sub-x
-sub-x c = omega (arith, is-digit (c .args .b) (c .pre .1))
-
 pub push-spec : {M : Type 1} → statement M
-push-spec = tie.close (tie.spec (λ c. search needs) sub-x (λ c. search needs) (λ c. search needs) (λ c. search needs))
+push-spec = tie.close (tie.spec (λ c. search needs) (λ c. omega (arith, is-digit (c .args .b) (c .pre .1))) (λ c. search needs) (λ c. search needs) (λ c. search needs))

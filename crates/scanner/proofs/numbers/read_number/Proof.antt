@@ -25,15 +25,6 @@ returns-3 c =
     let e = sym (c .before .is-digit .ensures) ∙ not-true _ (c .if3 .taken) in
     (sym (ap capNumber (number-bad (a .s .now) (a .at) (omega arith) (c .before .before .if2 .left) e)), omega arith)
 
-cast-scan : tie.Need-cast-scan
-cast-scan c = omega (arith, c .before .before .before .shared-slice-known2 .given (c .before .before .before .before .before .before .args .at))
-
-sub-scan : tie.Need-sub-scan
-sub-scan c = omega (arith, is-digit _ (sym (c .before .is-digit .ensures) ∙ not-false _ (c .if3 .left)))
-
-scan-requires : tie.Need-scan-requires
-scan-requires c κs = omega (arith, is-digit _ (sym (c .before .is-digit .ensures) ∙ not-false _ (c .if3 .left)))
-
 returns-4 : tie.Need-returns-4
 unfolding capNumber capScan
 returns-4 c =
@@ -54,7 +45,7 @@ read-number-spec =
     (λ c κs. search needs)
     returns-3
     (λ c. search needs)
-    cast-scan
-    sub-scan
-    scan-requires
+    (λ c. omega (arith, c .before .before .before .shared-slice-known2 .given (c .before .before .before .before .before .before .args .at)))
+    (λ c. omega (arith, is-digit _ (sym (c .before .is-digit .ensures) ∙ not-false _ (c .if3 .left))))
+    (λ c κs. omega (arith, is-digit _ (sym (c .before .is-digit .ensures) ∙ not-false _ (c .if3 .left))))
     returns-4)

@@ -1,40 +1,23 @@
 -- `scanner::numbers::read_two` meets its contract. Assumes nothing.
 use Rattle.property.proofs.Basics.{sym, ap, _∙_, needs}
-use Rattle.scanner.specs.Code.{parsed, oneOf}
+use Rattle.scanner.specs.Code.{oneOf}
 use Rattle.scanner.proofs.Fields.{put, fields-none, fields-more}
 use Rattle.scanner.proofs.numbers.read_two.Statement.{statement}
 use Rattle.scanner.proofs.numbers.read_two.Tie as tie
-
-returns : tie.Need-returns
-returns c =
-    let f = c .before .before in
-    let a = f .before .before .args in
-    sym (fields-none 1 (a .s .now) (a .at) (ap (parsed (a .s .now)) (sym (c .enum-told .given .1)) ∙ f .read-field .ensures .0))
 
 returns-2 : tie.Need-returns-2
 unfolding put
 returns-2 c =
     let o = c .before .before in
     let k = o .before .before in
-    let f = k .before .before in
-    let a = f .before .before .args in
-    sym
-    (fields-more 1 (a .s .now) (a .at) (k .a .given .0 .0) (k .a .given .0 .1 .0)
-    (ap (parsed (a .s .now)) (sym (k .a .given .1)) ∙ f .read-field .ensures .0)
-    _ (ap oneOf (sym (c .enum-told2 .given .1)) ∙ o .read-one .ensures))
+    fields-more 1 _ _ (k .before .before .read-field .ensures .0) (k .a .given .1) (ap oneOf (sym (c .enum-told2 .given .1)) ∙ o .read-one .ensures)
 
 returns-3 : tie.Need-returns-3
 unfolding put
 returns-3 c =
-    let b = c .before in
-    let o = b .before .before in
+    let o = c .before .before .before in
     let k = o .before .before in
-    let f = k .before .before in
-    let a = f .before .before .args in
-    sym
-    (fields-more 1 (a .s .now) (a .at) (k .a .given .0 .0) (k .a .given .0 .1 .0)
-    (ap (parsed (a .s .now)) (sym (k .a .given .1)) ∙ f .read-field .ensures .0)
-    _ (ap oneOf (sym (b .b .given .1)) ∙ o .read-one .ensures))
+    fields-more 1 _ _ (k .before .before .read-field .ensures .0) (k .a .given .1) (ap oneOf (sym (c .before .b .given .1)) ∙ o .read-one .ensures)
 
 pub read-two-spec : {M : Type 1} → statement M
 read-two-spec =
@@ -43,7 +26,7 @@ read-two-spec =
     (λ c κs. search needs)
     (λ c. search needs)
     (λ c. search needs)
-    returns
+    (λ c. fields-none 1 _ _ (c .before .before .read-field .ensures .0) (c .enum-told .given .1))
     (λ c κs. search needs)
     (λ c. search needs)
     (λ c. search needs)

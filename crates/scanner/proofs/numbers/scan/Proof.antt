@@ -11,18 +11,12 @@ Inv-loop s start first value₀ i₀ value i = (capScan value (drop i s) ≡ cap
 abbrev μ-loop : tie.MeasureT-loop
 μ-loop s start first value₀ i₀ value i = length s - i
 
-loop-holds : tie.Need-loop-holds Inv-loop μ-loop
-loop-holds c = (refl, search needs, search needs)
-
 returns : tie.Need-returns Inv-loop μ-loop
 returns c =
     let l = c .before .before .before .before in
     let a = l .before .before .args in
     let e = sym (c .before .is-digit .ensures) ∙ not-true _ (c .if1 .taken) in
     (sym (scan-stop (a .s .now) (l .loop .i) (l .loop .value) (omega arith) e (l .loop .inv .2)) ∙ l .loop .inv .0, l .loop .inv .1)
-
-push-requires : tie.Need-push-requires Inv-loop μ-loop
-push-requires c κs = (search needs, sym (c .before .is-digit .ensures) ∙ not-false _ (c .if1 .left))
 
 loop-again : tie.Need-loop-again Inv-loop μ-loop
 loop-again c =
@@ -46,11 +40,11 @@ scan-spec =
     (tie.spec
     Inv-loop
     μ-loop
-    loop-holds
+    (λ c. (refl, search needs, search needs))
     (λ c. search needs)
     (λ c κs. search needs)
     returns
-    push-requires
+    (λ c κs. (search needs, sym (c .before .is-digit .ensures) ∙ not-false _ (c .if1 .left)))
     (λ c. search needs)
     (λ c. search needs)
     loop-again

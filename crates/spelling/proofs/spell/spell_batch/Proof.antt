@@ -6,9 +6,6 @@ use Rattle.spelling.proofs.Telling.{setAll-over, setAll-within, refused
 use Rattle.spelling.proofs.spell.spell_batch.Statement.{statement}
 use Rattle.spelling.proofs.spell.spell_batch.Tie as tie
 
-slice-write-reply-2 : tie.Need-slice-write-reply-2
-slice-write-reply-2 c = setAll-within (c .before .before .r .given .0 .0 .count ∷ []) (c .before .before .before .before .args .reply .now) 1 (omega arith)
-
 slice-write-reply-3 : tie.Need-slice-write-reply-3
 slice-write-reply-3 c = setAll-within (c .before .before .r .given .0 .0 .count ∷ c .before .before .r .given .0 .0 .affected ∷ []) (c .before .before .before .before .args .reply .now) 2 (omega arith)
 
@@ -32,7 +29,7 @@ spell-batch-spec =
     (λ c. search needs)
     (λ c. search needs)
     (λ c. search needs)
-    slice-write-reply-2
+    (λ c. setAll-within (c .before .before .r .given .0 .0 .count ∷ []) (c .before .before .before .before .args .reply .now) 1 (omega arith))
     slice-write-reply-3
     (λ c. search needs)
     (λ c. search needs)

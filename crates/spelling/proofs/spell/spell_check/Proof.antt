@@ -7,15 +7,6 @@ use Rattle.spelling.proofs.Telling.{setAll-over, setAll-within, refused
 use Rattle.spelling.proofs.spell.spell_check.Statement.{statement}
 use Rattle.spelling.proofs.spell.spell_check.Tie as tie
 
-slice-write-reply-3 : tie.Need-slice-write-reply-3
-slice-write-reply-3 c = setAll-within (0 ∷ []) (c .before .before .before .args .reply .now) 1 (omega arith)
-
-slice-write-reply-4 : tie.Need-slice-write-reply-4
-slice-write-reply-4 c = setAll-within (0 ∷ c .before .r .given .0 .0 ∷ []) (c .before .before .before .args .reply .now) 2 (omega arith)
-
-slice-write-reply-5 : tie.Need-slice-write-reply-5
-slice-write-reply-5 c = setAll-within (0 ∷ c .before .r .given .0 .0 ∷ c .before .r .given .0 .1 .0 ∷ []) (c .before .before .before .args .reply .now) 3 (omega arith)
-
 returns : tie.Need-returns
 unfolding checking checkWords
 returns c =
@@ -44,9 +35,9 @@ spell-check-spec =
     (λ c. search needs)
     (λ c. search needs)
     (λ c. search needs)
-    slice-write-reply-3
-    slice-write-reply-4
-    slice-write-reply-5
+    (λ c. setAll-within (0 ∷ []) (c .before .before .before .args .reply .now) 1 (omega arith))
+    (λ c. setAll-within (0 ∷ c .before .r .given .0 .0 ∷ []) (c .before .before .before .args .reply .now) 2 (omega arith))
+    (λ c. setAll-within (0 ∷ c .before .r .given .0 .0 ∷ c .before .r .given .0 .1 .0 ∷ []) (c .before .before .before .args .reply .now) 3 (omega arith))
     (λ c. search needs)
     (λ c. search needs)
     (λ c. search needs)

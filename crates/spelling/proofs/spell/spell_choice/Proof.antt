@@ -5,12 +5,6 @@ use Rattle.spelling.proofs.Choosing.{choice-refused, choice-accepted}
 use Rattle.spelling.proofs.spell.spell_choice.Statement.{statement}
 use Rattle.spelling.proofs.spell.spell_choice.Tie as tie
 
-returns : tie.Need-returns
-returns c = let s = c .before .before .before in choice-refused (s .args .r) (s .args .reply .now) (omega arith) _ _ (c .before .verdict .given .1)
-
-slice-write-reply-3 : tie.Need-slice-write-reply-3
-slice-write-reply-3 c = setAll-within (c .before .before .before .before .args .r .choice .count ∷ []) (c .before .before .before .before .args .reply .now) 1 (omega arith)
-
 slice-write-reply-4 : tie.Need-slice-write-reply-4
 slice-write-reply-4 c = setAll-within (c .before .before .before .before .args .r .choice .count ∷ getD (c .before .before .before .before .args .r .choice .vertices) 0 0 ∷ []) (c .before .before .before .before .args .reply .now) 2 (omega arith)
 
@@ -20,9 +14,6 @@ slice-write-reply-5 c = setAll-within (c .before .before .before .before .args .
 slice-write-reply-6 : tie.Need-slice-write-reply-6
 slice-write-reply-6 c = setAll-within (c .before .before .before .before .args .r .choice .count ∷ getD (c .before .before .before .before .args .r .choice .vertices) 0 0 ∷ getD (c .before .before .before .before .args .r .choice .vertices) 1 0 ∷ getD (c .before .before .before .before .args .r .choice .vertices) 2 0 ∷ []) (c .before .before .before .before .args .reply .now) 4 (omega arith)
 
-returns-2 : tie.Need-returns-2
-returns-2 c = let s = c .before .before .before .before in choice-accepted (s .args .r) (s .args .reply .now) (omega arith) (c .before .before .enum-told .given .1) (search needs)
-
 pub spell-choice-spec : {M : Type 1} → statement M
 spell-choice-spec =
     tie.close
@@ -30,12 +21,12 @@ spell-choice-spec =
     (λ c. search needs)
     (λ c. search needs)
     (λ c. search needs)
-    returns
+    (λ c. let s = c .before .before .before in choice-refused (s .args .r) (s .args .reply .now) (omega arith) _ _ (c .before .verdict .given .1))
     (λ c. search needs)
     (λ c. search needs)
     (λ c. search needs)
     (λ c. search needs)
-    slice-write-reply-3
+    (λ c. setAll-within (c .before .before .before .before .args .r .choice .count ∷ []) (c .before .before .before .before .args .reply .now) 1 (omega arith))
     (λ c. search needs)
     (λ c. search needs)
     slice-write-reply-4
@@ -46,4 +37,4 @@ spell-choice-spec =
     (λ c. search needs)
     slice-write-reply-6
     (λ c. search needs)
-    returns-2)
+    (λ c. let s = c .before .before .before .before in choice-accepted (s .args .r) (s .args .reply .now) (omega arith) (c .before .before .enum-told .given .1) (search needs)))

@@ -7,12 +7,6 @@ use Rattle.spelling.proofs.Telling.{setAll-over, setAll-within, refused
 use Rattle.spelling.proofs.spell.spell_query.Statement.{statement}
 use Rattle.spelling.proofs.spell.spell_query.Tie as tie
 
-slice-write-reply-2 : tie.Need-slice-write-reply-2
-slice-write-reply-2 c = setAll-within (c .before .r .given .0 .0 .taken ∷ []) (c .before .before .before .args .reply .now) 1 (omega arith)
-
-slice-write-reply-3 : tie.Need-slice-write-reply-3
-slice-write-reply-3 c = setAll-within (c .before .r .given .0 .0 .taken ∷ c .before .r .given .0 .0 .rounds ∷ []) (c .before .before .before .args .reply .now) 2 (omega arith)
-
 returns : tie.Need-returns
 unfolding answering
 returns c =
@@ -32,8 +26,8 @@ spell-query-spec =
     (tie.spec
     (λ c. search needs)
     (λ c. search needs)
-    slice-write-reply-2
-    slice-write-reply-3
+    (λ c. setAll-within (c .before .r .given .0 .0 .taken ∷ []) (c .before .before .before .args .reply .now) 1 (omega arith))
+    (λ c. setAll-within (c .before .r .given .0 .0 .taken ∷ c .before .r .given .0 .0 .rounds ∷ []) (c .before .before .before .args .reply .now) 2 (omega arith))
     (λ c. search needs)
     (λ c. search needs)
     (λ c. search needs)

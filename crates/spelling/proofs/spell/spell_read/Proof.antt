@@ -6,9 +6,6 @@ use Rattle.spelling.proofs.Telling.{setAll-over, setAll-within, refused
 use Rattle.spelling.proofs.spell.spell_read.Statement.{statement}
 use Rattle.spelling.proofs.spell.spell_read.Tie as tie
 
-slice-write-reply-2 : tie.Need-slice-write-reply-2
-slice-write-reply-2 c = setAll-within (c .before .r .given .0 .0 ∷ []) (c .before .before .before .args .reply .now) 1 (omega arith)
-
 returns : tie.Need-returns
 unfolding reading
 returns c =
@@ -30,7 +27,7 @@ spell-read-spec =
     (λ c. search needs)
     (λ c. search needs)
     (λ c. search needs)
-    slice-write-reply-2
+    (λ c. setAll-within (c .before .r .given .0 .0 ∷ []) (c .before .before .before .args .reply .now) 1 (omega arith))
     (λ c. search needs)
     (λ c. search needs)
     (λ c. search needs)

@@ -12,9 +12,6 @@ Inv-loop changes j out₀ i₀ out i = (out ≡ paste out₀ 0 (wordsAt j change
 abbrev μ-loop : tie.MeasureT-loop
 μ-loop changes j out₀ i₀ out i = length changes - i
 
-loop-holds : tie.Need-loop-holds Inv-loop μ-loop
-loop-holds c = (paste-zero (c .args .out .now) 0 (wordsAt (c .args .j) (c .args .changes .now)), search needs, refl)
-
 loop-again : tie.Need-loop-again Inv-loop μ-loop
 loop-again c =
     let l = c .before .before in
@@ -39,7 +36,7 @@ column-spec =
     (tie.spec
     Inv-loop
     μ-loop
-    loop-holds
+    (λ c. (paste-zero (c .args .out .now) 0 (wordsAt (c .args .j) (c .args .changes .now)), search needs, refl))
     (λ c. search needs)
     (λ c. search needs)
     (λ c. search needs)

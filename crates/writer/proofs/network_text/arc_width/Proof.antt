@@ -6,9 +6,6 @@ use Rattle.writer.proofs.Text.{arc-fields, line-length}
 use Rattle.writer.proofs.network_text.arc_width.Statement.{statement}
 use Rattle.writer.proofs.network_text.arc_width.Tie as tie
 
-add-result : tie.Need-add-result
-add-result c = omega (arith, c .fields-width .ensures .1)
-
 returns : tie.Need-returns
 returns c =
     let a = c .before .before .args in
@@ -17,4 +14,4 @@ returns c =
 pub arc-width-spec : {M : Type 1} → statement M
 arc-width-spec =
     tie.close
-    (tie.spec (λ c. search needs) (λ c. search needs) (λ c. search needs) (λ c κs. search needs) add-result returns)
+    (tie.spec (λ c. search needs) (λ c. search needs) (λ c. search needs) (λ c κs. search needs) (λ c. omega (arith, c .fields-width .ensures .1)) returns)

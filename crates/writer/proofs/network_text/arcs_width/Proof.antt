@@ -13,12 +13,6 @@ Inv-loop tails heads weights count sum₀ k₀ sum k =
 abbrev μ-loop : tie.MeasureT-loop
 μ-loop tails heads weights count sum₀ k₀ sum k = count - k
 
-loop-holds : tie.Need-loop-holds Inv-loop μ-loop
-loop-holds c = (omega arith, omega arith, omega arith)
-
-add-sum : tie.Need-add-sum Inv-loop μ-loop
-add-sum c = omega (arith, c .arc-width .ensures .1)
-
 loop-again : tie.Need-loop-again Inv-loop μ-loop
 loop-again c =
     let l = c .before .before .before .before .before in
@@ -41,7 +35,7 @@ arcs-width-spec =
     (tie.spec
     Inv-loop
     μ-loop
-    loop-holds
+    (λ c. (omega arith, omega arith, omega arith))
     (λ c. search needs)
     (λ c. omega arith)
     (λ c. search needs)
@@ -49,7 +43,7 @@ arcs-width-spec =
     (λ c. search needs)
     (λ c. omega arith)
     (λ c κs. search needs)
-    add-sum
+    (λ c. omega (arith, c .arc-width .ensures .1))
     (λ c. search needs)
     (λ c. search needs)
     loop-again

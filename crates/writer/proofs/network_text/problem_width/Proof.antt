@@ -6,9 +6,6 @@ use Rattle.writer.proofs.Text.{problem-fields, line-length}
 use Rattle.writer.proofs.network_text.problem_width.Statement.{statement}
 use Rattle.writer.proofs.network_text.problem_width.Tie as tie
 
-add-result : tie.Need-add-result
-add-result c = omega (arith, c .fields-width .ensures .1)
-
 returns : tie.Need-returns
 returns c =
     let a = c .before .before .args in
@@ -16,4 +13,4 @@ returns c =
 
 pub problem-width-spec : {M : Type 1} → statement M
 problem-width-spec =
-    tie.close (tie.spec (λ c. search needs) (λ c κs. search needs) add-result returns)
+    tie.close (tie.spec (λ c. search needs) (λ c κs. search needs) (λ c. omega (arith, c .fields-width .ensures .1)) returns)

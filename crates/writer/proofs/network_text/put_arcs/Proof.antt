@@ -15,9 +15,6 @@ Inv-loop tails heads weights count at out₀ end₀ k₀ out end k =
 abbrev μ-loop : tie.MeasureT-loop
 μ-loop tails heads weights count at out₀ end₀ k₀ out end k = count - k
 
-loop-holds : tie.Need-loop-holds Inv-loop μ-loop
-loop-holds c = (pending-start (c .before .before .before .before .pre .1), omega arith)
-
 put-arc-requires : tie.Need-put-arc-requires Inv-loop μ-loop
 put-arc-requires c κs =
     let l = c .before .before .before .before .before in
@@ -40,9 +37,6 @@ loop-again c =
       omega arith,
     )
 
-same-length : tie.Need-same-length Inv-loop μ-loop
-same-length c = c .before .loop .inv .0 .same
-
 returns : tie.Need-returns Inv-loop μ-loop
 returns c =
     let l = c .before in
@@ -55,7 +49,7 @@ put-arcs-spec =
     (tie.spec
     Inv-loop
     μ-loop
-    loop-holds
+    (λ c. (pending-start (c .before .before .before .before .pre .1), omega arith))
     (λ c. search needs)
     (λ c. search needs)
     (λ c. search needs)
@@ -66,5 +60,5 @@ put-arcs-spec =
     (λ c. search needs)
     (λ c. search needs)
     loop-again
-    same-length
+    (λ c. c .before .loop .inv .0 .same)
     returns)

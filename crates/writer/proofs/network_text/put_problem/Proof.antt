@@ -4,9 +4,6 @@ use Rattle.writer.proofs.Text.{problem-fields}
 use Rattle.writer.proofs.network_text.put_problem.Statement.{statement}
 use Rattle.writer.proofs.network_text.put_problem.Tie as tie
 
-put-line-requires : tie.Need-put-line-requires
-put-line-requires c κs = rw (problem-fields (c .before .before .before .before .args .n) (c .before .before .before .before .args .count)) at (c .before .before .before .before .pre)
-
 returns : tie.Need-returns
 returns c =
     let l = c .before .before in
@@ -19,6 +16,6 @@ put-problem-spec =
     (tie.spec
     (λ c. search needs)
     (λ c. search needs)
-    put-line-requires
+    (λ c κs. rw (problem-fields (c .before .before .before .before .args .n) (c .before .before .before .before .args .count)) at (c .before .before .before .before .pre))
     (λ c. search needs)
     returns)

@@ -12,20 +12,11 @@ Inv-loop values sum₀ i₀ sum i = (sum + length (fieldsOf (drop i values)) ≡
 abbrev μ-loop : tie.MeasureT-loop
 μ-loop values sum₀ i₀ sum i = length values - i
 
-loop-holds : tie.Need-loop-holds Inv-loop μ-loop
-loop-holds c = (omega arith, omega arith, omega arith)
-
 -- a number takes at most 20 bytes
 most : (c : tie.After-width Inv-loop μ-loop) → c .width .result ≤ 20
 most c =
     let l = c .before .before .before in
     rw (c .width .ensures) (width-word (getD (l .before .before .args .values .now) (l .loop .i) 0) (omega (arith, c .before .shared-slice-known2 .given (l .loop .i))))
-
-add-sum : tie.Need-add-sum Inv-loop μ-loop
-add-sum c = omega (arith, most c)
-
-add-sum-2 : tie.Need-add-sum-2 Inv-loop μ-loop
-add-sum-2 c = omega (arith, most c)
 
 loop-again : tie.Need-loop-again Inv-loop μ-loop
 loop-again c =
@@ -45,12 +36,12 @@ fields-width-spec =
     (tie.spec
     Inv-loop
     μ-loop
-    loop-holds
+    (λ c. (omega arith, omega arith, omega arith))
     (λ c. search needs)
     (λ c. search needs)
     (λ c κs. search needs)
-    add-sum
-    add-sum-2
+    (λ c. omega (arith, most c))
+    (λ c. omega (arith, most c))
     (λ c. search needs)
     (λ c. search needs)
     loop-again

@@ -12,9 +12,6 @@ Inv-loop values at out₀ end₀ i₀ out end i = Pending (fieldsOf values) at o
 abbrev μ-loop : tie.MeasureT-loop
 μ-loop values at out₀ end₀ i₀ out end i = length values - i
 
-loop-holds : tie.Need-loop-holds Inv-loop μ-loop
-loop-holds c = (pending-start (c .before .before .pre), omega arith)
-
 put-field-requires : tie.Need-put-field-requires Inv-loop μ-loop
 put-field-requires c κs =
     let l = c .before .before .before in
@@ -28,9 +25,6 @@ loop-again c =
     let vs = l .before .before .before .args .values .now in
     (pending-turn (l .loop .inv .0) _ (fieldsOf (drop (l .loop .i + 1) vs)) (fields-more vs (l .loop .i) (omega arith)) (f .put-field .ensures), omega arith)
 
-same-length : tie.Need-same-length Inv-loop μ-loop
-same-length c = c .before .loop .inv .0 .same
-
 returns : tie.Need-returns Inv-loop μ-loop
 returns c =
     let l = c .before in
@@ -42,12 +36,12 @@ put-fields-spec =
     (tie.spec
     Inv-loop
     μ-loop
-    loop-holds
+    (λ c. (pending-start (c .before .before .pre), omega arith))
     (λ c. search needs)
     (λ c. search needs)
     put-field-requires
     (λ c. search needs)
     (λ c. search needs)
     loop-again
-    same-length
+    (λ c. c .before .loop .inv .0 .same)
     returns)

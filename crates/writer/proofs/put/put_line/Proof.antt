@@ -26,13 +26,10 @@ put-word-requires c κs =
     let s = c .before .before .before .before in
     pending-fits (pending-start (s .pre)) (s .args .word .now) (rest s) (parts s)
 
-end-line-requires : tie.Need-end-line-requires
-end-line-requires c κs = after-first (c .before .before .before) .fits
-
 returns : tie.Need-returns
 returns c =
     let e = c .before .before in
     pending-last (after-first (e .before .before .before .before)) (e .end-line .ensures)
 
 pub put-line-spec : {M : Type 1} → statement M
-put-line-spec = tie.close (tie.spec put-word-requires end-line-requires (λ c. search needs) returns)
+put-line-spec = tie.close (tie.spec put-word-requires (λ c κs. after-first (c .before .before .before) .fits) (λ c. search needs) returns)

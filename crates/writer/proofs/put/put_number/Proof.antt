@@ -13,12 +13,6 @@ Inv-loop v at out₀ end i₀ w₀ out i w =
 abbrev μ-loop : tie.MeasureT-loop
 μ-loop v at out₀ end i₀ w₀ out i w = i
 
-width-requires : tie.Need-width-requires Inv-loop μ-loop
-width-requires c κs = tt
-
-add-end : tie.Need-add-end Inv-loop μ-loop
-add-end c = omega (arith, c .width .ensures)
-
 loop-holds : tie.Need-loop-holds Inv-loop μ-loop
 loop-holds c =
     let a = c .before .before .args in
@@ -41,9 +35,6 @@ loop-again c =
       l .loop .inv .4,
     )
 
-same-length : tie.Need-same-length Inv-loop μ-loop
-same-length c = c .before .loop .inv .3
-
 returns : tie.Need-returns Inv-loop μ-loop
 returns c =
     let l = c .before in
@@ -63,8 +54,8 @@ put-number-spec =
     (tie.spec
     Inv-loop
     μ-loop
-    width-requires
-    add-end
+    (λ c κs. tt)
+    (λ c. omega (arith, c .width .ensures))
     loop-holds
     (λ c. omega arith)
     (λ c. omega arith)
@@ -72,5 +63,5 @@ put-number-spec =
     (λ c. omega arith)
     (λ c. omega arith)
     loop-again
-    same-length
+    (λ c. c .before .loop .inv .3)
     returns)

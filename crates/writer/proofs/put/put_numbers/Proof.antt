@@ -27,13 +27,10 @@ put-number-requires c κs =
     let s = c .before .before .before in
     pending-fits (pending-start (s .pre)) (digits (s .args .first)) (rest s) (parts s)
 
-end-line-requires : tie.Need-end-line-requires
-end-line-requires c κs = after-first (c .before .before .before) .fits
-
 returns : tie.Need-returns
 returns c =
     let e = c .before .before in
     pending-last (after-first (e .before .before .before .before)) (e .end-line .ensures)
 
 pub put-numbers-spec : {M : Type 1} → statement M
-put-numbers-spec = tie.close (tie.spec put-number-requires end-line-requires (λ c. search needs) returns)
+put-numbers-spec = tie.close (tie.spec put-number-requires (λ c κs. after-first (c .before .before .before) .fits) (λ c. search needs) returns)

@@ -11,9 +11,6 @@ Inv-loop word at out₀ i₀ out i = (out ≡ paste out₀ at word i) × (i ≤ 
 abbrev μ-loop : tie.MeasureT-loop
 μ-loop word at out₀ i₀ out i = length word - i
 
-loop-holds : tie.Need-loop-holds Inv-loop μ-loop
-loop-holds c = (paste-zero (c .args .out .now) (c .args .at) (c .args .word .now), search needs, refl)
-
 loop-again : tie.Need-loop-again Inv-loop μ-loop
 loop-again c =
     let l = c .before .before in
@@ -35,7 +32,7 @@ put-word-spec =
     (tie.spec
     Inv-loop
     μ-loop
-    loop-holds
+    (λ c. (paste-zero (c .args .out .now) (c .args .at) (c .args .word .now), search needs, refl))
     (λ c. search needs)
     (λ c. search needs)
     (λ c. search needs)

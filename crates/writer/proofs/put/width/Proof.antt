@@ -11,9 +11,6 @@ Inv-loop v n₀ w₀ n w = (n + length (digits w) ≡ 1 + length (digits v)) × 
 abbrev μ-loop : tie.MeasureT-loop
 μ-loop v n₀ w₀ n w = w
 
-loop-holds : tie.Need-loop-holds Inv-loop μ-loop
-loop-holds c = (refl, omega arith)
-
 loop-again : tie.Need-loop-again Inv-loop μ-loop
 loop-again c =
     let l = c .before in
@@ -27,4 +24,4 @@ returns c =
     omega (arith, width-small (l .loop .w) b)
 
 pub width-spec : {M : Type 1} → statement M
-width-spec = tie.close (tie.spec Inv-loop μ-loop loop-holds (λ c. omega arith) (λ c. omega arith) loop-again returns)
+width-spec = tie.close (tie.spec Inv-loop μ-loop (λ c. (refl, omega arith)) (λ c. omega arith) (λ c. omega arith) loop-again returns)

@@ -1,8 +1,8 @@
--- `plain_batch::count_changes` meets its contract. Assumes nothing.
+-- `items::count_changes` meets its contract. Assumes nothing.
 use Rattle.property.proofs.Basics.{needs, _∙_}
-use Rattle.plain_batch.proofs.Calling.{changes-length}
-use Rattle.plain_batch.proofs.count_changes.Statement.{statement}
-use Rattle.plain_batch.proofs.count_changes.Tie as tie
+use Rattle.items.proofs.Editing.{changes-length}
+use Rattle.items.proofs.count_changes.Statement.{statement}
+use Rattle.items.proofs.count_changes.Tie as tie
 
 returns : tie.Need-returns
 returns c =
