@@ -9,7 +9,7 @@ use Rattle.frontier.proofs.Laws.{count-remove}
 use Rattle.graph.specs.Limits.{maxVertices}
 use Rattle.graph.specs.Arc.{arcHead}
 use Rattle.graph.specs.Edge.{Edge, edge}
-use Rattle.graph.specs.Index.{part, own, Own}
+use Rattle.graph.specs.Index.{Fit, part, own, Own}
 use Rattle.graph.proofs.Tests.{both, and-true, or-right}
 use Rattle.graph.proofs.Lists.{replicate-at, getD-within, at-set}
 use Rattle.graph.proofs.Edges.{leaving-in, in-leaving}
@@ -118,6 +118,13 @@ module _ {P : Property} {n s : ℕ} {f : ℕ → Edge} {on : ℕ → Bool} {j : 
     }
 
 -- ---- an index has the edges of a vertex
+
+-- an arc of u lies within the list, and its head is a vertex
+pub fit-arc : {n : ℕ} {is : List ℕ} → Fit n is → (u k : ℕ) → u < n → getD is u 0 ≤ k → k < getD is (u + 1) 0 → (k < length is) × (arcHead (getD is k 0) < n)
+fit-arc f u k h a b =
+    let w = f .within u h in
+    let x = f .after u (omega arith) in
+    (omega (arith, f .last), f .inside k (omega arith) (omega arith))
 
 part-mem : (is : List ℕ) (u j c k : ℕ) → j ≤ k → k < j + c → List·Memᴰ (arcEdge is u k) (part is u j c)
 unfolding part
