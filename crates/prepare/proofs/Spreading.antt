@@ -1,6 +1,6 @@
 -- Marks that go on from vertex to vertex: what one edge does, what the listed edges and the edges of one vertex do, and that the marks
 -- are those of the affected vertices once nothing is to do. Assumes nothing.
-use Rattle.property.proofs.Basics.{_≡_, refl, sym, ap, _∙_, _⊎_, inl, inr, ⊎-elim, Bool, true, false, not, _&&_, _||_, cond, true≢false, false≢true, List, [], _∷_, List·Memᴰ, List·Memᴰ·head, List·Memᴰ·tail, List·Memᴰ·cases-cons, List·Memᴰ·not-nil, ℕ, zero, suc, _+_, _-_, _*_, _≤_, _<_, ℕ-discrete, arith, length, getD, set, replicate, getD-set-same, getD-set-other, ltb-true, lt-ltb, not-true}
+use Rattle.property.proofs.Basics.{_≡_, refl, sym, ap, _∙_, _⊎_, inl, inr, ⊎-elim, Bool, true, false, not, _&&_, _||_, cond, true≢false, false≢true, List, List·Memᴰ, List·Memᴰ·head, List·Memᴰ·tail, List·Memᴰ·cases-cons, List·Memᴰ·not-nil, ℕ, zero, suc, _+_, _-_, _*_, _≤_, _<_, ℕ-discrete, arith, length, getD, set, replicate, getD-set-same, getD-set-other, ltb-true, lt-ltb, not-true}
 use Rattle.property.specs.Property.{Property}
 use Rattle.property.proofs.Tests.{is-false, by-test}
 use Rattle.frontier.specs.Waiting.{waitingOf, capacity, countOf}
@@ -16,7 +16,7 @@ use Rattle.graph.proofs.Edges.{leaving-in, in-leaving}
 use Rattle.run.specs.Run.{word}
 use Rattle.run.specs.Code.{bits, Marks}
 use Rattle.run.proofs.States.{marks-set, marks-clear}
-use Rattle.affected.specs.Affected.{removed, Named, held, marked, affected}
+use Rattle.affected.specs.Affected.{removed, held, marked, affected}
 use Rattle.compare.specs.Code.{before, pairs, Lists}
 use Rattle.prepare.specs.Code.{arcEdge, holds, Going, Grown, marksHead, Gone, HeadsMarked, Along, Covered, Spreads}
 use Rattle.prepare.proofs.Bits.{raise-keeps, raise-only, raise-count, bits-all, bits-length, marks-if}
