@@ -1,12 +1,12 @@
 -- Rows written one by one, each behind the rows before it. Assumes nothing.
-use Rattle.property.proofs.Basics.{_≡_, refl, sym, ap, _∙_, Bool, true, false, _||_, List, [], _∷_, _++_, map, append-assoc, append-nil, ℕ, zero, suc, _+_, _-_, _*_, _≤_, zero-mul, suc-mul, add-one, arith, length, take, drop, length-append, take-at, take-all, length-take-le}
-use mathlib.Core.Bool.{or-false}
+use Rattle.property.proofs.Basics.{_≡_, refl, sym, ap, _∙_, List, [], _∷_, _++_, map, append-assoc, append-nil, ℕ, zero, suc, _+_, _-_, _*_, _≤_, add-one, arith, length, take, drop, length-append, take-at, drop-at, drop-drop}
 use borrow.Rule.Slice.PartMut.{putMid, mid-len}
-use Rattle.frontier.specs.Waiting.{anyOf}
+use Rattle.graph.specs.Refusal.{over}
 use Rattle.graph.specs.Edge.{range}
+use Rattle.graph.proofs.Lists.{length-range}
 use Rattle.run.specs.Run.{State}
-use Rattle.network.specs.Network.{flat, unsettled}
-use Rattle.calls.specs.Code.{IsRow, AreRows}
+use Rattle.network.specs.Network.{flat}
+use Rattle.network.proofs.Rows.{length-flat}
 
 -- the part of a row that ends within a list has n words
 pub row-size : (n a : ℕ) (xs : List ℕ) → a + n ≤ length xs → length (take (a + n - a) (drop a xs)) ≡ n
@@ -30,6 +30,11 @@ range-suc r =
     let e : 0 + r ≡ r = omega arith in
     rw (add-one, range-snoc 0 r, e)
 
+-- words put behind those that stand over a list already
+pub over-more : (us vs xs : List ℕ) (i j : ℕ) → length us ≡ i → length vs ≡ j → putMid i j (over us xs) vs ≡ over (us ++ vs) xs
+over-more us vs xs i j p q =
+    rw (take-at us (drop (length us) xs) i p, drop-at us (drop (length us) xs) i p, drop-drop j (length us) xs, length-append us vs, sym q) (sym (append-assoc us vs _))
+
 -- f r is the state in which the run of row r ends
 module _ (f : ℕ → State) where
   pub flat-snoc : (rs : List ℕ) (r : ℕ) → flat (map f (rs ++ (r ∷ []))) ≡ flat (map f rs) ++ (f r) .words
@@ -37,55 +42,15 @@ module _ (f : ℕ → State) where
   flat-snoc [] r = append-nil ((f r) .words)
   flat-snoc (x ∷ rs) r = ap (λ l. (f x) .words ++ l) (flat-snoc rs r) ∙ sym (append-assoc ((f x) .words) (flat (map f rs)) ((f r) .words))
 
-  unsettled-snoc : (rs : List ℕ) (r : ℕ) → unsettled (map f (rs ++ (r ∷ []))) ≡ (unsettled (map f rs) || anyOf ((f r) .waiting))
-  unfolding unsettled
-  unsettled-snoc [] r = or-false (anyOf ((f r) .waiting))
-  unsettled-snoc (x ∷ rs) r = pick (anyOf ((f x) .waiting)) _ (unsettled (map f rs)) (anyOf ((f r) .waiting)) (unsettled-snoc rs r)
-    where
-      pick : (b c d e : Bool) → c ≡ (d || e) → (b || c) ≡ ((b || d) || e)
-      pick true c d e p = refl
-      pick false c d e p = p
+  -- ---- the loop that writes them over a list: nothing at first, a row more at each turn
 
-  -- ---- the loop that writes them: nothing at first, a row more at each turn, all in the end
-
-  pub flat-none : (n : ℕ) (xs : List ℕ) → take (0 * n) xs ≡ flat (map f (range 0 0))
+  pub over-none : (xs : List ℕ) → xs ≡ over (flat (map f (range 0 0))) xs
   unfolding flat range
-  flat-none n xs = rw zero-mul
+  over-none xs = refl
 
-  pub unsettled-none : false ≡ unsettled (map f (range 0 0))
-  unfolding unsettled range
-  unsettled-none = refl
-
-  module _ (n r : ℕ) where
-    -- ys is put in the place of the k words from the row's start on
-    pub flat-turn : (k : ℕ) (xs ys : List ℕ) → r * n ≤ length xs → length ys ≡ n → take (r * n) xs ≡ flat (map f (range 0 r)) → ys ≡ (f r) .words
-        → take ((r + 1) * n) (putMid (r * n) k xs ys) ≡ flat (map f (range 0 (r + 1)))
-    flat-turn k xs ys h l e q =
-        ap (take ((r + 1) * n)) (sym (append-assoc (take (r * n) xs) ys (drop k (drop (r * n) xs))))
-        ∙ take-at (take (r * n) xs ++ ys) (drop k (drop (r * n) xs)) ((r + 1) * n) size
-        ∙ rw (e, q, range-suc r) (sym (flat-snoc (range 0 r) r))
-      where
-        size : length (take (r * n) xs ++ ys) ≡ (r + 1) * n
-        size =
-            let a = length-append (take (r * n) xs) ys in
-            let b = length-take-le (r * n) xs h in
-            let c = suc-mul r n in
-            rw add-one (omega arith)
-
-    pub unsettled-turn : (b d : Bool) → b ≡ unsettled (map f (range 0 r)) → d ≡ anyOf ((f r) .waiting) → (b || d) ≡ unsettled (map f (range 0 (r + 1)))
-    unsettled-turn b d e q = rw (e, q, range-suc r) (sym (unsettled-snoc (range 0 r) r))
-
-  pub flat-done : (n r k : ℕ) (xs : List ℕ) → r ≡ k → length xs ≡ k * n → take (r * n) xs ≡ flat (map f (range 0 r)) → xs ≡ flat (map f (range 0 k))
-  flat-done n r k xs e l h = sym (take-all (k * n) xs (omega arith)) ∙ (rw e at h)
-
-  -- ---- the same of the words and of whether some vertex waits, together
-
-  pub rows-none : (n : ℕ) (xs : List ℕ) → AreRows (map f (range 0 0)) (take (0 * n) xs) false
-  rows-none n xs = record { words = flat-none n xs; waits = unsettled-none }
-
-  pub rows-turn : (n r k : ℕ) (xs ys : List ℕ) (b d : Bool) → r * n ≤ length xs → length ys ≡ n → AreRows (map f (range 0 r)) (take (r * n) xs) b → IsRow (f r) ys d
-      → AreRows (map f (range 0 (r + 1))) (take ((r + 1) * n) (putMid (r * n) k xs ys)) (b || d)
-  rows-turn n r k xs ys b d h l e q = record { words = flat-turn n r k xs ys h l (e .words) (q .words); waits = unsettled-turn n r b d (e .waits) (q .waits) }
-
-  pub rows-done : (n r k : ℕ) (xs : List ℕ) (b : Bool) → r ≡ k → length xs ≡ k * n → AreRows (map f (range 0 r)) (take (r * n) xs) b → AreRows (map f (range 0 k)) xs b
-  rows-done n r k xs b e l h = record { words = flat-done n r k xs e l (h .words); waits = rw e at (h .waits) }
+  pub over-turn : (n : ℕ) → ((r : ℕ) → length ((f r) .words) ≡ n) → (r : ℕ) (xs ys zs : List ℕ) → ys ≡ over (flat (map f (range 0 r))) xs → zs ≡ (f r) .words
+      → putMid (r * n) (r * n + n - r * n) ys zs ≡ over (flat (map f (range 0 (r + 1)))) xs
+  over-turn n sized r xs ys zs e q =
+      let p : r * n + n - r * n ≡ n = omega arith in
+      let l : length (flat (map f (range 0 r))) ≡ r * n = length-flat n f sized (range 0 r) ∙ rw (length-range 0 r) in
+      rw (p, e, q, range-suc r, flat-snoc (range 0 r) r) (over-more (flat (map f (range 0 r))) ((f r) .words) xs (r * n) n l (sized r))

@@ -1,4 +1,4 @@
--- What the calls on a network share: lists as what is lent, what a row's functions ask and answer. Assumes nothing.
+-- What the calls on a network share: lists as what is lent, what a row's functions ask. Assumes nothing.
 --
 --   rowLists f b                 == two lists as the landmark rows
 --   lists ts hs ws f b           == five lists as the memory of a network
@@ -7,21 +7,16 @@
 --   Tabled n m ts hs ws          == three lists with room for every edge hold m edges that keep the rules of n vertices
 --   Openable n m ls ts hs ws     == the rows of a table may be run: it has m edges that keep the rules for n vertices, and the landmarks
 --                                   are placed
---   IsRow st xs b                == xs are the words of a run's state, and b is whether some vertex waits in it
---   AreRows sts xs b             == xs are the words of the rows, one after the other, and b is whether some vertex waits in some row
 use mathlib.Core.Path.{_≡_}
-use mathlib.Core.Bool.{Bool}
 use mathlib.Core.List.{List}
 use Prim.Native.Nat.{ℕ, _≤_, _<_}
 use lib.ListN.{length, getD}
-use Rattle.frontier.specs.Waiting.{anyOf}
 use Rattle.graph.specs.Limits.{maxVertices, maxEdges, maxLandmarks}
 use Rattle.graph.specs.Refusal.{accept}
 use Rattle.graph.specs.Edge.{edges}
 use Rattle.graph.specs.Table as table
 use Rattle.graph.specs.Code.{Room, columns}
-use Rattle.run.specs.Run.{State}
-use Rattle.network.specs.Network.{Rows, Memory, Network, flat, unsettled}
+use Rattle.network.specs.Network.{Rows, Memory, Network}
 
 -- ---- lists as what is lent
 
@@ -51,13 +46,3 @@ pub record Openable (n m : ℕ) (ls ts hs ws : List ℕ) : Type 0 where
   pub room : Room m ts hs ws
   pub rules : table.rules n (edges ts hs ws m) ≡ accept
   pub landmarks : Placed n ls
-
--- ---- what they answer
-
-pub record IsRow (st : State) (xs : List ℕ) (b : Bool) : Type 0 where
-  pub words : xs ≡ st .words
-  pub waits : b ≡ anyOf (st .waiting)
-
-pub record AreRows (sts : List State) (xs : List ℕ) (b : Bool) : Type 0 where
-  pub words : xs ≡ flat sts
-  pub waits : b ≡ unsettled sts

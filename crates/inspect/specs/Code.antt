@@ -10,8 +10,7 @@
 --                                                        memory, four bytes further for each word
 --   Shows .. f b at                                   == the part that starts at `at` is the row in the list of its side, of the two that start
 --                                                        at f and b; of a refused look-up nothing is said: its part is empty
---   Padded us k xs                                    == xs are the four places with us in them, and k is how many
---   Degrees es ds                                     == word v of the list ds is the degree of v, for every v: it is 0 past the list
+--   Degrees es ds                                     == the word of the list ds after word v is the degree of v, for every v: it is 0 past the list
 use mathlib.Core.Path.{_≡_}
 use mathlib.Core.Bool.{cond}
 use mathlib.Core.List.{List, [], _++_}
@@ -53,12 +52,8 @@ chosenOf (refused k i) = record { verdict = refuse k i; count = 0; vertices = pa
 abbrev pub choosing : Chosen → ChosenWords
 choosing r = record { verdict = told (r .verdict); count = r .choice .count; vertices = r .choice .vertices }
 
-pub record Padded (us : List ℕ) (k : ℕ) (xs : List ℕ) : Type 0 where
-  pub count : k ≡ length us
-  pub words : xs ≡ padded us
-
 abbrev pub Degrees : List Edge → List ℕ → Type 0
-Degrees es ds = (v : ℕ) → getD ds v 0 ≡ degree es v
+Degrees es ds = (v : ℕ) → getD ds (v + 1) 0 ≡ degree es v
 
 -- ---- row look-up
 

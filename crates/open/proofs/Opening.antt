@@ -1,5 +1,5 @@
 -- The run of a row as its functions leave it, what an accepted network tells an opening, and the opening's outcome. Assumes nothing.
-use Rattle.property.proofs.Basics.{_≡_, sym, ap, _∙_, List, _++_, map, ℕ, suc, _*_, _/_, _%_, _≤_, length, getD, drop}
+use Rattle.property.proofs.Basics.{_≡_, sym, ap, _∙_, List, map, ℕ, suc, _*_, _/_, _%_, _≤_, length, getD}
 use Rattle.property.specs.Property.{property, properties}
 use Rattle.graph.specs.declared.Judged.{Judged}
 use Rattle.graph.specs.declared.Judged.the-variants as judged
@@ -62,11 +62,8 @@ module _ (n : ℕ) (ls ts hs ws f b : List ℕ) (m : ℕ) where
   unfolding openCall opening told
   open-refused a e q = sym (outcome-refused (openVerdict n ls w) _ _ _ (open-verdict n ls w ∙ sym e ∙ ap told q))
 
-  -- the rows of both sides are written, to the first k words of their lists
-  pub open-written : faults n ls w ≡ accept → (k : ℕ) (xs ys : List ℕ) → length xs ≡ k → length ys ≡ k → xs ≡ flat (openRows n ls (edgesIn w))
-      → ys ≡ flat (openRows n ls (map reverse (edgesIn w))) → openOutcome Accepted ts hs ws (xs ++ drop k f) (ys ++ drop k b) ≡ openCall n ls w
+  -- the rows of both sides are written over their lists
+  pub open-written : faults n ls w ≡ accept → (f′ b′ : List ℕ) → f′ ≡ over (flat (openRows n ls (edgesIn w))) f
+      → b′ ≡ over (flat (openRows n ls (map reverse (edgesIn w)))) b → openOutcome Accepted ts hs ws f′ b′ ≡ openCall n ls w
   unfolding openCall opening
-  open-written h k xs ys p q ex ey =
-      let a : xs ++ drop k f ≡ over (flat (openRows n ls (edgesIn w))) f = ap (λ j. xs ++ drop j f) (sym p) ∙ ap (λ l. over l f) ex in
-      let c : ys ++ drop k b ≡ over (flat (openRows n ls (map reverse (edgesIn w)))) b = ap (λ j. ys ++ drop j b) (sym q) ∙ ap (λ l. over l b) ey in
-      rw (a, c) (sym (outcome-accepted (openVerdict n ls w) _ _ _ (open-verdict n ls w ∙ h)))
+  open-written h f′ b′ ef eb = rw (ef, eb) (sym (outcome-accepted (openVerdict n ls w) _ _ _ (open-verdict n ls w ∙ h)))

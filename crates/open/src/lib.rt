@@ -4,10 +4,11 @@ use graph::Judged;
 use graph::pack;
 ghost use mathlib.Core.Path.{_≡_};
 ghost use mathlib.Core.List.{List, map};
-ghost use Prim.Native.Nat.{_*_, _<_};
+ghost use Prim.Native.Nat.{_*_, _<_, _≤_};
 ghost use lib.ListN.{length};
 ghost use Rattle.graph.specs.Edge.{Edge, reverse, edges};
 ghost use Rattle.graph.specs.Index.{Fit, Own};
+ghost use Rattle.graph.specs.Refusal.{over};
 ghost use Rattle.network.specs.Network.{rowCount, flat};
 ghost use Rattle.network.specs.Open.{openRow, openRows, openCall};
 ghost use Rattle.calls.specs.Code.{network, Placed, Openable};
@@ -39,11 +40,11 @@ fn open_row(
     run::run_unscheduled(p, n, index, part, waiting);
 }
 
-// Every row of a side, one after the other in `out`.
+// Every row of a side, one after the other in `out`; words past the rows stay.
 fn open_rows(n: usize, landmarks: &[u32], index: &[u32], out: &mut [u32])
     requires { ⌜ Fit n (now index) × Placed n (now landmarks) ⌝ }
-    requires { ⌜ length (now out) ≡ rowCount (now landmarks) * n ⌝ }
-    ensures { λ _. ⌜ ((es : List Edge) → Own n (now (index .entry)) es → now (out .exit) ≡ flat (openRows n (now (landmarks .entry)) es)) ⌝ }
+    requires { ⌜ rowCount (now landmarks) * n ≤ length (now out) ⌝ }
+    ensures { λ _. ⌜ ((es : List Edge) → Own n (now (index .entry)) es → now (out .exit) ≡ over (flat (openRows n (now (landmarks .entry)) es)) (now (out .entry))) ⌝ }
 {
     let rows = landmarks.len() * property::PROPERTIES;
     let mut waiting = frontier::empty();
@@ -67,8 +68,8 @@ fn open_forward(
     out: &mut [u32],
 )
     requires { ⌜ Openable n count (now landmarks) (now tails) (now heads) (now weights) ⌝ }
-    requires { ⌜ length (now out) ≡ rowCount (now landmarks) * n ⌝ }
-    ensures { λ _. ⌜ now (out .exit) ≡ flat (openRows n (now (landmarks .entry)) (edges (now (tails .entry)) (now (heads .entry)) (now (weights .entry)) count)) ⌝ }
+    requires { ⌜ rowCount (now landmarks) * n ≤ length (now out) ⌝ }
+    ensures { λ _. ⌜ now (out .exit) ≡ over (flat (openRows n (now (landmarks .entry)) (edges (now (tails .entry)) (now (heads .entry)) (now (weights .entry)) count))) (now (out .entry)) ⌝ }
 {
     let mut free = [0u32; graph::PLACE_WORDS];
     let mut index = [0u32; graph::INDEX_WORDS];
@@ -87,8 +88,8 @@ fn open_backward(
     out: &mut [u32],
 )
     requires { ⌜ Openable n count (now landmarks) (now tails) (now heads) (now weights) ⌝ }
-    requires { ⌜ length (now out) ≡ rowCount (now landmarks) * n ⌝ }
-    ensures { λ _. ⌜ now (out .exit) ≡ flat (openRows n (now (landmarks .entry)) (map reverse (edges (now (tails .entry)) (now (heads .entry)) (now (weights .entry)) count))) ⌝ }
+    requires { ⌜ rowCount (now landmarks) * n ≤ length (now out) ⌝ }
+    ensures { λ _. ⌜ now (out .exit) ≡ over (flat (openRows n (now (landmarks .entry)) (map reverse (edges (now (tails .entry)) (now (heads .entry)) (now (weights .entry)) count)))) (now (out .entry)) ⌝ }
 {
     let mut free = [0u32; graph::PLACE_WORDS];
     let mut index = [0u32; graph::INDEX_WORDS];
@@ -124,24 +125,7 @@ pub fn open(
     }
     let size = n as usize;
     let edges = count as usize;
-    let k = landmarks.len() * property::PROPERTIES * size;
-    open_forward(
-        size,
-        edges,
-        landmarks,
-        tails,
-        heads,
-        weights,
-        &mut forward[..k],
-    );
-    open_backward(
-        size,
-        edges,
-        landmarks,
-        tails,
-        heads,
-        weights,
-        &mut backward[..k],
-    );
+    open_forward(size, edges, landmarks, tails, heads, weights, forward);
+    open_backward(size, edges, landmarks, tails, heads, weights, backward);
     Opened::Accepted
 }

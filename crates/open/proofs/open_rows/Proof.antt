@@ -1,18 +1,20 @@
--- `open::open_rows` meets its contract. The loop's invariant: the rows so far stand one after the other in the list. Assumes nothing.
-use Rattle.property.proofs.Basics.{_≡_, refl, _∙_, List, map, _+_, _-_, _*_, _≤_, arith, length, take, needs}
+-- `open::open_rows` meets its contract. The loop's invariant: the rows so far stand over the list. Assumes nothing.
+use Rattle.property.proofs.Basics.{_≡_, refl, ap, _∙_, List, map, _+_, _-_, _*_, _≤_, arith, length, needs}
 use borrow.Rule.Slice.PartMut.{same-len-mid}
+use Rattle.graph.specs.Refusal.{over}
 use Rattle.graph.specs.Edge.{Edge, range}
 use Rattle.graph.specs.Index.{Own}
 use Rattle.network.specs.Network.{rowCount, flat}
 use Rattle.network.specs.Open.{openRow}
+use Rattle.network.proofs.Rows.{open-sized}
 use Rattle.calls.proofs.Rows.{row-ends}
-use Rattle.calls.proofs.Flat.{row-size, flat-none, flat-turn, flat-done}
+use Rattle.calls.proofs.Flat.{row-size, over-none, over-turn}
 use Rattle.open.proofs.open_rows.Statement.{statement}
 use Rattle.open.proofs.open_rows.Tie as tie
 
 abbrev Inv-loop : tie.InvT-loop
 Inv-loop n landmarks index out₀ rows waiting₀ r₀ out waiting r =
-    ((es : List Edge) → Own n index es → take (r * n) out ≡ flat (map (openRow n landmarks es) (range 0 r)))
+    ((es : List Edge) → Own n index es → out ≡ over (flat (map (openRow n landmarks es) (range 0 r))) out₀)
     × (r ≤ rows) × (length out ≡ length out₀)
 
 abbrev μ-loop : tie.MeasureT-loop
@@ -31,7 +33,7 @@ within c =
 loop-holds : tie.Need-loop-holds Inv-loop μ-loop
 loop-holds c =
     let g = c .before .before .before .before .args in
-    (λ es o. flat-none (openRow (g .n) (g .landmarks .now) es) (g .n) (g .out .now), omega arith, refl)
+    (λ es o. over-none (openRow (g .n) (g .landmarks .now) es) (g .out .now), omega arith, refl)
 
 mul-start : tie.Need-mul-start Inv-loop μ-loop
 mul-start c = omega (arith, within c)
@@ -66,11 +68,7 @@ loop-again c =
     let call = c .before .before .open-row in
     let part = call .last .1 .1 .1 .1 .1 .0 in
     let size = call .kept .1 .1 .1 .1 .1 .0 in (
-      λ es o. flat-turn (openRow (g .n) (g .landmarks .now) es) (g .n) (l .loop .r) (a + g .n - a) (l .loop .out) part
-          (omega (arith, within t))
-          (size ∙ row-size (g .n) a (l .loop .out) (within t))
-          (l .loop .inv .0 es o)
-          (call .ensures es o),
+      λ es o. over-turn (openRow (g .n) (g .landmarks .now) es) (g .n) (open-sized (g .n) (g .landmarks .now) es) (l .loop .r) (g .out .now) _ _ (l .loop .inv .0 es o) (call .ensures es o),
       omega (arith, t .loop-test .taken),
       same-len-mid a (a + g .n - a) (l .loop .out) part size ∙ l .loop .inv .2,
     )
@@ -81,9 +79,9 @@ same-length c = c .before .loop .inv .2
 returns : tie.Need-returns Inv-loop μ-loop
 returns c =
     let l = c .before in
-    let s = begin l in
-    let g = s .args in
-    λ es o. flat-done (openRow (g .n) (g .landmarks .now) es) (g .n) (l .loop .r) (rowCount (g .landmarks .now)) (l .loop .out) (omega arith) (l .loop .inv .2 ∙ s .pre .1) (l .loop .inv .0 es o)
+    let g = begin l .args in
+    let e : l .loop .r ≡ rowCount (g .landmarks .now) = omega arith in
+    λ es o. l .loop .inv .0 es o ∙ ap (λ k. over (flat (map (openRow (g .n) (g .landmarks .now) es) (range 0 k))) (g .out .now)) e
 
 pub open-rows-spec : {M : Type 1} → statement M
 open-rows-spec =
