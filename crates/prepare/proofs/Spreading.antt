@@ -1,6 +1,6 @@
 -- Marks that go on from vertex to vertex: what one edge does, what the listed edges and the edges of one vertex do, and that the marks
 -- are those of the affected vertices once nothing is to do. Assumes nothing.
-use Rattle.property.proofs.Basics.{_≡_, refl, sym, ap, _∙_, _⊎_, inl, inr, ⊎-elim, Bool, true, false, not, _&&_, _||_, cond, true≢false, false≢true, List, [], _∷_, List·Memᴰ, List·Memᴰ·head, List·Memᴰ·tail, List·Memᴰ·cases-cons, List·Memᴰ·not-nil, ℕ, zero, suc, _+_, _-_, _*_, _≤_, _<_, ℕ-discrete, arith, length, getD, set, replicate, getD-set-same, getD-set-other, ltb-true, lt-ltb, not-true}
+use Rattle.property.proofs.Basics.{_≡_, refl, sym, ap, _∙_, _⊎_, inl, inr, ⊎-elim, Bool, true, false, not, _&&_, _||_, cond, true≢false, false≢true, List, List·Memᴰ, List·Memᴰ·head, List·Memᴰ·tail, List·Memᴰ·cases-cons, List·Memᴰ·not-nil, ℕ, zero, suc, _+_, _-_, _*_, _≤_, _<_, ℕ-discrete, arith, length, getD, set, replicate, getD-set-same, getD-set-other, ltb-true, lt-ltb, not-true}
 use Rattle.property.specs.Property.{Property}
 use Rattle.property.proofs.Tests.{is-false, by-test}
 use Rattle.frontier.specs.Waiting.{waitingOf, capacity, countOf}
@@ -9,14 +9,14 @@ use Rattle.frontier.proofs.Laws.{count-remove}
 use Rattle.graph.specs.Limits.{maxVertices}
 use Rattle.graph.specs.Arc.{arcHead}
 use Rattle.graph.specs.Edge.{Edge, edge}
-use Rattle.graph.specs.Index.{part, own, Own}
+use Rattle.graph.specs.Index.{Fit, part, own, Own}
 use Rattle.graph.proofs.Tests.{both, and-true, or-right}
 use Rattle.graph.proofs.Lists.{replicate-at, getD-within, at-set}
 use Rattle.graph.proofs.Edges.{leaving-in, in-leaving}
 use Rattle.run.specs.Run.{word}
 use Rattle.run.specs.Code.{bits, Marks}
 use Rattle.run.proofs.States.{marks-set, marks-clear}
-use Rattle.affected.specs.Affected.{removed, Named, held, marked, affected}
+use Rattle.affected.specs.Affected.{removed, held, marked, affected}
 use Rattle.compare.specs.Code.{before, pairs, Lists}
 use Rattle.prepare.specs.Code.{arcEdge, holds, Going, Grown, marksHead, Gone, HeadsMarked, Along, Covered, Spreads}
 use Rattle.prepare.proofs.Bits.{raise-keeps, raise-only, raise-count, bits-all, bits-length, marks-if}
@@ -118,6 +118,13 @@ module _ {P : Property} {n s : ℕ} {f : ℕ → Edge} {on : ℕ → Bool} {j : 
     }
 
 -- ---- an index has the edges of a vertex
+
+-- an arc of u lies within the list, and its head is a vertex
+pub fit-arc : {n : ℕ} {is : List ℕ} → Fit n is → (u k : ℕ) → u < n → getD is u 0 ≤ k → k < getD is (u + 1) 0 → (k < length is) × (arcHead (getD is k 0) < n)
+fit-arc f u k h a b =
+    let w = f .within u h in
+    let x = f .after u (omega arith) in
+    (omega (arith, f .last), f .inside k (omega arith) (omega arith))
 
 part-mem : (is : List ℕ) (u j c k : ℕ) → j ≤ k → k < j + c → List·Memᴰ (arcEdge is u k) (part is u j c)
 unfolding part

@@ -12,7 +12,6 @@ ghost use lib.Dec.{ltb};
 ghost use Rattle.property.specs.Property.{property};
 ghost use Rattle.frontier.specs.Waiting.{waitingOf, countOf};
 ghost use Rattle.graph.specs.Limits.{maxVertices};
-ghost use Rattle.graph.specs.Arc.{arcHead};
 ghost use Rattle.graph.specs.Edge.{Edge, edge};
 ghost use Rattle.graph.specs.Index.{Fit, Own};
 ghost use Rattle.run.specs.Run.{noTally};

@@ -1,5 +1,5 @@
 -- One row of a batch as its functions leave it. Assumes nothing.
-use Rattle.property.proofs.Basics.{_≡_, ap, _∙_, List, ℕ, suc, _*_, _/_, _%_, getD}
+use Rattle.property.proofs.Basics.{_≡_, ap, _∙_, List, ℕ, suc, _/_, _%_, getD}
 use Rattle.property.specs.Property.{property, properties}
 use Rattle.frontier.specs.Waiting.{countOf}
 use Rattle.graph.specs.Edge.{Edge}

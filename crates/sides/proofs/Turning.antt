@@ -1,7 +1,6 @@
 -- What the rows of each side are run on, from what the batch has. Assumes nothing.
 use Rattle.property.proofs.Basics.{_≡_, refl, ap, List, [], _∷_, map, ℕ}
 use Rattle.graph.specs.Edge.{Edge, reverse}
-use Rattle.graph.specs.Index.{Own}
 use Rattle.graph.proofs.Edges.{reverse-mem}
 use Rattle.compare.specs.Code.{Net}
 use Rattle.rows.specs.Code.{Sided}

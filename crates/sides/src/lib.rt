@@ -1,6 +1,5 @@
 // The rows of both sides of a batch, with its changes listed and both tables indexed: each is run in its place.
 use rows::Rowed;
-ghost use mathlib.Core.Path.{_≡_};
 ghost use mathlib.Core.List.{List};
 ghost use Prim.Native.Nat.{_*_, _≤_};
 ghost use lib.ListN.{length};

@@ -1,6 +1,6 @@
 -- `apply::apply` meets its contract. Assumes nothing.
-use Rattle.property.proofs.Basics.{needs, arith, _≡_, refl, sym, List, ℕ, _+_, _≤_, length, replicate, length-replicate, length-take-le}
-use Rattle.graph.specs.Limits.{maxVertices, maxEdges}
+use Rattle.property.proofs.Basics.{needs, arith, refl, sym, List, ℕ, _+_, _≤_, length, replicate, length-replicate, length-take-le}
+use Rattle.graph.specs.Limits.{maxVertices}
 use Rattle.graph.specs.Edge.{edges}
 use Rattle.graph.specs.Index.{Indexable}
 use Rattle.graph.proofs.Records.{room-less, edges-length}

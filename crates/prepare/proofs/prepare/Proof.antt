@@ -1,5 +1,5 @@
 -- `prepare::prepare` meets its contract. Assumes nothing.
-use Rattle.property.proofs.Basics.{_≡_, ap, _∙_, arith, needs}
+use Rattle.property.proofs.Basics.{ap, _∙_, arith, needs}
 use Rattle.property.specs.Property.{property}
 use Rattle.frontier.specs.Waiting.{countOf}
 use Rattle.frontier.proofs.Counts.{count-le}

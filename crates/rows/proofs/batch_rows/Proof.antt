@@ -11,7 +11,7 @@ use Rattle.rows.proofs.batch_rows.Tie as tie
 
 abbrev Inv-loop : tie.InvT-loop
 Inv-loop n landmarks net old new into rows₀ size affected₀ stores₀ r₀ rows affected stores r =
-    Counting rows₀ rows affected stores r size × ((es fs : List Edge) → Sided n es fs net old new into → Rowing n landmarks es fs rows₀ rows affected stores r size)
+    Counting rows₀ rows affected stores r size × ((es fs : List Edge) → Sided n es fs net old new into → Rowing n landmarks es fs rows₀ rows affected stores r)
 
 abbrev μ-loop : tie.MeasureT-loop
 μ-loop n landmarks net old new into rows₀ size affected₀ stores₀ r₀ rows affected stores r = size - r
@@ -55,14 +55,10 @@ loop-again c =
     let b = c .before .before .before .before in
     let i = b .before .before in
     let l = i .before in
-    let s = start l in
     let call = b .batch-row in
-    let zs = call .last .1 .1 .1 .1 .1 .1 .1 .0 in
-    let k = call .kept .1 .1 .1 .1 .1 .1 .1 .0 in (
-      counting-turn _ _ (l .loop .rows) _ _ _ _ (l .loop .inv .0) (i .loop-test .taken) zs (call .result) k (call .ensures .0),
-      (λ es fs d.
-          rows-turn _ _ es fs _ _ _ _ _ _ (l .loop .inv .1 es fs d) (i .loop-test .taken) zs (call .result)
-          (k ∙ row-size (s .args .n) (l .loop .r * s .args .n) (l .loop .rows) (lies i)) (call .ensures .1 es fs d)),
+    let zs = call .last .1 .1 .1 .1 .1 .1 .1 .0 in (
+      counting-turn _ _ (l .loop .rows) _ _ _ _ (l .loop .inv .0) (i .loop-test .taken) zs (call .result) (call .kept .1 .1 .1 .1 .1 .1 .1 .0) (call .ensures .0),
+      (λ es fs d. rows-turn _ _ es fs _ _ _ _ _ (l .loop .inv .1 es fs d) zs (call .result) (call .ensures .1 es fs d)),
     )
 
 returns : tie.Need-returns Inv-loop μ-loop
@@ -70,7 +66,7 @@ returns c =
     let l = c .before in
     let s = start l in (
       counting-done _ (l .loop .rows) (s .args .landmarks .now) _ _ _ _ (s .pre .0 .few) (l .loop .inv .0) (c .loop-test .left) refl refl,
-      (λ es fs d. rows-done _ _ es fs _ _ _ _ _ _ (l .loop .inv .0 .within) (l .loop .inv .1 es fs d) (c .loop-test .left) refl refl),
+      (λ es fs d. rows-done _ _ es fs _ _ _ _ _ (l .loop .inv .1 es fs d) _ (omega (arith, l .loop .inv .0 .within, c .loop-test .left)) refl refl),
     )
 
 pub batch-rows-spec : {M : Type 1} → statement M
@@ -80,7 +76,7 @@ batch-rows-spec =
     Inv-loop
     μ-loop
     (λ c. search needs)
-    (λ c. (counting-start _ _, (λ es fs d. rows-start _ _ es fs _ _)))
+    (λ c. (counting-start _ _, (λ es fs d. rows-start _ _ es fs _)))
     (λ c. let z = lies c in let g = start (c .before) .good in omega arith)
     (λ c. let z = lies c in let g = start (c .before) .good in omega arith)
     (λ c. let z = lies c in let g = start (c .before) .good in omega arith)

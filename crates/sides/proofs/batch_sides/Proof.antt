@@ -20,7 +20,7 @@ batch-rows-requires-2 : tie.Need-batch-rows-requires-2
 batch-rows-requires-2 c κs =
     let s = start (forward c .before) in
     let l = s .pre .0 .2 in
-    (s .pre .0 .1, omega (arith, s .pre .1), record { inside = c .before .before .before .before .turn .ensures .0 (s .args .n) (l .inside); old = l .rold; new = l .rnew; into = l .new })
+    (s .pre .0 .1, omega (arith, s .pre .1), record { inside = c .before .before .before .before .turn .ensures .0 (s .args .n) (l .inside); old = l .rold; new = search needs; into = search needs })
 
 returns : tie.Need-returns
 returns c =
