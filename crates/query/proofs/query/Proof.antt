@@ -44,9 +44,6 @@ index-requires c κs =
     let g = sound (c .before .before) in
     record { few = g .rows .few; records = g .records; room = room-less (g .records) (g .room); rules = g .rules; firsts = omega (arith, g .rows .few); list = omega (arith, g .rows .few, g .records) }
 
-array-borrow-prefix-start : tie.Need-array-borrow-prefix-start
-array-borrow-prefix-start c = sound (c .before .before .before .before .before .before) .rows .few
-
 slice-aggregate-query-in-2 : tie.Need-slice-aggregate-query-in-2
 slice-aggregate-query-in-2 c = sym (length-take-le (begin (c .before .before .before .before .before .before .before .before .before) .args .n) (replicate maxVertices 0) (sound (c .before .before .before .before .before .before .before) .rows .few))
 
@@ -77,7 +74,7 @@ query-spec =
     (λ c. search needs)
     index-requires
     (λ c. search needs)
-    array-borrow-prefix-start
+    (λ c. sound (c .before .before .before .before .before .before) .rows .few)
     slice-aggregate-query-in-2
     query-in-requires
     (λ c. search needs)

@@ -50,12 +50,6 @@ module _ (ts hs ws : List ℕ) (m : ℕ) where
       (ap (take (s .args .n)) (d .copy2 .ensures ∙ paste-over (s .args .settled .now) _ (s .args .n) (words w)) ∙ take-at _ _ (s .args .n) (words w) ∙ w .start-words .ensures)
       (c .start-at .ensures .0)
 
-start-at-requires : tie.Need-start-at-requires
-start-at-requires c κs = let s = begin (worded (c .before .before .before .before)) in let h = s .pre .0 .1 in (h .source, h .few)
-
-slice-aggregate-run-counted : tie.Need-slice-aggregate-run-counted
-slice-aggregate-run-counted c = sym (room (c .before))
-
 run-counted-requires : tie.Need-run-counted-requires
 run-counted-requires c κs =
     let a = c .before .before in
@@ -86,9 +80,9 @@ query-in-spec =
     (λ c κs. search needs)
     (λ c κs. search needs)
     (λ c κs. search needs)
-    start-at-requires
+    (λ c κs. let s = begin (worded (c .before .before .before .before)) in let h = s .pre .0 .1 in (h .source, h .few))
     (λ c. search needs)
-    slice-aggregate-run-counted
+    (λ c. sym (room (c .before)))
     run-counted-requires
     (λ c. search needs)
     (λ c. search needs)

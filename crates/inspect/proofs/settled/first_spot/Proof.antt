@@ -60,12 +60,6 @@ accepted s =
     let a = s .args in
     network-accept (a .n) (a .landmarks .now) (a .tails .now) (a .heads .now) (a .weights .now) (a .count) (a .forward .now) (a .backward .now) (s .pre)
 
-mul-rows : tie.Need-mul-rows Inv-loop2 μ-loop2 Inv-loop μ-loop Inv-sides μ-sides
-mul-rows c = omega (arith, accepted (c .before .before .before .before .before .before) .0 .landmarks .few)
-
-sides-holds : tie.Need-sides-holds Inv-loop2 μ-loop2 Inv-loop μ-loop Inv-sides μ-sides
-sides-holds c = (sides-all _ _ _ _ _, omega arith, refl)
-
 loop-holds : tie.Need-loop-holds Inv-loop2 μ-loop2 Inv-loop μ-loop Inv-sides μ-sides
 loop-holds c =
     let s = c .before in
@@ -139,8 +133,8 @@ first-spot-spec =
     μ-loop
     Inv-sides
     μ-sides
-    mul-rows
-    sides-holds
+    (λ c. omega (arith, accepted (c .before .before .before .before .before .before) .0 .landmarks .few))
+    (λ c. (sides-all _ _ _ _ _, omega arith, refl))
     loop-holds
     loop2-holds
     is-spot-requires
