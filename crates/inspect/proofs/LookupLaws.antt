@@ -1,5 +1,5 @@
 -- Row look-up: where a landmark stands in the list, where its row lies, and what is shown. Assumes nothing.
-use Rattle.property.proofs.Basics.{_≡_, sym, ap, _∙_, Bool, true, false, not, _||_, cond, false≢true, List, [], _∷_, ℕ, suc, _+_, _*_, _-_, _<_, _≤_, add-zero, add-one, arith, length, getD, take, drop, drop-of-length-le, drop-cons, eqb, ltb, leb, eq-eqb, ne-eqb, ltb-true, ltb-false, leb-true, not-false}
+use Rattle.property.proofs.Basics.{_≡_, sym, ap, _∙_, Bool, true, not, cond, false≢true, List, [], _∷_, ℕ, suc, _+_, _*_, _-_, _<_, _≤_, add-zero, add-one, arith, length, getD, take, drop, drop-of-length-le, drop-cons, eqb, ltb, leb, eq-eqb, ne-eqb, ltb-true, ltb-false, leb-true, not-false}
 use Rattle.property.specs.Property.{isProperty}
 use Rattle.property.proofs.Tests.{by-test}
 use Rattle.graph.specs.declared.Judged.{Judged}
@@ -11,7 +11,7 @@ use Rattle.graph.specs.Table.{size}
 use Rattle.graph.specs.Code.{told}
 use Rattle.graph.proofs.Tests.{both, neither}
 use Rattle.graph.proofs.Verdicts.{not-accept, then-accept, if-accept, verdict-replied}
-use Rattle.network.specs.Network.{isIn, landmarks, shortRows, row}
+use Rattle.network.specs.Network.{isIn, landmarks, shortRows}
 use Rattle.network.specs.Query.{rowAt}
 use Rattle.network.specs.Lookup.{indexOf, lookupVerdict, lookupRow, lookupNumber}
 use Rattle.calls.specs.Code.{rowLists}
