@@ -1,4 +1,4 @@
-// A batch with the new table at hand, in lists 2. Nothing lent is written before nothing can refuse any more.
+// A batch with the new table at hand, in lists 2: nothing can refuse it any more.
 use graph::pack;
 use graph::words;
 ghost use mathlib.Core.Path.{_≡_};

@@ -1,5 +1,5 @@
 -- Edges that precede a pair, and where a pair stands in a table. Assumes nothing.
-use Rattle.property.proofs.Basics.{_≡_, refl, ap, _∙_, Bool, true, false, cond, List, ℕ, _+_, _≤_, _<_, ℕ-discrete, arith, getD}
+use Rattle.property.proofs.Basics.{_≡_, refl, ap, _∙_, Bool, true, false, cond, List, ℕ, _+_, _<_, ℕ-discrete, arith, getD}
 use Rattle.graph.specs.Refusal.{accept}
 use Rattle.graph.specs.Edge.{edge, precedes, edges}
 use Rattle.graph.specs.Table.{isEdge, tableOrder, rules}

@@ -7,10 +7,10 @@
 -- Both tables are sorted by pair. At each step the edge that comes first is gone past: if it comes before the other table's edge at hand, it
 -- stands nowhere in the other table, since all before that one precede it and all from there on come after it. If both are of one pair, both
 -- are gone past, and they differ where their weights do.
-use Rattle.property.proofs.Basics.{_≡_, refl, sym, ap, _∙_, _⊎_, ⊎-elim, Bool, true, false, not, _&&_, cond, true≢false, false≢true, List, List·Memᴰ, ℕ, _+_, _*_, _/_, _≤_, _<_, ℕ-discrete, decLt, arith, length, getD, set, take, length-set, getD-set-same, getD-set-other, length-take-le, getD-take, eqb, ltb, ltb-true, ltb-false, lt-ltb, eqb-true, eqb-false, eq-eqb, ne-eqb, not-true, not-false}
-use Rattle.graph.specs.Limits.{maxVertices, maxEdges, maxWeight}
+use Rattle.property.proofs.Basics.{_≡_, refl, sym, ap, _∙_, _⊎_, ⊎-elim, Bool, true, false, not, _&&_, cond, true≢false, List, ℕ, _+_, _*_, _/_, _≤_, _<_, ℕ-discrete, decLt, arith, length, getD, set, take, length-set, getD-set-same, getD-set-other, length-take-le, getD-take, eqb, ltb, ltb-true, lt-ltb, eqb-true, eqb-false, eq-eqb, ne-eqb, not-true, not-false}
+use Rattle.graph.specs.Limits.{maxWeight}
 use Rattle.graph.specs.Refusal.{accept}
-use Rattle.graph.specs.Arc.{arcWeights, arc, arcHead, arcWeight}
+use Rattle.graph.specs.Arc.{arcWeights, arc, arcHead}
 use Rattle.graph.specs.Edge.{Edge, edge, edges, alike, precedes, among}
 use Rattle.graph.specs.Table.{rules}
 use Rattle.graph.specs.Code.{Room, edgeAt, position}

@@ -1,11 +1,11 @@
 -- The claims of specs/Calls.antt, one theorem each. Assumes nothing.
-use Rattle.property.proofs.Basics.{_≡_, refl, sym, ap, subst, _∙_, _↔_, _⊎_, inl, inr, Bool, true, false, List, ℕ, _≤_, _<_, arith, ltb, length, take, drop, take-at, drop-at, lt-ltb, le-ltb, ltb-false}
+use Rattle.property.proofs.Basics.{_≡_, refl, sym, ap, subst, _∙_, _↔_, _⊎_, inl, inr, List, ℕ, _≤_, _<_, arith, ltb, length, take, drop, take-at, drop-at, le-ltb}
 use Rattle.graph.specs.Limits.{maxEdges}
 use Rattle.graph.specs.Refusal.{Verdict, accept, refuse, _▷_, refuseIf, accepted, refused, replied, verdictOf, Outcome, choose, over}
 use Rattle.graph.specs.Edge.{Edge}
 use Rattle.graph.specs.Table.{Columns, edgesOf, size, shortTable, table}
-use Rattle.graph.proofs.Verdicts.{not-accept, then-accept, accept-then, refuse-then, if-accept, accept-if, reply-accepted, outcome-refused, outcome-accepted}
-use Rattle.graph.proofs.Judging.{size-accept, table-accept}
+use Rattle.graph.proofs.Verdicts.{not-accept, then-accept, accept-then, accept-if, reply-accepted, outcome-accepted}
+use Rattle.graph.proofs.Judging.{size-accept}
 use Rattle.dimacs.proofs.Refusals.{write-refused}
 use Rattle.dimacs.proofs.Places.{place-one}
 use Rattle.dimacs.proofs.Network as network
@@ -49,10 +49,21 @@ unfolding replied choose verdictOf
 refused-old accept a new old k i h = absurd (not-accept (sym (ap verdictOf h)))
 refused-old (refuse j p) a new old k i h = refl
 
+-- so a call with that chain is refused exactly where the text has its place, P, and lends what it lent
+call-refused : {S A L P : Type 0} (r : Read S) (a : A) (new old : L) (v : Verdict) (k i : ℕ) → v ≡ judged r → ((r ≡ bad i) ↔ P)
+    → ((replied v a ≡ refused k i) ↔ ((k ≡ 14) × P)) × (replied v a ≡ refused k i → choose v new old ≡ old)
+call-refused r a new old v k i c p = (
+  (
+    λ h. let z = judged-refused r a k i .0 (ap (λ (w : Verdict). replied w a) (sym c) ∙ h) in (z .0, p .0 (z .1)),
+    λ h. ap (λ (w : Verdict). replied w a) c ∙ judged-refused r a k i .1 (h .0, p .1 (h .1)),
+  ),
+  refused-old v a new old k i,
+)
+
 accepted-same : {A : Type 0} (a b : A) → accepted a ≡ accepted b → a ≡ b
 accepted-same a b h = cc
 
-judged-accept : {S : Type 0} (r : Read S) → judged r ≡ accept → (s : S) × (r ≡ good s)
+pub judged-accept : {S : Type 0} (r : Read S) → judged r ≡ accept → (s : S) × (r ≡ good s)
 unfolding judged
 judged-accept (good s) h = (s, refl)
 judged-accept (bad k) h = absurd (not-accept h)
@@ -93,14 +104,7 @@ pub call-refuses : CallRefuses
 unfolding readCall
 call-refuses text cs s k i =
     let r = net.readNetwork text in
-    let a : Size = record { vertices = vertexCount r; count = length (edgesRead r) } in
-    let c : (shortTable cs ▷ judged r) ≡ judged r = accept-then s in (
-      (
-        λ h. let z = judged-refused r a k i .0 (ap (λ (v : Verdict). replied v a) (sym c) ∙ h) in (z .0, network-places text i .0 (z .1)),
-        λ h. ap (λ (v : Verdict). replied v a) c ∙ judged-refused r a k i .1 (h .0, network-places text i .1 (h .1)),
-      ),
-      refused-old (shortTable cs ▷ judged r) a (filled (edgesRead r) cs) cs k i,
-    )
+    call-refused r (record { vertices = vertexCount r; count = length (edgesRead r) }) (filled (edgesRead r) cs) cs (shortTable cs ▷ judged r) k i (accept-then s) (network-places text i)
 
 -- ---- reading a source file
 
@@ -140,15 +144,7 @@ pub sources-call-refuses : SourcesCallRefuses
 unfolding sourcesCall
 sources-call-refuses n text out s l k i =
     let r = src.readSources n text in
-    let a = length (sourcesRead r) in
-    let c = short n text out s l in
-    let pos = size-accept n s .0 in (
-      (
-        λ h. let z = judged-refused r a k i .0 (ap (λ (v : Verdict). replied v a) (sym c) ∙ h) in (z .0, sources-places n pos text i .0 (z .1)),
-        λ h. ap (λ (v : Verdict). replied v a) c ∙ judged-refused r a k i .1 (h .0, sources-places n pos text i .1 (h .1)),
-      ),
-      refused-old (chain n text out s l) a (over (sourcesRead r) out) out k i,
-    )
+    call-refused r (length (sourcesRead r)) (over (sourcesRead r) out) out (chain n text out s l) k i (short n text out s l) (sources-places n (size-accept n s .0) text i)
 
 -- ---- writing network text
 
@@ -160,23 +156,9 @@ module _ (n : ℕ) (cs : Columns) (m : ℕ) (out : List ℕ) (k : ℕ) where
   verdict = size n ▷ shortTable cs ▷ table n cs m ▷ refuseIf (ltb (length out) (length text)) 2 0
 
   writes : (writeCall n cs m out) .reply ≡ accepted k → Writes n cs m out k
-  unfolding writeCall
   writes h =
-      let (t, l, w, e) = write-verdict n cs m out k h in
-      let (v, _) = reply-accepted verdict (length text) k h in
-      let (a, v₁) = then-accept (size n) (shortTable cs ▷ table n cs m ▷ refuseIf (ltb (length out) (length text)) 2 0) v in
-      let (b, v₂) = then-accept (shortTable cs) (table n cs m ▷ refuseIf (ltb (length out) (length text)) 2 0) v₁ in
-      let (c, v₃) = then-accept (table n cs m) (refuseIf (ltb (length out) (length text)) 2 0) v₂ in
-      let r = ltb-false (length out) (length text) (if-accept _ 2 0 v₃) in
-      record {
-        long = b;
-        few = table-accept n cs m c .0;
-        table = t;
-        text = text;
-        canonical = network-writes n (edgesOf cs m) t;
-        bytes = w;
-        room = omega (arith, r, w);
-      }
+      let (t, l, w, e, b, f, r) = write-verdict n cs m out k h in
+      record { long = b; few = f; table = t; text = text; canonical = network-writes n (edgesOf cs m) t; bytes = w; room = omega (arith, r, w) }
 
   -- the canonical text is the written one, so that the buffer has room for it
   pub written-call : Writes n cs m out k → writeCall n cs m out ≡ record { reply = accepted k; memory = over text out }
@@ -193,7 +175,7 @@ call-writes n cs m out k = (writes n cs m out k, λ w. ap (λ (o : Outcome ℕ (
 
 pub call-written : CallWritten
 call-written n cs m out k h =
-    let (t, l, b, e) = write-verdict n cs m out k h in
+    let (t, l, b, e, _, _, _) = write-verdict n cs m out k h in
     let es = edgesOf cs m in (
       (λ x. (λ c. network-canonical x n es c ∙ sym e, λ p. subst (λ (y : List ℕ). Canonical y n es) (sym (p ∙ e)) (network-writes n es t))),
       ap (λ (o : Outcome ℕ (List ℕ)). drop k (o .memory)) (written-call n cs m out k (writes n cs m out k h)) ∙ rest (text n cs m out k) b,
@@ -203,7 +185,7 @@ call-written n cs m out k h =
     rest x q = drop-at x (drop (length x) out) k q ∙ ap (λ (j : ℕ). drop j out) q
 
 pub written-length : WrittenLength
-written-length n cs m out k h = let (t, l, b, e) = write-verdict n cs m out k h in omega (arith, b, table-length n (edgesOf cs m) t)
+written-length n cs m out k h = let (t, l, b, _, _, _, _) = write-verdict n cs m out k h in omega (arith, b, table-length n (edgesOf cs m) t)
 
 -- ---- the writing call refused
 

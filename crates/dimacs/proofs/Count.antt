@@ -1,5 +1,5 @@
 -- How many edges a table of n vertices can hold: n × (n − 1). A table with fewer lacks a pair. Assumes nothing.
-use Rattle.property.proofs.Basics.{_≡_, refl, sym, ap, _∙_, _⊎_, inl, inr, Bool, true, false, _||_, cond, true≢false, List, [], _∷_, _++_, map, ℕ, zero, suc, _+_, _-_, _*_, _/_, _%_, _≤_, _<_, mul-le-mul-right, div-add-mod', div-lt-iff-lt-mul, arith, ltb, eqb, length, length-append, length-map, lt-ltb, ltb-true, ltb-false, eqb-true, eqb-false, eq-eqb, ne-eqb}
+use Rattle.property.proofs.Basics.{_≡_, refl, sym, ap, _∙_, _⊎_, inl, inr, ⊎-elim, Bool, true, false, _||_, cond, true≢false, List, [], _∷_, _++_, map, ℕ, zero, suc, _+_, _-_, _*_, _/_, _%_, _≤_, _<_, mul-le-mul-right, div-add-mod', div-lt-iff-lt-mul, arith, ltb, eqb, length, length-append, length-map, lt-ltb, ltb-true, ltb-false, eqb-true, eqb-false, eq-eqb, ne-eqb}
 use mathlib.Core.Bool.{or-true}
 use native.Mathlib.Nat.{mod-lt}
 use Rattle.property.proofs.Tests.{is-false, by-test}
@@ -26,23 +26,19 @@ abbrev spot : ℕ → Edge → ℕ
 spot n e = e .tail * (n - 1) + place (e .tail) (e .head)
 
 place-below : (n : ℕ) (e : Edge) → EdgeFacts n e → place (e .tail) (e .head) < n - 1
-place-below n e s = pick (place-cases (e .tail) (e .head)) (s .tail-below) (s .head-below) (s .no-loop)
-  where
-    pick : ((e .head < e .tail) × (place (e .tail) (e .head) ≡ e .head)) ⊎ ((e .tail ≤ e .head) × (place (e .tail) (e .head) ≡ e .head - 1)) → e .tail < n → e .head < n → (e .tail ≡ e .head → ⊥) → place (e .tail) (e .head) < n - 1
-    pick (inl c) p q d = omega arith
-    pick (inr c) p q d = omega arith
+place-below n e s =
+    let d : e .tail ≡ e .head → ⊥ = s .no-loop in
+    ⊎-elim (λ c. omega arith) (λ c. omega arith) (place-cases (e .tail) (e .head))
 
 spot-below : (n : ℕ) (e : Edge) → EdgeFacts n e → spot n e < n * (n - 1)
 spot-below n e s = omega (arith, place-below n e s, mul-le-mul-right (n - 1) (s .tail-below))
 
 place-row : (t a b : ℕ) → (t ≡ a → ⊥) → (t ≡ b → ⊥) → a < b → place t a < place t b
-place-row t a b x y l = pick (place-cases t a) (place-cases t b)
-  where
-    pick : ((a < t) × (place t a ≡ a)) ⊎ ((t ≤ a) × (place t a ≡ a - 1)) → ((b < t) × (place t b ≡ b)) ⊎ ((t ≤ b) × (place t b ≡ b - 1)) → place t a < place t b
-    pick (inl p) (inl q) = omega arith
-    pick (inl p) (inr q) = omega arith
-    pick (inr p) (inl q) = absurd (omega arith)
-    pick (inr p) (inr q) = omega arith
+place-row t a b x y l =
+    ⊎-elim
+    (λ p. ⊎-elim (λ q. omega arith) (λ q. omega arith) (place-cases t b))
+    (λ p. ⊎-elim (λ q. absurd (omega arith)) (λ q. omega arith) (place-cases t b))
+    (place-cases t a)
 
 spot-row : (n : ℕ) (e f : Edge) → EdgeFacts n e → EdgeFacts n f → e .head < f .head → e .tail ≡ f .tail → spot n e < spot n f
 spot-row n e f s r l q =

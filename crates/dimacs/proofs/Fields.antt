@@ -1,8 +1,8 @@
 -- Marks and fields of a line: their bytes, and what is read from them. Assumes nothing.
-use Rattle.property.proofs.Basics.{_≡_, refl, ap, _∙_, Bool, true, false, not, List, [], _∷_, _++_, Option, none, some, bind, ℕ, zero, suc, _+_, _/_, _%_, arith, ltb, eqb, length, eqb-true, eq-eqb, ne-eqb}
+use Rattle.property.proofs.Basics.{_≡_, refl, ap, _∙_, Bool, true, false, not, List, [], _∷_, _++_, Option, some, bind, ℕ, zero, suc, _+_, _/_, _%_, arith, ltb, eqb, length, eqb-true, eq-eqb, ne-eqb}
 use Rattle.property.proofs.Tests.{by-test}
 use Rattle.graph.proofs.Tests.{both}
-use Rattle.dimacs.proofs.Options.{none-some, some-same, bind-some}
+use Rattle.dimacs.proofs.Options.{none-some, some-same, by-option, bind-some}
 use Rattle.dimacs.proofs.Digits.{number-digits, number-spells, stops}
 use Rattle.dimacs.specs.Decimal.{digits, digitsBy, isDigit, number}
 use Rattle.dimacs.specs.Lines.{plain, fieldsOf}
@@ -88,14 +88,7 @@ pub either-spells : {A : Type 0} (spell : A → List ℕ)
     (p : List ℕ) (j : ℕ) (f : List ℕ → Option A) → ((vs : List ℕ) (a : A) → f vs ≡ some a → p ++ fieldsOf vs ≡ spell a)
     → (q : List ℕ) (k : ℕ) (g : List ℕ → Option A) → ((vs : List ℕ) (a : A) → g vs ≡ some a → q ++ fieldsOf vs ≡ spell a)
     → (l : List ℕ) (a : A) → orElse (bind (after p l) (λ r. bind (fields j r) f)) (bind (after q l) (λ r. bind (fields k r) g)) ≡ some a → l ≡ spell a
-either-spells {A} spell p j f x q k g y l a h = pick (bind (after p l) (λ r. bind (fields j r) f)) refl
-  where
-    pick : (o : Option A) → bind (after p l) (λ r. bind (fields j r) f) ≡ o → l ≡ spell a
-    pick (some b) e =
-        let z : some b ≡ some a = unfold orElse in rw e at h in
-        let (vs, u, w) = fields-marked p j f l a (e ∙ z) in
-        u ∙ x vs a w
-    pick none e =
-        let z : bind (after q l) (λ r. bind (fields k r) g) ≡ some a = unfold orElse in rw e at h in
-        let (vs, u, w) = fields-marked q k g l a z in
-        u ∙ y vs a w
+unfolding orElse
+either-spells spell p j f x q k g y l a h = by-option (bind (after p l) (λ r. bind (fields j r) f))
+    (λ e. let (vs, u, w) = fields-marked q k g l a (rw e at h) in u ∙ y vs a w)
+    (λ b e. let (vs, u, w) = fields-marked p j f l a (e ∙ (rw e at h)) in u ∙ x vs a w)

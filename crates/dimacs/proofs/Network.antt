@@ -1,6 +1,6 @@
 -- Network text is an instance of Reading: its items are spelled as lines, no state is a dead end, and the items that lead to a complete state are those of a good
 -- text. Assumes nothing.
-use Rattle.property.proofs.Basics.{_≡_, refl, sym, ap, subst, _∙_, _⊎_, inl, inr, Bool, true, false, not, cond, false≢true, List, [], _∷_, _++_, map, none, some, bind, ℕ, zero, suc, _+_, _-_, _*_, _≤_, _<_, arith, leb, ltb, length, lt-ltb, le-leb, ltb-true, leb-true, eqb-true, eq-eqb, not-true}
+use Rattle.property.proofs.Basics.{_≡_, refl, sym, ap, subst, _∙_, _⊎_, inl, inr, ⊎-elim, true, false, not, cond, false≢true, List, [], _∷_, _++_, map, none, some, bind, ℕ, zero, suc, _+_, _-_, _*_, _≤_, _<_, arith, leb, ltb, length, lt-ltb, le-leb, ltb-true, leb-true, eqb-true, eq-eqb, not-true}
 use Rattle.graph.specs.Limits.{maxVertices, maxEdges}
 use Rattle.graph.specs.Edge.{Edge, edge, present}
 use Rattle.graph.specs.Table.{isEdge, tableOrder, insert}
@@ -10,7 +10,7 @@ use Rattle.graph.proofs.Gather.{into, length-sorted, Fresh, fresh-insert, inser
 use Rattle.graph.proofs.Order.{table-ordered}
 use Rattle.dimacs.proofs.Options.{none-some, some-same, bind-some, cond-some}
 use Rattle.dimacs.proofs.Fields.{plain-fields, marked-fields, either-spells}
-use Rattle.dimacs.proofs.Reading.{acts, speaks, Ends, Spelling, NoDeadEnd, accepts, accepted}
+use Rattle.dimacs.proofs.Reading.{acts, acts-some, speaks, Ends, ends-more, Spelling, NoDeadEnd, accepts, accepted}
 use Rattle.dimacs.proofs.Count.{sound-length, unused}
 use Rattle.dimacs.specs.Lines.{plain, fieldsOf, Spelled}
 use Rattle.dimacs.specs.Read.{after, good}
@@ -71,9 +71,9 @@ opens-facts n m h =
     let (r, s) = both (leb m maxEdges) _ h₂ in
     (ltb-true _ _ p, leb-true _ _ q, leb-true _ _ r, leb-true _ _ s)
 
-pub opens-true : (n m : ℕ) → 0 < n → n ≤ maxVertices → m ≤ maxEdges → m ≤ n * (n - 1) → opens n m ≡ true
-unfolding opens
-opens-true n m p q r s = rw (lt-ltb 0 n p, le-leb n maxVertices q, le-leb m maxEdges r, le-leb m (n * (n - 1)) s)
+act-opens : (n m : ℕ) → 0 < n → n ≤ maxVertices → m ≤ maxEdges → m ≤ n * (n - 1) → act start (problem n m) ≡ some (within n m [])
+unfolding act opens
+act-opens n m p q r s = rw (lt-ltb 0 n p, le-leb n maxVertices q, le-leb m maxEdges r, le-leb m (n * (n - 1)) s)
 
 pub takes-facts : (n m : ℕ) (es : List Edge) (e : Edge) → takes n m es e ≡ true → (length es < m) × (isEdge n e ≡ true) × (present es e ≡ false)
 unfolding takes
@@ -86,14 +86,18 @@ pub takes-true : (n m : ℕ) (es : List Edge) (e : Edge) → length es < m → i
 unfolding takes
 takes-true n m es e p q r = and-true (lt-ltb (length es) m p) (and-true q (ap not r))
 
+act-takes : (n m : ℕ) (es : List Edge) (e : Edge) → length es < m → isEdge n e ≡ true → present es e ≡ false → act (within n m es) (arc e) ≡ some (within n m (insert e es))
+unfolding act
+act-takes n m es e p q r = rw (takes-true n m es e p q r)
+
 -- ---- items after the p line
 
 -- edges that keep the rules are all taken
 arcs-taken : (n m : ℕ) (es fs : List Edge) → Edges n fs → Fresh tableOrder es fs → Distinct fs → length es + length fs ≤ m → acts act (within n m es) (map arc fs) ≡ some (within n m (into tableOrder es fs))
-unfolding acts act bind
+unfolding acts
 arcs-taken n m es [] a f d h = refl
 arcs-taken n m es (e ∷ fs) a f d h =
-    ap (λ (b : Bool). bind (cond b (some (within n m (insert e es))) none) (λ s. acts act s (map arc fs))) (takes-true n m es e (omega arith) (a .0) (f .0))
+    acts-some act (within n m es) (arc e) (within n m (insert e es)) (act-takes n m es e (omega arith) (a .0) (f .0)) (map arc fs)
     ∙ arcs-taken n m (insert e es) fs (a .1) (fresh-insert table-ordered e es fs (f .1) (d .0)) (d .1) (omega (arith, length-insert tableOrder e es))
 
 -- and what is taken keeps them
@@ -151,15 +155,6 @@ opened (problem n m ∷ xs) s h =
 
 -- ---- each state that is reached can be completed
 
-more-arc : (n m : ℕ) (es : List Edge) (e : Edge) → length es < m → isEdge n e ≡ true → present es e ≡ false → Ends act complete (within n m (insert e es)) → Ends act complete (within n m es)
-unfolding acts act bind
-more-arc n m es e l p q d = record {
-  items = arc e ∷ d .items;
-  end = d .end;
-  reached = ap (λ (b : Bool). bind (cond b (some (within n m (insert e es))) none) (λ s. acts act s (d .items))) (takes-true n m es e l p q) ∙ d .reached;
-  completed = d .completed;
-}
-
 -- M2 is at most n × (n − 1), so that while edges are to come a pair is unused: `a` lines of unused pairs follow
 fill : (k n m : ℕ) (es : List Edge) → opens n m ≡ true → length es + k ≡ m → Ends act complete (within n m es)
 unfolding acts complete
@@ -167,32 +162,27 @@ fill zero n m es o h = record { items = []; end = within n m es; reached = refl;
 fill (suc k) n m es o h =
     let (a, b, c, d) = opens-facts n m o in
     let (e, p, q) = unused n es a (omega arith) in
-    more-arc n m es e (omega arith) p q (fill k n m (insert e es) o (omega (arith, length-insert tableOrder e es)))
+    ends-more act (within n m es) (arc e) (within n m (insert e es)) (act-takes n m es e (omega arith) p q) (fill k n m (insert e es) o (omega (arith, length-insert tableOrder e es)))
 
 -- before the p line, `p sp 1 0` completes the text
 pub network-goes-on : NoDeadEnd act complete start
-network-goes-on xs s h = pick (opened xs s h)
-  where
-    first : Ends act complete start
-    first = unfold acts act opens complete bind in record { items = problem 1 0 ∷ []; end = within 1 0 []; reached = refl; completed = refl }
-
-    pick : (s ≡ start) ⊎ Opened xs s → Ends act complete s
-    pick (inl q) = rw q first
-    pick (inr o) =
+unfolding acts act opens complete bind
+network-goes-on xs s h = ⊎-elim
+    (λ q. rw q record { items = problem 1 0 ∷ []; end = within 1 0 []; reached = refl; completed = refl })
+    (λ o.
         let t = o .taken in
         let l : length (into tableOrder [] (t .arcs)) ≡ length (t .arcs) = length-sorted tableOrder (t .arcs) in
         let f : length (t .arcs) ≤ o .m = omega (arith, t .few (omega arith)) in
-        rw (t .state) (fill (o .m - length (t .arcs)) (o .n) (o .m) (into tableOrder [] (t .arcs)) (o .opens) (omega arith))
+        rw (t .state) (fill (o .m - length (t .arcs)) (o .n) (o .m) (into tableOrder [] (t .arcs)) (o .opens) (omega arith)))
+    (opened xs s h)
 
 -- ---- the items of a good text, and no others, lead to a complete state
 
 good-acts : (n : ℕ) (fs : List Edge) → 0 < n → n ≤ maxVertices → length fs ≤ maxEdges → Edges n fs → Distinct fs
     → acts act start (problem n (length fs) ∷ map arc fs) ≡ some (within n (length fs) (sorted fs))
-unfolding acts act bind
 good-acts n fs p q r a d =
     let l : length fs ≤ n * (n - 1) = omega (arith, length-sorted tableOrder fs, sound-length n (sorted fs) (into-sorted table-ordered (isEdge n) [] fs tt a (fresh-none tableOrder fs) d)) in
-    ap (λ (b : Bool). bind (cond b (some (within n (length fs) [])) none) (λ s. acts act s (map arc fs))) (opens-true n (length fs) p q r l)
-    ∙ arcs-taken n (length fs) [] fs a (fresh-none tableOrder fs) d (omega arith)
+    acts-some act start (problem n (length fs)) (within n (length fs) []) (act-opens n (length fs) p q r l) (map arc fs) ∙ arcs-taken n (length fs) [] fs a (fresh-none tableOrder fs) d (omega arith)
 
 pub good-read : (text : List ℕ) (n : ℕ) (es : List Edge) → Good text n es → readNetwork text ≡ good (within n (length es) es)
 unfolding readNetwork complete
@@ -228,12 +218,7 @@ opened-good text xs s d o c =
     )
 
 pub read-good : (text : List ℕ) (s : State) → readNetwork text ≡ good s → (n : ℕ) × (es : List Edge) × (s ≡ within n (length es) es) × Good text n es
-unfolding readNetwork
-read-good text s h = let (xs, d, p, c) = accepted network-spelling act complete start text s h in pick xs d c (opened xs s p)
-  where
-    never : s ≡ start → complete s ≡ true → ⊥
-    never p c = unfold complete in false≢true (rw p at c)
-
-    pick : (xs : List Item) → Spelled itemOf text xs → complete s ≡ true → (s ≡ start) ⊎ Opened xs s → (n : ℕ) × (es : List Edge) × (s ≡ within n (length es) es) × Good text n es
-    pick xs d c (inl q) = absurd (never q c)
-    pick xs d c (inr o) = opened-good text xs s d o c
+unfolding readNetwork complete
+read-good text s h =
+    let (xs, d, p, c) = accepted network-spelling act complete start text s h in
+    ⊎-elim (λ q. absurd (false≢true (rw q at c))) (λ o. opened-good text xs s d o c) (opened xs s p)

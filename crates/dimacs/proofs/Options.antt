@@ -12,6 +12,10 @@ unfolding bind
 bind-some none f y h = absurd (none-some h)
 bind-some (some x) f y h = (x, refl, h)
 
+pub by-option : {A C : Type 0} (o : Option A) → (o ≡ none → C) → ((a : A) → o ≡ some a → C) → C
+by-option none f g = f refl
+by-option (some a) f g = g a refl
+
 pub bind-bind : {A B C : Type 0} (o : Option A) (f : A → Option B) (g : B → Option C) → bind (bind o f) g ≡ bind o (λ x. bind (f x) g)
 unfolding bind
 bind-bind none f g = refl

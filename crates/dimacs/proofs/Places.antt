@@ -1,5 +1,6 @@
 -- The place of a refusal, for any notion of a good text. Assumes nothing.
-use Rattle.property.proofs.Basics.{_≡_, ap, subst, _∙_, List, _++_, append-assoc, ℕ, _-_, _≤_, _<_, decLt, arith, take, drop}
+use Rattle.property.proofs.Basics.{_≡_, ap, subst, _∙_, List, _++_, append-assoc, ℕ, _-_, _≤_, _<_, arith, ltb, ltb-true, ltb-false, take, drop}
+use Rattle.property.proofs.Tests.{by-test}
 use Rattle.dimacs.proofs.Split.{joined-take}
 use Rattle.dimacs.specs.Lines.{joined, split, Begins, Place}
 
@@ -26,9 +27,6 @@ module _ (Good : List ℕ → Type 0) (text : List ℕ) where
 
   -- a text has one place at most: before it some good text goes on, and with it none does
   pub place-one : (j k : ℕ) → Place Good text j → Place Good text k → j ≡ k
-  place-one j k p q = pick (decLt j k) (decLt k j)
-    where
-      pick : Dec (j < k) → Dec (k < j) → j ≡ k
-      pick (yes l) d = absurd (place-first j k p q l)
-      pick (no l) (yes d) = absurd (place-first k j q p d)
-      pick (no l) (no d) = omega arith
+  place-one j k p q = by-test (ltb j k)
+      (λ e. absurd (place-first j k p q (ltb-true j k e)))
+      (λ e. by-test (ltb k j) (λ f. absurd (place-first k j q p (ltb-true k j f))) (λ f. omega (arith, ltb-false j k e, ltb-false k j f)))

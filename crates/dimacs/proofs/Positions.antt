@@ -1,14 +1,13 @@
 -- Reading at a position of a text: one byte, one number, one line at a time. For code that walks a list of bytes.
 -- Assumes nothing.
-use Rattle.property.proofs.Basics.{_≡_, refl, ap, _∙_, true, false, not, List, [], _∷_, _++_, none, some, ℕ, suc, _+_, _-_, _*_, _≤_, _<_, add-one, arith, eqb, length, getD, take, drop, drop-of-length-le, length-drop, drop-cons, take-suc, take-all, getD-drop, drop-drop, eq-eqb, ne-eqb, not-true}
+use Rattle.property.proofs.Basics.{_≡_, refl, ap, _∙_, true, false, not, List, [], _∷_, _++_, ℕ, suc, _+_, _-_, _*_, _≤_, _<_, add-one, arith, eqb, length, getD, take, drop, drop-of-length-le, length-drop, drop-cons, take-suc, take-all, getD-drop, drop-drop, ne-eqb, not-true}
 use lib.Seq.{split-at}
 use Rattle.graph.proofs.Tests.{both}
 use Rattle.dimacs.proofs.Digits.{scan-digit, scan-other}
 use Rattle.dimacs.proofs.Fields.{plain-append}
 use Rattle.dimacs.proofs.Split.{split-line}
-use Rattle.dimacs.specs.Decimal.{isDigit, scan, number}
+use Rattle.dimacs.specs.Decimal.{isDigit, scan}
 use Rattle.dimacs.specs.Lines.{before, split, plain}
-use Rattle.dimacs.specs.Read.{fields}
 
 -- ---- numbers
 
@@ -22,32 +21,6 @@ module _ (s : List ℕ) (i : ℕ) where
   pub scan-end : (v : ℕ) → length s ≤ i → scan v (drop i s) ≡ (v, drop i s)
   unfolding scan
   scan-end v h = rw (drop-of-length-le s h)
-
-  pub number-end : length s ≤ i → number (drop i s) ≡ none
-  unfolding number
-  number-end h = rw (drop-of-length-le s h)
-
-  pub number-zero : i < length s → getD s i 0 ≡ 48 → number (drop i s) ≡ some (0, drop (i + 1) s)
-  unfolding number
-  number-zero h e = rw (drop-cons s i 0 h, eq-eqb (getD s i 0) 48 e, add-one)
-
-  pub number-bad : i < length s → (getD s i 0 ≡ 48 → ⊥) → isDigit (getD s i 0) ≡ false → number (drop i s) ≡ none
-  unfolding number
-  number-bad h d e = rw (drop-cons s i 0 h, ne-eqb (getD s i 0) 48 d, e)
-
-  pub number-scan : i < length s → (getD s i 0 ≡ 48 → ⊥) → isDigit (getD s i 0) ≡ true → number (drop i s) ≡ some (scan (getD s i 0 - 48) (drop (i + 1) s))
-  unfolding number
-  number-scan h d e = rw (drop-cons s i 0 h, ne-eqb (getD s i 0) 48 d, e, add-one)
-
-  -- ---- the end of a line's fields
-
-  pub fields-over : length s ≤ i → fields 0 (drop i s) ≡ some []
-  unfolding fields
-  fields-over h = rw (drop-of-length-le s h)
-
-  pub fields-long : i < length s → fields 0 (drop i s) ≡ none
-  unfolding fields
-  fields-long h = rw (drop-cons s i 0 h)
 
 -- ---- the first line from a position on, found byte by byte
 

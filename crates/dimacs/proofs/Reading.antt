@@ -12,7 +12,7 @@
 --   Accepts text             == the reader accepts text
 use Rattle.property.proofs.Basics.{_≡_, refl, sym, ap, subst, _∙_, Bool, true, false, not, false≢true, List, [], _∷_, _++_, map, Option, none, some, bind, ℕ, suc, _+_, _-_, _≤_, _<_, add-one, arith, eqb, length, take, drop, drop-of-length-le, drop-cons, eqb-true, not-true}
 use Rattle.property.proofs.Tests.{by-test}
-use Rattle.dimacs.proofs.Options.{none-some, some-same, bind-some}
+use Rattle.dimacs.proofs.Options.{none-some, some-same, by-option, bind-some}
 use Rattle.dimacs.proofs.Split.{Plains, joined-append, split-joined, split-spelled, split-plain, split-lines, plains-append, plains-take}
 use Rattle.dimacs.specs.Lines.{joined, Split, split, plain, Line, bare, comment, says, lineOf, spoken, Plain, Spelled, Begins, Place}
 use Rattle.dimacs.specs.Read.{commentOf, spokenBy, lineIn, Read, good, bad, heard, step, ended, reading, read}
@@ -43,6 +43,15 @@ pub record Ends {A S : Type 0} (act : S → A → Option S) (complete : S → Bo
   pub end : S
   pub reached : acts act s items ≡ some end
   pub completed : complete end ≡ true
+
+-- one item more at the front
+module _ {A S : Type 0} (act : S → A → Option S) (s : S) (a : A) (t : S) (e : act s a ≡ some t) where
+  pub acts-some : (as′ : List A) → acts act s (a ∷ as′) ≡ acts act t as′
+  unfolding acts bind
+  acts-some as′ = rw e
+
+  pub ends-more : {complete : S → Bool} → Ends act complete t → Ends act complete s
+  ends-more d = record { items = a ∷ d .items; end = d .end; reached = acts-some (d .items) ∙ d .reached; completed = d .completed }
 
 -- items spelled as lines
 pub record Spelling {A : Type 0} (spell : A → List ℕ) (parse : List ℕ → Option A) : Type 0 where
@@ -136,12 +145,7 @@ module _ {A S : Type 0} {spell : A → List ℕ} {parse : List ℕ → Option A}
   pub steps-append : (ls ms : List (List ℕ)) (s : S) → steps s (ls ++ ms) ≡ bind (steps s ls) (λ t. steps t ms)
   unfolding steps bind
   steps-append [] ms s = refl
-  steps-append (l ∷ ls) ms s = pick (step parse act complete s l) (λ t. steps-append ls ms t)
-    where
-      pick : (o : Option S) → ((t : S) → steps t (ls ++ ms) ≡ bind (steps t ls) (λ u. steps u ms))
-          → bind o (λ t. steps t (ls ++ ms)) ≡ bind (bind o (λ t. steps t ls)) (λ u. steps u ms)
-      pick none ih = refl
-      pick (some t) ih = ih t
+  steps-append (l ∷ ls) ms s = by-option (step parse act complete s l) (λ e. rw e) (λ t e. rw e (steps-append ls ms t))
 
   step-line : (s : S) (x : Line A) → step parse act complete s (lineOf spell x) ≡ heard parse act complete s x
   unfolding step
@@ -153,12 +157,7 @@ module _ {A S : Type 0} {spell : A → List ℕ} {parse : List ℕ → Option A}
   steps-lines [] s = refl
   steps-lines (bare ∷ xs) s = ap (λ (o : Option S). bind o (λ t. steps t (map (lineOf spell) xs))) (step-line s bare) ∙ steps-lines xs s
   steps-lines (comment c ∷ xs) s = ap (λ (o : Option S). bind o (λ t. steps t (map (lineOf spell) xs))) (step-line s (comment c)) ∙ steps-lines xs s
-  steps-lines (says a ∷ xs) s = ap (λ (o : Option S). bind o (λ t. steps t (map (lineOf spell) xs))) (step-line s (says a)) ∙ pick (act s a) (λ t. steps-lines xs t)
-    where
-      pick : (o : Option S) → ((t : S) → steps t (map (lineOf spell) xs) ≡ acts act t (spoken xs))
-          → bind o (λ t. steps t (map (lineOf spell) xs)) ≡ bind o (λ t. acts act t (spoken xs))
-      pick none ih = refl
-      pick (some t) ih = ih t
+  steps-lines (says a ∷ xs) s = ap (λ (o : Option S). bind o (λ t. steps t (map (lineOf spell) xs))) (step-line s (says a)) ∙ by-option (act s a) (λ e. rw e) (λ t e. rw e (steps-lines xs t))
 
   -- lines that are read to the end say something
   pub steps-said : (ls : List (List ℕ)) (s t : S) → steps s ls ≡ some t → (xs : List (Line A)) × (ls ≡ map (lineOf spell) xs)
@@ -187,23 +186,16 @@ module _ {A S : Type 0} {spell : A → List ℕ} {parse : List ℕ → Option A}
       → (steps s ls ≡ some t) × (r ≡ []) × (complete t ≡ true)
   unfolding reading steps bind
   reading-good [] r k s t h = let (p, q, c) = ended-good r k s t h in (ap (λ (x : S). some x) p, q, c)
-  reading-good (l ∷ ls) r k s t h = pick (step parse act complete s l) refl (λ u. reading-good ls r (suc k) u t)
-    where
-      pick : (o : Option S) → step parse act complete s l ≡ o
-          → ((u : S) → reading parse act complete ls r (suc k) u ≡ good t → (steps u ls ≡ some t) × (r ≡ []) × (complete t ≡ true))
-          → (bind (step parse act complete s l) (λ u. steps u ls) ≡ some t) × (r ≡ []) × (complete t ≡ true)
-      pick none e ih = absurd (good-bad (sym (reading-none parse act complete l ls r k s e) ∙ h))
-      pick (some u) e ih = rw e (ih u (sym (reading-some parse act complete l ls r k s u e) ∙ h))
+  reading-good (l ∷ ls) r k s t h = by-option (step parse act complete s l)
+      (λ e. absurd (good-bad (sym (reading-none parse act complete l ls r k s e) ∙ h)))
+      (λ u e. rw e (reading-good ls r (suc k) u t (sym (reading-some parse act complete l ls r k s u e) ∙ h)))
 
   good-reading : (ls : List (List ℕ)) (k : ℕ) (s t : S) → steps s ls ≡ some t → complete t ≡ true → reading parse act complete ls [] k s ≡ good t
   unfolding reading steps ended bind
   good-reading [] k s t h c = let w : s ≡ t = some-same h in rw (w, c)
-  good-reading (l ∷ ls) k s t h c = pick (step parse act complete s l) refl (λ u q. good-reading ls (suc k) u t q c)
-    where
-      pick : (o : Option S) → step parse act complete s l ≡ o → ((u : S) → steps u ls ≡ some t → reading parse act complete ls [] (suc k) u ≡ good t)
-          → reading parse act complete (l ∷ ls) [] k s ≡ good t
-      pick none e ih = absurd (none-some (rw e at h))
-      pick (some u) e ih = reading-some parse act complete l ls [] k s u e ∙ ih u (rw e at h)
+  good-reading (l ∷ ls) k s t h c = by-option (step parse act complete s l)
+      (λ e. absurd (none-some (rw e at h)))
+      (λ u e. reading-some parse act complete l ls [] k s u e ∙ good-reading ls (suc k) u t (rw e at h) c)
 
   -- ---- exactly the good texts are accepted
 
@@ -265,26 +257,14 @@ module _ {A S : Type 0} {spell : A → List ℕ} {parse : List ℕ → Option A}
     omega (arith, ended-bad r k s j h),
     record { inside = omega arith; state = s; reached = refl; dead = λ l. absurd (omega arith) },
   )
-  reading-stops (l ∷ ls) r k s j h = pick (step parse act complete s l) refl (λ t. reading-stops ls r (suc k) t j)
-    where
-      pick : (o : Option S) → step parse act complete s l ≡ o
-          → ((t : S) → reading parse act complete ls r (suc k) t ≡ bad j → (i : ℕ) × (j ≡ suc (suc k + i)) × Stopped t ls i)
-          → (i : ℕ) × (j ≡ suc (k + i)) × Stopped s (l ∷ ls) i
-      pick none e ih =
+  reading-stops (l ∷ ls) r k s j h = by-option (step parse act complete s l)
+      (λ e.
           let q : _≡_ {A = Read S} (bad (suc k)) (bad j) = sym (reading-none parse act complete l ls r k s e) ∙ h in
           let w : suc k ≡ j = cc in
-          (0, omega arith, record { inside = omega arith; state = s; reached = refl; dead = λ z. rw e })
-      pick (some t) e ih =
-          let (i, p, d) = ih t (sym (reading-some parse act complete l ls r k s t e) ∙ h) in (
-            suc i,
-            omega arith,
-            record {
-              inside = omega (arith, d .inside);
-              state = d .state;
-              reached = rw e (d .reached);
-              dead = λ q. rw e (d .dead (omega arith));
-            },
-          )
+          (0, omega arith, record { inside = omega arith; state = s; reached = refl; dead = λ z. rw e }))
+      (λ t e.
+          let (i, p, d) = reading-stops ls r (suc k) t j (sym (reading-some parse act complete l ls r k s t e) ∙ h) in
+          (suc i, omega arith, record { inside = omega (arith, d .inside); state = d .state; reached = rw e (d .reached); dead = λ q. rw e (d .dead (omega arith)) }))
 
   plains-spelled : (as′ : List A) → Plains (map spell as′)
   plains-spelled [] = tt

@@ -1,10 +1,10 @@
 -- Source files are an instance of Reading: their items are spelled as lines, no state is a dead end where there is a vertex, and
 -- the items that lead to a complete state are those of a good file. Assumes nothing.
-use Rattle.property.proofs.Basics.{_≡_, refl, sym, ap, subst, _∙_, _⊎_, inl, inr, Bool, true, _&&_, cond, false≢true, List, [], _∷_, _++_, map, append-assoc, append-nil, none, some, bind, ℕ, zero, suc, _+_, _-_, _≤_, _<_, arith, leb, ltb, length, length-append, lt-ltb, le-leb, ltb-true, leb-true, eqb-true, eq-eqb}
-use Rattle.graph.proofs.Tests.{both, and-true}
+use Rattle.property.proofs.Basics.{_≡_, refl, sym, ap, subst, _∙_, _⊎_, inl, inr, ⊎-elim, Bool, true, _&&_, cond, false≢true, List, [], _∷_, _++_, map, append-assoc, append-nil, none, some, bind, ℕ, zero, suc, _+_, _-_, _≤_, _<_, arith, leb, ltb, length, length-append, lt-ltb, le-leb, ltb-true, leb-true, eqb-true, eq-eqb}
+use Rattle.graph.proofs.Tests.{both}
 use Rattle.dimacs.proofs.Options.{none-some, some-same, bind-some, cond-some}
 use Rattle.dimacs.proofs.Fields.{plain-fields, marked-fields, either-spells}
-use Rattle.dimacs.proofs.Reading.{acts, speaks, Ends, Spelling, NoDeadEnd, accepts, accepted}
+use Rattle.dimacs.proofs.Reading.{acts, acts-some, speaks, Ends, ends-more, Spelling, NoDeadEnd, accepts, accepted}
 use Rattle.dimacs.specs.Lines.{plain, fieldsOf, Spelled}
 use Rattle.dimacs.specs.Read.{after, good}
 use Rattle.dimacs.specs.Network.{orElse}
@@ -51,14 +51,15 @@ sources-spelling = record { reads-spelled = item-reads; spells-read = item-spell
 module _ (n : ℕ) where
   -- ---- items after the p line
 
-  pub takes-true : (k : ℕ) (ss : List ℕ) (v : ℕ) → length ss < k → v < n → (ltb (length ss) k && ltb v n) ≡ true
-  takes-true k ss v p q = and-true (lt-ltb (length ss) k p) (lt-ltb v n q)
+  act-takes : (k : ℕ) (ss : List ℕ) (v : ℕ) → length ss < k → v < n → act n (within k ss) (source v) ≡ some (within k (ss ++ (v ∷ [])))
+  unfolding act
+  act-takes k ss v p q = rw (lt-ltb (length ss) k p, lt-ltb v n q)
 
   sources-taken : (k : ℕ) (ss vs : List ℕ) → Vertices n vs → length ss + length vs ≤ k → acts (act n) (within k ss) (map source vs) ≡ some (within k (ss ++ vs))
-  unfolding acts act bind
+  unfolding acts
   sources-taken k ss [] a h = ap (λ (x : List ℕ). some (within k x)) (sym (append-nil ss))
   sources-taken k ss (v ∷ vs) a h =
-      ap (λ (b : Bool). bind (cond b (some (within k (ss ++ (v ∷ [])))) none) (λ s. acts (act n) s (map source vs))) (takes-true k ss v (omega arith) (a .0))
+      acts-some (act n) (within k ss) (source v) (within k (ss ++ (v ∷ []))) (act-takes k ss v (omega arith) (a .0)) (map source vs)
       ∙ sources-taken k (ss ++ (v ∷ [])) vs (a .1) (omega (arith, length-append ss (v ∷ [])))
       ∙ ap (λ (x : List ℕ). some (within k x)) (append-assoc ss (v ∷ []) vs)
 
@@ -117,30 +118,19 @@ module _ (n : ℕ) where
   -- ---- each state that is reached can be completed, where there is a vertex: lines `s 1` follow
 
   fill : (j k : ℕ) (ss : List ℕ) → 0 < n → length ss + j ≡ k → Ends (act n) complete (within k ss)
-  unfolding acts act complete bind
+  unfolding acts complete
   fill zero k ss p h = record { items = []; end = within k ss; reached = refl; completed = eq-eqb (length ss) k (omega arith) }
-  fill (suc j) k ss p h = more (fill j k (ss ++ (0 ∷ [])) p (omega (arith, length-append ss (0 ∷ []))))
-    where
-      more : Ends (act n) complete (within k (ss ++ (0 ∷ []))) → Ends (act n) complete (within k ss)
-      more d = record {
-        items = source 0 ∷ d .items;
-        end = d .end;
-        reached = ap (λ (b : Bool). bind (cond b (some (within k (ss ++ (0 ∷ [])))) none) (λ s. acts (act n) s (d .items))) (takes-true k ss 0 (omega arith) p) ∙ d .reached;
-        completed = d .completed;
-      }
+  fill (suc j) k ss p h = ends-more (act n) (within k ss) (source 0) (within k (ss ++ (0 ∷ []))) (act-takes k ss 0 (omega arith) p) (fill j k (ss ++ (0 ∷ [])) p (omega (arith, length-append ss (0 ∷ []))))
 
   pub sources-go-on : 0 < n → NoDeadEnd (act n) complete start
-  sources-go-on pos xs s h = pick (opened xs s h)
-    where
-      first : Ends (act n) complete start
-      first = unfold acts act complete bind in record { items = header 0 ∷ []; end = within 0 []; reached = refl; completed = refl }
-
-      pick : (s ≡ start) ⊎ Opened xs s → Ends (act n) complete s
-      pick (inl q) = rw q first
-      pick (inr o) =
+  unfolding acts act complete bind
+  sources-go-on pos xs s h = ⊎-elim
+      (λ q. rw q record { items = header 0 ∷ []; end = within 0 []; reached = refl; completed = refl })
+      (λ o.
           let t = o .taken in
           let f : length (t .sources) ≤ o .k = omega (arith, t .few (omega arith)) in
-          rw (t .state) (fill (o .k - length (t .sources)) (o .k) (t .sources) pos (omega arith))
+          rw (t .state) (fill (o .k - length (t .sources)) (o .k) (t .sources) pos (omega arith)))
+      (opened xs s h)
 
   -- ---- the items of a good file, and no others, lead to a complete state
 
@@ -171,12 +161,7 @@ module _ (n : ℕ) where
       )
 
   pub read-good : (text : List ℕ) (s : State) → readSources n text ≡ good s → (ss : List ℕ) × (s ≡ within (length ss) ss) × Good n text ss
-  unfolding readSources
-  read-good text s h = let (xs, d, p, c) = accepted sources-spelling (act n) complete start text s h in pick xs d c (opened xs s p)
-    where
-      never : s ≡ start → complete s ≡ true → ⊥
-      never p c = unfold complete in false≢true (rw p at c)
-
-      pick : (xs : List Item) → Spelled itemOf text xs → complete s ≡ true → (s ≡ start) ⊎ Opened xs s → (ss : List ℕ) × (s ≡ within (length ss) ss) × Good n text ss
-      pick xs d c (inl q) = absurd (never q c)
-      pick xs d c (inr o) = opened-good text xs s d o c
+  unfolding readSources complete
+  read-good text s h =
+      let (xs, d, p, c) = accepted sources-spelling (act n) complete start text s h in
+      ⊎-elim (λ q. absurd (false≢true (rw q at c))) (λ o. opened-good text xs s d o c) (opened xs s p)

@@ -85,7 +85,7 @@ network-canonical = canonical-written
 -- table, whose records then stand in front of the lists.
 pub calls-read-back : CallsReadBack
 calls-read-back n cs m out k ds h s =
-    let (t, l, w, e) = write-verdict n cs m out k h in (
+    let (t, l, w, e, _, _, _) = write-verdict n cs m out k h in (
       ap (λ (x : List ℕ). readCall x ds) e ∙ read-call (net.written n (edgesOf cs m)) n (edgesOf cs m) m ds (network-reads-back n (edgesOf cs m) t) l s,
       filled-edges (edgesOf cs m) m ds l,
     )

@@ -1,11 +1,11 @@
 -- Written text: it is good, has no comment and ascends; no other text of its network does; what a call wrote, a call reads back.
 -- Assumes nothing.
-use Rattle.property.proofs.Basics.{_≡_, refl, sym, ap, _∙_, List, [], _∷_, map, ℕ, _≤_, arith, ltb, length, take, drop, take-at}
+use Rattle.property.proofs.Basics.{_≡_, refl, sym, ap, _∙_, List, [], _∷_, map, ℕ, _≤_, arith, ltb, ltb-false, length, take, take-at}
 use Rattle.graph.specs.Limits.{maxEdges}
 use Rattle.graph.specs.Refusal.{accept, _▷_, refuseIf, accepted, replied, choose}
 use Rattle.graph.specs.Edge.{Edge}
 use Rattle.graph.specs.Table.{Columns, edgesOf, isEdge, tableOrder, rules, size, shortTable, table}
-use Rattle.graph.proofs.Verdicts.{then-accept, reply-accepted}
+use Rattle.graph.proofs.Verdicts.{then-accept, if-accept, reply-accepted}
 use Rattle.graph.proofs.Sorted.{sorted-all, sorted-distinct}
 use Rattle.graph.proofs.Gather.{into-ascending}
 use Rattle.graph.proofs.Order.{table-ordered, Sound, rules-accept}
@@ -98,6 +98,7 @@ canonical-written text n es c =
 -- the verdict of an accepted writing
 pub write-verdict : (n : ℕ) (cs : Columns) (m : ℕ) (out : List ℕ) (k : ℕ) → writeCall n cs m out .reply ≡ accepted k
     → (Table n (edgesOf cs m)) × (length (edgesOf cs m) ≡ m) × (length (written n (edgesOf cs m)) ≡ k) × (take k (writeCall n cs m out .memory) ≡ written n (edgesOf cs m))
+    × (shortTable cs ≡ accept) × (m ≤ maxEdges) × (length (written n (edgesOf cs m)) ≤ length out)
 unfolding writeCall choose
 write-verdict n cs m out k h =
     let text = written n (edgesOf cs m) in
@@ -108,7 +109,7 @@ write-verdict n cs m out k h =
     let (d, e) = table-accept n cs m c in
     let l : length (edgesOf cs m) ≡ m = edges-length (cs .tails) (cs .heads) (cs .weights) m (room-less d (lengths-accept (cs .tails) (cs .heads) (cs .weights) b)) in
     let f : length (edgesOf cs m) ≤ maxEdges = omega arith in
-    (record { vertices = a; few = f; rules = e }, l, w, rw v (take-at text _ k w))
+    (record { vertices = a; few = f; rules = e }, l, w, rw v (take-at text _ k w), b, d, ltb-false (length out) (length text) (if-accept _ 2 0 v₃))
 
 -- edges stored in front of three lists are the records below their count
 pub filled-edges : (es : List Edge) (m : ℕ) (ds : Columns) → length es ≡ m → edgesOf (filled es ds) m ≡ es

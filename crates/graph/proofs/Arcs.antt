@@ -1,11 +1,9 @@
--- The head and the weight of an arc; an index as one list, from first edges, heads and weights; and the arcs of the reversed table, placed
--- one by one. Assumes nothing.
-use Rattle.property.proofs.Basics.{_≡_, refl, sym, ap, ap₂, _∙_, ⊎-elim, List, [], _∷_, map, ℕ, zero, suc, _+_, _-_, _<_, _≤_, arith, length, getD, set, take, length-set, getD-set-same, getD-set-other, ℕ-discrete}
+-- The head and the weight of an arc, and the arcs of the reversed table, placed one by one. Assumes nothing.
+use Rattle.property.proofs.Basics.{_≡_, sym, ap₂, _∙_, List, map, ℕ, _+_, _<_, _≤_, arith, length, getD, set, take, length-set, getD-set-same, getD-set-other, ℕ-discrete}
 use Rattle.graph.specs.Arc.{arcWeights, arc, arcHead, arcWeight}
-use Rattle.graph.specs.Edge.{Edge, edge, leaving, edges, range}
+use Rattle.graph.specs.Edge.{edges, range}
 use Rattle.graph.specs.Code.{Room, Firsts}
-use Rattle.graph.specs.Own as split
-use Rattle.graph.specs.Index.{part, Fit, Own, Indexes, ReversedArcs}
+use Rattle.graph.specs.Index.{ReversedArcs}
 use Rattle.graph.proofs.Lists.{length-table, table-at}
 use Rattle.graph.proofs.Places.{Filled, filled-none, filled-place, filled-store, filled-end}
 
@@ -14,68 +12,6 @@ head-arc h w l = omega arith
 
 pub weight-arc : (h w : ℕ) → w < arcWeights → arcWeight (arc h w) ≡ w
 weight-arc h w l = omega arith
-
-module _ (n m : ℕ) (fs hs ws is : List ℕ) (f : split.Fit n m fs hs ws) (size : n + 1 + m ≤ length is) (last : getD fs n 0 ≤ m)
-    (places : (u : ℕ) → u ≤ n → getD is u 0 ≡ getD fs u 0 + (n + 1))
-    (arcs : (k : ℕ) → k < m → getD is (n + 1 + k) 0 ≡ arc (getD hs k 0) (getD ws k 0)) where
-  rises : (u k : ℕ) → u + k ≡ n → getD fs u 0 ≤ getD fs n 0
-  rises u zero e = let z : u ≡ n = omega arith in rw z (omega arith)
-  rises u (suc k) e = let a = f .rising u (omega arith) in let b = rises (u + 1) k (omega arith) in omega arith
-
-  packed-fit : Fit n is
-  packed-fit =
-      let e = places n (omega arith) in
-      record {
-        few = f .few;
-        places = omega arith;
-        after = λ u l. let a = places u l in omega arith;
-        rising = λ u l. let a = places u (omega arith) in let b = places (u + 1) (omega arith) in let c = f .rising u l in omega arith;
-        within = λ u l. let b = places (u + 1) (omega arith) in let c = rises (u + 1) (n - (u + 1)) (omega arith) in omega arith;
-        last = omega arith;
-        short = let a = f .records in omega arith;
-        inside = λ k a b.
-            let j : n + 1 + (k - (n + 1)) ≡ k = omega arith in
-            let l : k - (n + 1) < m = omega arith in
-            let d = arcs (k - (n + 1)) l in
-            let h = head-arc (getD hs (k - (n + 1)) 0) (getD ws (k - (n + 1)) 0) (f .light (k - (n + 1)) l) in
-            let i = f .inside (k - (n + 1)) l in
-            let q : arcHead (getD is k 0) ≡ getD hs (k - (n + 1)) 0 = ap (λ (x : ℕ). arcHead (getD is x 0)) (sym j) ∙ ap arcHead d ∙ h in
-            omega (arith, q, i);
-      }
-
-  packed-part : (u j k : ℕ) → j + k ≤ m → part is u (j + (n + 1)) k ≡ split.part hs ws u j k
-  unfolding part split.part
-  packed-part u j zero l = refl
-  packed-part u j (suc k) l =
-      let x : j + (n + 1) ≡ n + 1 + j = omega arith in
-      let e = ap (λ (i : ℕ). getD is i 0) x ∙ arcs j (omega arith) in
-      let h = head-arc (getD hs j 0) (getD ws j 0) (f .light j (omega arith)) in
-      let w = weight-arc (getD hs j 0) (getD ws j 0) (f .light j (omega arith)) in
-      let y : suc (j + (n + 1)) ≡ suc j + (n + 1) = omega arith in
-      rw (e, h, w) (ap (λ (l : List Edge). edge u (getD hs j 0) (getD ws j 0) ∷ l) (ap (λ (i : ℕ). part is u i k) y ∙ packed-part u (suc j) k (omega arith)))
-
-  packed-own : (es : List Edge) → split.Own n fs hs ws es → Own n is es
-  packed-own es o u l =
-      let a = places u (omega arith) in
-      let b = places (u + 1) (omega arith) in
-      let r = f .rising u l in
-      let w = f .within u l in
-      let d : getD is (u + 1) 0 - getD is u 0 ≡ getD fs (u + 1) 0 - getD fs u 0 = omega arith in
-      ap (λ (x : ℕ). part is u (getD is u 0) x) d ∙ ap (λ (x : ℕ). part is u x (getD fs (u + 1) 0 - getD fs u 0)) a ∙ packed-part u (getD fs u 0) _ (omega arith) ∙ o u l
-
-  pub packed : (es : List Edge) → split.Own n fs hs ws es → Indexes n is es
-  packed es o = record { fit = packed-fit; own = packed-own es o }
-
--- ---- how many
-
-part-length : (is : List ℕ) (u j k : ℕ) → length (part is u j k) ≡ k
-unfolding part
-part-length is u j zero = refl
-part-length is u j (suc k) = ap suc (part-length is u (suc j) k)
-
--- what lies between a vertex's first place and the next one's is as many as leave it
-pub own-length : (n : ℕ) (is : List ℕ) (es : List Edge) (u : ℕ) → u < n → Own n is es → getD is (u + 1) 0 - getD is u 0 ≡ length (leaving u es)
-own-length n is es u l o = sym (part-length is u (getD is u 0) (getD is (u + 1) 0 - getD is u 0)) ∙ ap length (o u l)
 
 -- ---- the reversed table
 

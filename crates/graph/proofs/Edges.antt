@@ -1,5 +1,5 @@
 -- Lists of edges: those that pass a test, whether one does, membership by the three words, reversed lists. Assumes nothing.
-use Rattle.property.proofs.Basics.{_≡_, refl, sym, ap, _∙_, ⊎-elim, Bool, true, false, false≢true, List, [], _∷_, _++_, map, List·Memᴰ, List·Memᴰ·head, List·Memᴰ·tail, List·Memᴰ·cases-cons, List·Memᴰ·not-nil, ℕ, eqb, eqb-true, eq-eqb}
+use Rattle.property.proofs.Basics.{_≡_, refl, sym, ap, _∙_, ⊎-elim, Bool, true, false≢true, List, [], _∷_, _++_, map, List·Memᴰ, List·Memᴰ·head, List·Memᴰ·tail, List·Memᴰ·cases-cons, List·Memᴰ·not-nil, ℕ, eqb, eqb-true, eq-eqb}
 use Rattle.property.proofs.Tests.{by-test}
 use Rattle.graph.specs.Edge.{Edge, reverse, same, keepIf, keep, exists, among, leaving}
 use Rattle.graph.proofs.Tests.{both, and-true, or-right}

@@ -15,11 +15,6 @@ module _ (a b : Bool) where
   or-left e = rw e
 
 -- code nests chains to the left, definitions to the right
-pub and-nest : (a b c d : Bool) → (((a && b) && c) && d) ≡ (a && (b && (c && d)))
-and-nest true true c d = refl
-and-nest true false c d = refl
-and-nest false b c d = refl
-
 pub or-nest : (a b c : Bool) → ((a || b) || c) ≡ (a || (b || c))
 or-nest true b c = refl
 or-nest false b c = refl

@@ -1,5 +1,5 @@
 -- Lists: ranges, tables over them, stored places, folds, lists of one value. Assumes nothing.
-use Rattle.property.proofs.Basics.{_≡_, refl, sym, ap, _∙_, _⊎_, inl, inr, _≢_, List, [], _∷_, _++_, map, foldl, List·Memᴰ, List·Memᴰ·head, List·Memᴰ·tail, List·Memᴰ·cases-cons, List·Memᴰ·not-nil, ℕ, zero, suc, _+_, _-_, _<_, _≤_, add-zero, zero-add, ℕ-discrete, arith, getD, set, length, take, drop, replicate, length-map, length-drop, getD-set-same, getD-set-other, take-suc-set}
+use Rattle.property.proofs.Basics.{_≡_, refl, sym, ap, _∙_, _⊎_, inl, inr, ⊎-elim, _≢_, List, [], _∷_, _++_, map, foldl, List·Memᴰ, List·Memᴰ·head, List·Memᴰ·tail, List·Memᴰ·cases-cons, List·Memᴰ·not-nil, ℕ, zero, suc, _+_, _-_, _<_, _≤_, add-zero, zero-add, ℕ-discrete, arith, getD, set, length, take, drop, replicate, length-map, length-drop, getD-set-same, getD-set-other, take-suc-set}
 use lib.Seq.{drop-set-lt, drop-set-add, take-set-le}
 use Rattle.graph.specs.Edge.{range}
 
@@ -25,11 +25,7 @@ mem-range-0 n t h = rw (zero-add t) at (mem-range 0 n t h)
 pub range-below : (i n t : ℕ) → List·Memᴰ t (range i n) → t < i + n
 unfolding range
 range-below i zero t m = absurd (List·Memᴰ·not-nil m)
-range-below i (suc n) t m = pick (List·Memᴰ·cases-cons m) (λ k. range-below (suc i) n t k)
-  where
-    pick : (t ≡ i) ⊎ List·Memᴰ t (range (suc i) n) → (List·Memᴰ t (range (suc i) n) → t < suc i + n) → t < i + suc n
-    pick (inl p) below = omega arith
-    pick (inr k) below = let z = below k in omega arith
+range-below i (suc n) t m = ⊎-elim (λ p. omega arith) (λ k. let z = range-below (suc i) n t k in omega arith) (List·Memᴰ·cases-cons m)
 
 module _ {A : Type 0} (f : ℕ → A) where
   pub length-table : (i n : ℕ) → length (map f (range i n)) ≡ n

@@ -30,18 +30,12 @@ not-less : (e f : Edge) → precedes e f ≡ false → (f .tail ≤ e .tail) × 
 not-less e f h = let z = neither (ltb (e .tail) (f .tail)) _ h in (ltb-false _ _ (z .0), λ q. ltb-false _ _ (rw (eq-eqb (e .tail) (f .tail) q) at (z .1)))
 
 of-less : (e f : Edge) → Less e f → precedes e f ≡ true
-of-less e f l = is-true (precedes e f) (λ h. pick (not-less e f h) l)
-  where
-    pick : (f .tail ≤ e .tail) × (e .tail ≡ f .tail → f .head ≤ e .head) → Less e f → ⊥
-    pick z (inl a) = let b = z .0 in omega arith
-    pick z (inr a) = let b = z .1 (a .0) in let c = a .1 in omega arith
+of-less e f l = is-true (precedes e f) (λ h.
+    let z = not-less e f h in
+    ⊎-elim (λ a. let b = z .0 in omega arith) (λ a. let b = z .1 (a .0) in let c = a .1 in omega arith) l)
 
 pub precedes-tail : (e f : Edge) → precedes e f ≡ true → e .tail ≤ f .tail
-precedes-tail e f h = pick (less-of e f h)
-  where
-    pick : Less e f → e .tail ≤ f .tail
-    pick (inl a) = omega arith
-    pick (inr a) = let p = a .0 in omega arith
+precedes-tail e f h = ⊎-elim (λ a. omega arith) (λ a. let p = a .0 in omega arith) (less-of e f h)
 
 -- ---- the laws
 

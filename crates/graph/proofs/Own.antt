@@ -4,7 +4,8 @@
 -- In a table that keeps the rules tails never fall. So the edges of tail u stand together: after as many as have a tail below u,
 -- and as many as have the tail u. An index says just these two numbers. The reversed table is made of the edges into 0, into 1, ..,
 -- so there the same numbers are those of the heads.
-use Rattle.property.proofs.Basics.{_≡_, refl, sym, ap, _∙_, ⊎-elim, Bool, true, false, cond, List, [], _∷_, map, List·Memᴰ, List·Memᴰ·not-nil, ℕ, zero, suc, _+_, _-_, _<_, _≤_, add-one, arith, decLt, length, getD, take, drop, length-drop, eqb, ltb, length-take-le, getD-take, getD-drop, drop-drop, take-append-seam, ltb-true, ltb-false, eqb-true, eqb-false, le-ltb, ne-eqb}
+use Rattle.property.proofs.Basics.{_≡_, refl, sym, ap, _∙_, ⊎-elim, List, [], _∷_, map, List·Memᴰ, List·Memᴰ·not-nil, ℕ, zero, suc, _+_, _-_, _<_, _≤_, add-one, arith, length, getD, take, drop, length-drop, eqb, ltb, length-take-le, getD-take, getD-drop, drop-drop, take-append-seam, ltb-true, ltb-false, eqb-true, eqb-false, le-ltb, ne-eqb}
+use Rattle.property.proofs.Tests.{by-test}
 use mathlib.Core.List.{List·Memᴰ·append-cases}
 use lib.Seq.{drop-append-seam}
 use Rattle.graph.specs.Limits.{maxVertices, maxEdges, maxWeight}
@@ -12,14 +13,16 @@ use Rattle.graph.specs.Refusal.{accept}
 use Rattle.graph.specs.Edge.{Edge, edge, reverse, keepIf, keep, leaving, edges}
 use Rattle.graph.specs.Table.{isEdge, rules}
 use Rattle.graph.specs.Code.{Room, edgeAt, below, equal, Keyed, Firsts, into, reversedFrom, reversed}
-use Rattle.graph.specs.Own.{part, own, Own, Fit}
+use Rattle.graph.specs.Arc.{arcHeads, arcWeights, arc, arcHead}
+use Rattle.graph.specs.Index.{part, Fit, Own, Indexable, ReversedArcs, Indexes}
 use Rattle.graph.specs.Parted.{Ascending}
 use Rattle.graph.proofs.Lists.{getD-mem}
 use Rattle.graph.proofs.Edges.{leaving-in, keep-in, keep-reverse, reverse-mem}
 use Rattle.graph.proofs.Sorted.{sorted-before}
 use Rattle.graph.proofs.Order.{table-ordered, EdgeFacts, Sound, rules-accept, sound-fit, precedes-tail, Within, within}
 use Rattle.graph.proofs.Records.{tailsOf, headsOf, edges-length, edges-at, edges-mem, edges-more, edges-tails, edges-heads}
-use Rattle.graph.proofs.Counts.{below-zero, below-suc, below-le}
+use Rattle.graph.proofs.Counts.{below-zero, below-suc, below-le, below-mono}
+use Rattle.graph.proofs.Arcs.{head-arc, weight-arc}
 use Rattle.graph.proofs.Places.{into-length}
 
 -- ---- the edges of one tail in a table
@@ -46,26 +49,24 @@ none-leaving u (e ∷ es) h =
 leaving-part : (n u : ℕ) (es : List Edge) → Sound n es → take (equal u (tailsOf es)) (drop (below u (tailsOf es)) es) ≡ leaving u es
 unfolding below equal keep keepIf
 leaving-part n u [] s = refl
-leaving-part n u (e ∷ es) s = pick (ltb (e .tail) u) (eqb (e .tail) u) refl refl (leaving-part n u es (s .2))
+leaving-part n u (e ∷ es) s =
+    let i = leaving-part n u es (s .2) in
+    by-test (ltb (e .tail) u)
+    (λ p. let a = ltb-true (e .tail) u p in rw (p, ne-eqb (e .tail) u (λ q. omega arith)) i)
+    (λ p. by-test (eqb (e .tail) u)
+    (λ q.
+    let b = eqb-true (e .tail) u q in
+    let z = none-below u es (λ k l. let m = first k l in omega arith) in
+    rw (p, q, z) (ap (λ (l : List Edge). e ∷ l) (rw z at i)))
+    (λ q.
+    let a = ltb-false (e .tail) u p in
+    let c = eqb-false (e .tail) u q in
+    let l : u < e .tail = omega arith in
+    let f : (k : ℕ) → k < length es → u < getD es k (edge 0 0 0) .tail = λ k h. let m = first k h in omega arith in
+    rw (p, q, none-below u es (λ k h. let m = f k h in omega arith), none-equal u es f) (sym (none-leaving u es f))))
   where
     first : (k : ℕ) → k < length es → e .tail ≤ getD es k (edge 0 0 0) .tail
     first k l = precedes-tail e (getD es k (edge 0 0 0)) (sorted-before table-ordered (isEdge n) (edge 0 0 0) (e ∷ es) s 0 (suc k) (omega arith) (omega arith))
-
-    pick : (b d : Bool) → ltb (e .tail) u ≡ b → eqb (e .tail) u ≡ d → take (equal u (tailsOf es)) (drop (below u (tailsOf es)) es) ≡ leaving u es
-        → take (cond d (suc (equal u (tailsOf es))) (equal u (tailsOf es))) (drop (cond b (suc (below u (tailsOf es))) (below u (tailsOf es))) (e ∷ es)) ≡ keepIf d e (leaving u es)
-    pick true true p q i = let a = ltb-true (e .tail) u p in let b = eqb-true (e .tail) u q in absurd (omega arith)
-    pick true false p q i = i
-    pick false true p q i =
-        let b = eqb-true (e .tail) u q in
-        let z = none-below u es (λ k l. let m = first k l in omega arith) in
-        rw z (ap (λ (l : List Edge). e ∷ l) (rw z at i))
-    pick false false p q i =
-        let a = ltb-false (e .tail) u p in
-        let c = eqb-false (e .tail) u q in
-        let s : u < e .tail = omega arith in
-        let f : (k : ℕ) → k < length es → u < getD es k (edge 0 0 0) .tail = λ k l. let m = first k l in omega arith in
-        let z = none-below u es (λ k l. let m = f k l in omega arith) in
-        rw (z, none-equal u es f) (sym (none-leaving u es f))
 
 -- ---- the edges of one tail in the reversed table
 
@@ -98,51 +99,67 @@ unfolding reversedFrom
 reversed-in u zero es x m = absurd (List·Memᴰ·not-nil m)
 reversed-in u (suc k) es x m = ⊎-elim (λ i. into-in u es x i) (λ i. reversed-in (suc u) k es x i) (List·Memᴰ·append-cases (into u es) m)
 
--- ---- edges read by index
+-- ---- what an index of three lists says, where there is a key for each edge
 
-module _ (ts hs ws : List ℕ) (m : ℕ) (r : Room m ts hs ws) where
-  part-edges : (u j k : ℕ) → j + k ≤ m → ((i : ℕ) → j ≤ i → i < j + k → getD ts i 0 ≡ u) → part hs ws u j k ≡ take k (drop j (edges ts hs ws m))
+module _ (n m : ℕ) (ts hs ws ks is : List ℕ) (r : Room m ts hs ws) (size : length ks ≡ m) (light : (k : ℕ) → k < m → getD ws k 0 < arcWeights)
+    (places : (u : ℕ) → u ≤ n → getD is u 0 ≡ below u ks + (n + 1))
+    (arcs : (k : ℕ) → k < m → getD is (n + 1 + k) 0 ≡ arc (getD hs k 0) (getD ws k 0)) where
+  next : (u : ℕ) → u < n → getD is (u + 1) 0 ≡ below u ks + equal u ks + (n + 1)
+  next u l = let a = places (u + 1) (omega arith) in let b = below-suc u ks in let c = ap (λ (x : ℕ). below x ks) (add-one u) in omega arith
+
+  fits : n ≤ maxVertices → m ≤ maxEdges → n + 1 + m ≤ length is → ((k : ℕ) → k < m → getD hs k 0 < n) → Fit n is
+  fits f g l h =
+      let e = places n (omega arith) in
+      let b = below-le n ks in
+      record {
+        few = f;
+        places = omega arith;
+        after = λ u i. let a = places u i in omega arith;
+        rising = λ u i. let a = places u (omega arith) in let c = next u i in omega arith;
+        within = λ u i. let a = places (u + 1) (omega arith) in let c = below-mono (u + 1) n ks (omega arith) in omega arith;
+        last = omega arith;
+        short = omega arith;
+        inside = λ k a c.
+            let d : k - (n + 1) < m = omega arith in
+            let j : k ≡ n + 1 + (k - (n + 1)) = omega arith in
+            let q = ap (λ (x : ℕ). arcHead (getD is x 0)) j ∙ ap arcHead (arcs (k - (n + 1)) d) ∙ head-arc _ _ (light (k - (n + 1)) d) in
+            omega (arith, q, h (k - (n + 1)) d);
+      }
+
+  part-edges : (u j k : ℕ) → j + k ≤ m → ((i : ℕ) → j ≤ i → i < j + k → getD ts i 0 ≡ u) → part is u (j + (n + 1)) k ≡ take k (drop j (edges ts hs ws m))
   unfolding part
   part-edges u j zero l h = refl
   part-edges u j (suc k) l h =
-      rw (edges-more ts hs ws m r j (omega arith), h j (omega arith) (omega arith), add-one)
-      (ap (λ (x : List Edge). edge u (getD hs j 0) (getD ws j 0) ∷ x) (part-edges u (suc j) k (omega arith) (λ i a b. h i (omega arith) (omega arith))))
+      let x : j + (n + 1) ≡ n + 1 + j = omega arith in
+      let y : suc (j + (n + 1)) ≡ suc j + (n + 1) = omega arith in
+      let e = ap (λ (i : ℕ). getD is i 0) x ∙ arcs j (omega arith) in
+      let w = light j (omega arith) in
+      rw (edges-more ts hs ws m r j (omega arith), h j (omega arith) (omega arith), add-one j, e, head-arc (getD hs j 0) (getD ws j 0) w, weight-arc (getD hs j 0) (getD ws j 0) w)
+      (ap (λ (l : List Edge). edge u (getD hs j 0) (getD ws j 0) ∷ l) (ap (λ (i : ℕ). part is u i k) y ∙ part-edges u (suc j) k (omega arith) (λ i a b. h i (omega arith) (omega arith))))
 
-  -- a part of the table whose edges all have the tail u
-  part-is : (u j k : ℕ) (xs : List Edge) → j + k ≤ m → take k (drop j (edges ts hs ws m)) ≡ xs → ((x : Edge) → List·Memᴰ x xs → x .tail ≡ u) → part hs ws u j k ≡ xs
-  part-is u j k xs l e h = part-edges u j k l tail ∙ e
+  -- where as many as have the key u, after as many as have a lower one, are the edges that leave u
+  owns : (es : List Edge) → ((u : ℕ) → u < n → take (equal u ks) (drop (below u ks) (edges ts hs ws m)) ≡ leaving u es) → Own n is es
+  owns es g u l =
+      let a = places u (omega arith) in
+      let b = next u l in
+      let d : getD is (u + 1) 0 - getD is u 0 ≡ equal u ks = omega arith in
+      ap (λ (x : ℕ). part is u (getD is u 0) x) d ∙ ap (λ (x : ℕ). part is u x (equal u ks)) a ∙ part-edges u (below u ks) (equal u ks) within tail ∙ g u l
     where
-      there : (i : ℕ) → j ≤ i → i < j + k → List·Memᴰ (edgeAt ts hs ws i) (take k (drop j (edges ts hs ws m)))
-      there i a b =
+      within : below u ks + equal u ks ≤ m
+      within = let b = below-le (suc u) ks in let d = below-suc u ks in omega arith
+
+      tail : (i : ℕ) → below u ks ≤ i → i < below u ks + equal u ks → getD ts i 0 ≡ u
+      tail i a b =
+          let es′ = edges ts hs ws m in
+          let j = below u ks in
+          let w = within in
           let z = edges-length ts hs ws m r in
-          let d = length-drop j (edges ts hs ws m) in
-          let t = length-take-le k (drop j (edges ts hs ws m)) (omega arith) in
+          let d = length-drop j es′ in
+          let t = length-take-le (equal u ks) (drop j es′) (omega arith) in
           let f : j + (i - j) ≡ i = omega arith in
-          let g : getD (take k (drop j (edges ts hs ws m))) (i - j) (edge 0 0 0) ≡ edgeAt ts hs ws i = getD-take k (drop j (edges ts hs ws m)) (i - j) (edge 0 0 0) (omega arith) ∙ (getD-drop j (edges ts hs ws m) (i - j) (edge 0 0 0) ∙ rw f (edges-at ts hs ws m r i (omega arith))) in
-          rw g at (getD-mem (take k (drop j (edges ts hs ws m))) (i - j) (edge 0 0 0) (omega arith))
-
-      tail : (i : ℕ) → j ≤ i → i < j + k → getD ts i 0 ≡ u
-      tail i a b = h (edgeAt ts hs ws i) (rw e at (there i a b))
-
--- ---- what an index says
-
-module _ (n : ℕ) (ks fs : List ℕ) (f : Firsts n ks fs) (u : ℕ) (l : u < n) where
-  next : getD fs (u + 1) 0 ≡ below u ks + equal u ks
-  next = f (u + 1) (omega arith) ∙ rw add-one (below-suc u ks)
-
-  own-firsts : (hs ws : List ℕ) → own fs hs ws u ≡ part hs ws u (below u ks) (equal u ks)
-  own-firsts hs ws =
-      let e : below u ks + equal u ks - below u ks ≡ equal u ks = omega arith in
-      rw (next, f u (omega arith), e)
-
-  firsts-rise : getD fs u 0 ≤ getD fs (u + 1) 0
-  firsts-rise = let a = f u (omega arith) in let b = next in omega arith
-
-  firsts-end : getD fs (u + 1) 0 ≤ length ks
-  firsts-end = let a = f (u + 1) (omega arith) in let b = below-le (u + 1) ks in omega arith
-
-pub firsts-within : (n m : ℕ) (ks fs : List ℕ) → m ≤ length ks → Firsts n (take m ks) fs → (u : ℕ) → u ≤ n → getD fs u 0 ≤ m
-firsts-within n m ks fs l f u h = let a = f u h in let b = below-le u (take m ks) in let t = length-take-le m ks l in omega arith
+          let e : getD (take (equal u ks) (drop j es′)) (i - j) (edge 0 0 0) ≡ edgeAt ts hs ws i =
+          getD-take (equal u ks) (drop j es′) (i - j) (edge 0 0 0) (omega arith) ∙ (getD-drop j es′ (i - j) (edge 0 0 0) ∙ rw f (edges-at ts hs ws m r i (omega arith))) in
+          leaving-in u es (edgeAt ts hs ws i) (rw (e, g u l) at (getD-mem (take (equal u ks) (drop j es′)) (i - j) (edge 0 0 0) (omega arith))) .1
 
 -- ---- the table and its index
 
@@ -160,70 +177,58 @@ module _ (n m : ℕ) (ts hs ws : List ℕ) (r : Room m ts hs ws) (a : rules n (e
   weights-range k l = let f = sound-fit n (edges ts hs ws m) (rules-accept n (edges ts hs ws m) a) (edgeAt ts hs ws k) (edges-mem ts hs ws m r k l) in (f .some-weight, f .weight-most)
 
   pub tails-ascend : Ascending m ts
-  tails-ascend i j l b = pick (decLt i j)
-    where
-      pick : Dec (i < j) → getD ts i 0 ≤ getD ts j 0
-      pick (yes c) =
-          let z = edges-length ts hs ws m r in
-          let p = sorted-before table-ordered (isEdge n) (edge 0 0 0) (edges ts hs ws m) (rules-accept n (edges ts hs ws m) a) i j c (omega arith) in
-          precedes-tail (edgeAt ts hs ws i) (edgeAt ts hs ws j) (rw (edges-at ts hs ws m r i (omega arith), edges-at ts hs ws m r j b) at p)
-      pick (no c) = let e : i ≡ j = omega arith in rw e (omega arith)
+  tails-ascend i j l b = by-test (ltb i j)
+      (λ q.
+      let z = edges-length ts hs ws m r in
+      let c = ltb-true i j q in
+      let p = sorted-before table-ordered (isEdge n) (edge 0 0 0) (edges ts hs ws m) (rules-accept n (edges ts hs ws m) a) i j c (omega arith) in
+      precedes-tail (edgeAt ts hs ws i) (edgeAt ts hs ws j) (rw (edges-at ts hs ws m r i (omega arith), edges-at ts hs ws m r j b) at p))
+      (λ q. let c = ltb-false i j q in let e : i ≡ j = omega arith in rw e (omega arith))
 
-  pub own-table : (fs : List ℕ) → Firsts n (take m ts) fs → (u : ℕ) → u < n → own fs hs ws u ≡ leaving u (edges ts hs ws m)
-  own-table fs f u l =
-      let es = edges ts hs ws m in
-      let e = edges-tails ts hs ws m r in
-      let b = below-le (suc u) (take m ts) in
-      let d = below-suc u (take m ts) in
-      let t = length-take-le m ts (r .tails) in
-      own-firsts n (take m ts) fs f u l hs ws
-      ∙ part-is ts hs ws m r u (below u (take m ts)) (equal u (take m ts)) (leaving u es) (omega arith) (rw e at (leaving-part n u es (rules-accept n es a))) (λ x i. leaving-in u es x i .1)
+-- ---- an index of a table that may have one
 
-  pub fit-table : (fs : List ℕ) → n ≤ maxVertices → m ≤ maxEdges → n < length fs → Firsts n (take m ts) fs → Fit n m fs hs ws
-  fit-table fs p q i f = record {
-    few = p;
-    records = q;
-    firsts = i;
-    heads = r .heads;
-    weights = r .weights;
-    rising = λ u l. firsts-rise n (take m ts) fs f u l;
-    within = λ u l. let b = firsts-end n (take m ts) fs f u l in let t = length-take-le m ts (r .tails) in omega arith;
-    inside = heads-below;
-    light = λ k l. let w = weights-range k l in omega (arith, w .1);
-  }
+pub firsts-within : (n m : ℕ) (ks fs : List ℕ) → m ≤ length ks → m ≤ maxEdges → Firsts n (take m ks) fs → (u : ℕ) → u ≤ n → getD fs u 0 ≤ maxEdges
+firsts-within n m ks fs l g f u h = let a = f u h in let b = below-le u (take m ks) in let t = length-take-le m ks l in omega arith
 
-  -- what the index of the tails and that of the heads are asked
-  pub keyed-tails : (fs : List ℕ) → n ≤ maxVertices → m ≤ maxEdges → n < length fs → Keyed n m ts fs
-  keyed-tails fs p q i = record { few = p; records = q; keys = r .tails; firsts = i; vertices = tails-below }
+module _ {n m : ℕ} {ts hs ws fs₀ is₀ : List ℕ} (o : Indexable n m ts hs ws fs₀ is₀) where
+  -- what the indexes of the tails and of the heads are asked
+  pub keyed-tails : Keyed n m ts fs₀
+  keyed-tails = record { few = o .few; records = o .records; keys = o .room .tails; firsts = o .firsts; vertices = tails-below n m ts hs ws (o .room) (o .rules) }
 
-  pub keyed-heads : (fs : List ℕ) → n ≤ maxVertices → m ≤ maxEdges → n < length fs → Keyed n m hs fs
-  keyed-heads fs p q i = record { few = p; records = q; keys = r .heads; firsts = i; vertices = heads-below }
+  pub keyed-heads : (fs : List ℕ) → n < length fs → Keyed n m hs fs
+  keyed-heads fs i = record { few = o .few; records = o .records; keys = o .room .heads; firsts = i; vertices = heads-below n m ts hs ws (o .room) (o .rules) }
 
--- ---- the reversed table and its index
+  -- what arcs are asked
+  pub light : (k : ℕ) → k < m → getD ws k 0 < arcWeights
+  light k l = let w = weights-range n m ts hs ws (o .room) (o .rules) k l .1 in omega arith
 
-module _ (n m : ℕ) (ts hs ws rts rhs rws fs : List ℕ) (r : Room m ts hs ws) (s : Room m rts rhs rws) (e : edges rts rhs rws m ≡ reversed n (edges ts hs ws m)) (f : Firsts n (take m hs) fs) where
-  pub own-reversed : (u : ℕ) → u < n → own fs rhs rws u ≡ leaving u (map reverse (edges ts hs ws m))
-  own-reversed u l =
-      let es = edges ts hs ws m in
-      let h = edges-heads ts hs ws m r in
-      let b = below-le (suc u) (take m hs) in
-      let d = below-suc u (take m hs) in
-      let t = length-take-le m hs (r .heads) in
-      own-firsts n (take m hs) fs f u l rhs rws
-      ∙ part-is rts rhs rws m s u (below u (take m hs)) (equal u (take m hs)) (leaving u (map reverse es)) (omega arith) (rw e (rw h at (reversed-part n u es l))) (λ x i. leaving-in u (map reverse es) x i .1)
+  pub heads-low : (k : ℕ) → k < m → (getD hs k 0 < arcHeads) × (getD ws k 0 < arcWeights)
+  heads-low k l = let h = heads-below n m ts hs ws (o .room) (o .rules) k l in let f = o .few in (omega arith, light k l)
 
-  facts : rules n (edges ts hs ws m) ≡ accept → (k : ℕ) → k < m → EdgeFacts n (reverse (edgeAt rts rhs rws k))
-  facts a k l = sound-fit n (edges ts hs ws m) (rules-accept n (edges ts hs ws m) a) _ (reversed-in 0 n (edges ts hs ws m) (edgeAt rts rhs rws k) (rw e at (edges-mem rts rhs rws m s k l)))
+  pub tails-low : (k : ℕ) → k < m → (getD ts k 0 < arcHeads) × (getD ws k 0 < arcWeights)
+  tails-low k l = let t = tails-below n m ts hs ws (o .room) (o .rules) k l in let f = o .few in (omega arith, light k l)
 
-  pub fit-reversed : rules n (edges ts hs ws m) ≡ accept → n ≤ maxVertices → m ≤ maxEdges → n < length fs → Fit n m fs rhs rws
-  fit-reversed a p q i = record {
-    few = p;
-    records = q;
-    firsts = i;
-    heads = s .heads;
-    weights = s .weights;
-    rising = λ u l. firsts-rise n (take m hs) fs f u l;
-    within = λ u l. let b = firsts-end n (take m hs) fs f u l in let t = length-take-le m hs (r .heads) in omega arith;
-    inside = λ k l. facts a k l .tail-below;
-    light = λ k l. let w = facts a k l .weight-most in omega arith;
-  }
+  module _ (fs is : List ℕ) (size : n + 1 + m ≤ length is) (places : (u : ℕ) → u ≤ n → getD is u 0 ≡ getD fs u 0 + (n + 1)) where
+    pub table-indexed : Firsts n (take m ts) fs → ((k : ℕ) → k < m → getD is (n + 1 + k) 0 ≡ arc (getD hs k 0) (getD ws k 0)) → Indexes n is (edges ts hs ws m)
+    table-indexed f arcs =
+        let es = edges ts hs ws m in
+        let at : (u : ℕ) → u ≤ n → getD is u 0 ≡ below u (take m ts) + (n + 1) = λ u l. places u l ∙ ap (λ (x : ℕ). x + (n + 1)) (f u l) in
+        let z = length-take-le m ts (o .room .tails) in
+        record {
+          fit = fits n m ts hs ws (take m ts) is (o .room) z light at arcs (o .few) (o .records) size (heads-below n m ts hs ws (o .room) (o .rules));
+          own = owns n m ts hs ws (take m ts) is (o .room) z light at arcs es (λ u l. rw (edges-tails ts hs ws m (o .room)) at (leaving-part n u es (rules-accept n es (o .rules))));
+        }
+
+    pub reversed-indexed : Firsts n (take m hs) fs → ReversedArcs n m ts hs ws is → Indexes n is (map reverse (edges ts hs ws m))
+    reversed-indexed f r =
+        let es = edges ts hs ws m in
+        let at : (u : ℕ) → u ≤ n → getD is u 0 ≡ below u (take m hs) + (n + 1) = λ u l. places u l ∙ ap (λ (x : ℕ). x + (n + 1)) (f u l) in
+        let z = length-take-le m hs (o .room .heads) in
+        let facts : (k : ℕ) → k < m → EdgeFacts n (reverse (edgeAt (r .tails) (r .heads) (r .weights) k)) =
+        λ k l. sound-fit n es (rules-accept n es (o .rules)) _ (reversed-in 0 n es (edgeAt (r .tails) (r .heads) (r .weights) k) (rw (r .table) at (edges-mem (r .tails) (r .heads) (r .weights) m (r .room) k l))) in
+        let low : (k : ℕ) → k < m → getD (r .weights) k 0 < arcWeights = λ k l. let w = facts k l .weight-most in omega arith in
+        record {
+          fit = fits n m (r .tails) (r .heads) (r .weights) (take m hs) is (r .room) z low at (r .arcs) (o .few) (o .records) size (λ k l. facts k l .tail-below);
+          own = owns n m (r .tails) (r .heads) (r .weights) (take m hs) is (r .room) z low at (r .arcs) (map reverse es)
+              (λ u l. rw (r .table) (rw (edges-heads ts hs ws m (o .room)) at (reversed-part n u es l)));
+        }

@@ -1,5 +1,5 @@
 -- Where the keys end, and how many are below. Assumes nothing.
-use Rattle.property.proofs.Basics.{_≡_, refl, sym, ap, _∙_, ⊎-elim, _≢_, List, [], _∷_, ℕ, zero, suc, _+_, _-_, _<_, _≤_, max, arith, decLt, length, getD, set, take, length-take-le, getD-take, lt-ltb, le-ltb}
+use Rattle.property.proofs.Basics.{_≡_, sym, ap, _∙_, ⊎-elim, _≢_, List, [], _∷_, ℕ, zero, suc, _+_, _<_, _≤_, max, arith, decLt, length, getD, set, take, length-take-le, getD-take, lt-ltb, le-ltb}
 use Rattle.graph.specs.Code.{below}
 use Rattle.graph.specs.Parted.{Ascending, Ends, Parted}
 use Rattle.graph.proofs.Lists.{at-set}

@@ -6,7 +6,6 @@ pub mod Sorted
 pub mod Table
 pub mod Route
 pub mod Code
-pub mod Own
 pub mod Routed
 pub mod Arc
 pub mod Index

@@ -28,28 +28,28 @@ pub fn refuse_if(test: bool, k: u32, i: usize) -> Judged
 pub fn is_weight(w: u32) -> bool
     ensures { λ r. ⌜ r ≡ isWeight w ⌝ }
 {
-    0 < w && w <= MAX_WEIGHT
+    (0 < w) & (w <= MAX_WEIGHT)
 }
 
 // Whether an edge by itself keeps the rules of a table of `n` vertices.
 pub fn is_edge(n: u32, t: u32, h: u32, w: u32) -> bool
     ensures { λ r. ⌜ r ≡ isEdge n (edge t h w) ⌝ }
 {
-    t < n && h < n && t != h && is_weight(w)
+    (t < n) & ((h < n) & ((t != h) & ((0 < w) & (w <= MAX_WEIGHT))))
 }
 
 // Table order: by tail, then head.
 pub fn in_order(t: u32, h: u32, w: u32, u: u32, g: u32, x: u32) -> bool
     ensures { λ r. ⌜ r ≡ precedes (edge t h w) (edge u g x) ⌝ }
 {
-    t < u || (t == u && h < g)
+    (t < u) | ((t == u) & (h < g))
 }
 
 // Number 1: n is 0 or over `MAX_VERTICES`.
 pub fn judge_size(n: u32) -> Judged
     ensures { λ r. ⌜ told r ≡ size n ⌝ }
 {
-    refuse_if(n == 0 || n > MAX_VERTICES, 1, 0)
+    refuse_if((n == 0) | (n > MAX_VERTICES), 1, 0)
 }
 
 // Number 2: a list of the table has fewer than `MAX_EDGES` words.
@@ -69,15 +69,10 @@ fn follows(n: u32, tails: &[u32], heads: &[u32], weights: &[u32], k: usize) -> b
     ensures { λ r. ⌜ r ≡ keeps n (now (tails .entry)) (now (heads .entry)) (now (weights .entry)) k ⌝ }
 {
     let j = k - 1;
-    in_order(
-        tails[j],
-        heads[j],
-        weights[j],
-        tails[k],
-        heads[k],
-        weights[k],
-    )
-        && is_edge(n, tails[k], heads[k], weights[k])
+    let u = tails[k];
+    let g = heads[k];
+    ((tails[j] < u) | ((tails[j] == u) & (heads[j] < g)))
+        & ((u < n) & ((g < n) & ((u != g) & ((0 < weights[k]) & (weights[k] <= MAX_WEIGHT)))))
 }
 
 // The table's rules: number 4 at the first record below the count that breaks them.
@@ -101,12 +96,11 @@ fn judge_rules(n: u32, tails: &[u32], heads: &[u32], weights: &[u32], count: usi
     Judged::Fine
 }
 
-// Whether an edge keeps the rules after the pair before it, but for the bound of its tail: `in_order` and `is_edge` without a branch, so that
-// `are_sound` goes by vectors.
+// Whether an edge keeps the rules after the pair before it, but for the bound of its tail. There is no branch, so that `are_sound` goes by vectors.
 fn is_next(n: u32, t: u32, h: u32, u: u32, g: u32, w: u32) -> bool
-    ensures { λ r. ⌜ r ≡ (precedes (edge t h 0) (edge u g w) && (ltb g n && (not (eqb u g) && isWeight w))) ⌝ }
+    ensures { λ r. ⌜ r ≡ ((ltb g n && (not (eqb u g) && isWeight w)) && precedes (edge t h 0) (edge u g w)) ⌝ }
 {
-    ((t < u) | ((t == u) & (h < g))) & ((g < n) & ((u != g) & ((0 < w) & (w <= MAX_WEIGHT))))
+    ((g < n) & ((u != g) & ((0 < w) & (w <= MAX_WEIGHT)))) & ((t < u) | ((t == u) & (h < g)))
 }
 
 // Whether all records keep the rules. It goes over all of them and never stops early. Tails never fall, so the bound of the last is that of all.

@@ -2,7 +2,7 @@
 use Rattle.property.proofs.Basics.{_≡_, refl, sym, ap, ap₂, _∙_, List, [], _++_, map, ℕ, _-_, _*_, _≤_, arith, length, take, drop, replicate, length-append, length-take, length-map, length-replicate, take-at, take-append-seam, le-ltb}
 use Rattle.property.specs.Property.{properties}
 use Rattle.graph.specs.Refusal.{Verdict, accept, refuse, refuseIf, Outcome, choose, over}
-use Rattle.graph.specs.Limits.{maxVertices, maxEdges, maxLandmarks}
+use Rattle.graph.specs.Limits.{maxEdges, maxLandmarks}
 use Rattle.graph.specs.Edge.{Edge, range}
 use Rattle.graph.specs.Table.{Columns, edgesOf, rules, shortTable, table}
 use Rattle.graph.specs.Code.{columns}
@@ -23,7 +23,7 @@ use Rattle.inspect.specs.Code.{padded, choosing, chosenOf}
 use Rattle.inspect.proofs.Choosing.{Picked, choosing-chosen}
 use Rattle.dimacs.proofs.Written.{filled-edges}
 use Rattle.listing.specs.Listing.{graph, landmarksOf}
-use Rattle.listing.specs.Code.{rowWords, Loaded, Ready}
+use Rattle.listing.specs.Code.{Loaded, Ready}
 
 -- ---- the landmarks
 

@@ -1,5 +1,6 @@
 -- The pieces of the output: each of them as the code makes it, and all of them as the whole. Assumes nothing.
-use Rattle.property.proofs.Basics.{_≡_, refl, sym, ap, _∙_, List, [], _∷_, _++_, map, append-nil, ℕ, suc, _+_, _*_, _≤_, _<_, add-one, decLt, arith, length, getD, take, length-map, List·getD-map, length-take-le, getD-take, take-all}
+use Rattle.property.proofs.Basics.{_≡_, refl, sym, ap, _∙_, List, [], _∷_, _++_, map, append-nil, ℕ, suc, _+_, _*_, _≤_, _<_, add-one, arith, ltb, ltb-true, ltb-false, length, getD, take, length-map, List·getD-map, length-take-le, getD-take, take-all}
+use Rattle.property.proofs.Tests.{by-test}
 use Rattle.property.specs.Property.{properties}
 use Rattle.graph.specs.declared.Judged.the-variants.{Fine, Refused}
 use Rattle.graph.specs.Refusal.{Verdict, accept, refuse, _▷_}
@@ -44,11 +45,9 @@ files-long gr ss l = files-first gr ss 2 0 (graph-long gr l)
 
 printed-cut-graph : (gr ss : List ℕ) → printed (take (suc maxFile) gr) ss ≡ printed gr ss
 unfolding printed output
-printed-cut-graph gr ss = pick (decLt maxFile (length gr))
-  where
-    pick : Dec (maxFile < length gr) → printed (take (suc maxFile) gr) ss ≡ printed gr ss
-    pick (yes l) = rw (files-long (take (suc maxFile) gr) ss (cut-long gr l), files-long gr ss l)
-    pick (no l) = rw (take-all (suc maxFile) gr (omega arith))
+printed-cut-graph gr ss = by-test (ltb maxFile (length gr))
+    (λ e. let l = ltb-true maxFile (length gr) e in rw (files-long (take (suc maxFile) gr) ss (cut-long gr l), files-long gr ss l))
+    (λ e. rw (take-all (suc maxFile) gr (omega (arith, ltb-false maxFile (length gr) e))))
 
 output-hides : (a : Verdict) (x y : List ℕ) → output (a ▷ refuse 2 0) x ≡ output (a ▷ refuse 2 0) y
 unfolding output _▷_
@@ -57,18 +56,16 @@ output-hides (refuse k i) x y = refl
 
 printed-cut-sources : (gr ss : List ℕ) → printed gr (take (suc maxFile) ss) ≡ printed gr ss
 unfolding printed
-printed-cut-sources gr ss = pick (decLt maxFile (length ss))
-  where
-    pick : Dec (maxFile < length ss) → printed gr (take (suc maxFile) ss) ≡ printed gr ss
-    pick (yes l) = rw (sources-long _ (take (suc maxFile) ss) (cut-long ss l), sources-long _ ss l) (output-hides (graphVerdict gr) _ _)
-    pick (no l) = rw (take-all (suc maxFile) ss (omega arith))
+printed-cut-sources gr ss = by-test (ltb maxFile (length ss))
+    (λ e. let l = ltb-true maxFile (length ss) e in rw (sources-long _ (take (suc maxFile) ss) (cut-long ss l), sources-long _ ss l) (output-hides (graphVerdict gr) _ _))
+    (λ e. rw (take-all (suc maxFile) ss (omega (arith, ltb-false maxFile (length ss) e))))
 
 pub printed-cut : PrintedCut
 printed-cut gr ss = printed-cut-graph gr (take (suc maxFile) ss) ∙ printed-cut-sources gr ss
 
 -- ---- one piece
 
-module _ (gr ss : List ℕ) (p : Prepared) (ts hs ws xs f b : List ℕ) (h : Shown gr ss p ts hs ws xs f b) where
+module _ {gr ss : List ℕ} {p : Prepared} {ts hs ws xs f b : List ℕ} (h : Shown gr ss p ts hs ws xs f b) where
   pub parts-refused : (k i : ℕ) → p .verdict ≡ Refused k i → parts gr ss ≡ refusedLine k i ∷ []
   unfolding told partsOf
   parts-refused k i e =
@@ -112,6 +109,3 @@ pub piece-only : (ps : List (List ℕ)) (x : List ℕ) (i : ℕ) → ps ≡ x �
 piece-only ps x i e l =
     let z : i ≡ 0 = omega (arith, ap length e) in
     rw (z, e)
-
-pub piece-first : (ps qs : List (List ℕ)) (x : List ℕ) (i : ℕ) → ps ≡ x ∷ qs → i ≡ 0 → getD ps i [] ≡ x
-piece-first ps qs x i e z = rw (z, e)

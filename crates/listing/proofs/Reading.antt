@@ -1,17 +1,18 @@
 -- Two files as they are read: the verdict of each, and what it leaves in the lists. Assumes nothing.
 use Rattle.property.proofs.Basics.{_≡_, refl, sym, ap, subst, _∙_, List, ℕ, _≤_, _<_, arith, length, drop, replicate, length-append, take-at, lt-ltb, le-ltb}
 use Rattle.graph.specs.declared.Judged.the-variants.{Fine, Refused}
-use Rattle.graph.specs.Refusal.{Verdict, accept, refuse, _▷_, refuseIf, Reply, accepted, refused, Outcome, replied, choose, over}
+use Rattle.graph.specs.Refusal.{Verdict, accept, refuse, _▷_, refuseIf, Reply, accepted, verdictOf, Outcome, replied, choose, over}
 use Rattle.graph.specs.Limits.{maxEdges}
 use Rattle.graph.specs.Edge.{Edge}
 use Rattle.graph.specs.Table.{Columns, size, shortTable}
 use Rattle.graph.specs.Code.{told, columns}
-use Rattle.graph.proofs.Verdicts.{not-accept, accept-then, refuse-then, accept-if}
-use Rattle.dimacs.specs.Read.{Read, good, bad}
+use Rattle.graph.proofs.Verdicts.{not-accept, accept-then, refuse-then, accept-if, verdict-replied}
+use Rattle.dimacs.specs.Read.{Read, good}
 use Rattle.dimacs.specs.Network as net
 use Rattle.dimacs.specs.Sources as src
 use Rattle.dimacs.specs.Call.{Size, judged, vertexCount, edgesRead, filled, readCall, sourcesRead, sourcesCall}
 use Rattle.dimacs.specs.Claims.{Table}
+use Rattle.dimacs.proofs.Calls.{judged-accept}
 use Rattle.dimacs.proofs.Network as networks
 use Rattle.dimacs.proofs.Theorems.{network-tables}
 use Rattle.dimacs.proofs.Written.{read-call}
@@ -32,7 +33,7 @@ pub graph-long : (gr : List ℕ) → maxFile < length gr → graphVerdict gr ≡
 unfolding refuseIf _▷_
 graph-long gr l = rw (lt-ltb maxFile (length gr) l)
 
-graph-verdict : (gr : List ℕ) → length gr ≤ maxFile → graphVerdict gr ≡ judged (net.readNetwork gr)
+pub graph-verdict : (gr : List ℕ) → length gr ≤ maxFile → graphVerdict gr ≡ judged (net.readNetwork gr)
 graph-verdict gr l = accept-then (accept-if 2 0 (le-ltb maxFile (length gr) l))
 
 pub zero-columns : (ts hs ws : List ℕ) {t h w : List ℕ} → t ≡ replicate (length ts) 0 → h ≡ replicate (length hs) 0 → w ≡ replicate (length ws) 0
@@ -48,15 +49,10 @@ same-size {a} {b} {c} {d} e =
     let r : _≡_ {A = Size} (record { vertices = a; count = b }) (record { vertices = c; count = d }) = cc in
     (ap (λ (z : Size). z .vertices) r, ap (λ (z : Size). z .count) r)
 
-no-reply : {A : Type 0} {a : A} {k i : ℕ} → accepted a ≡ refused k i → ⊥
-no-reply e = let z : _≡_ {A = ℕ} 0 1 = cc in omega arith
-
 module _ (gr ts hs ws : List ℕ) (l : length gr ≤ maxFile) where
-  graph-bad : (j : ℕ) → net.readNetwork gr ≡ bad j → readCall gr zeros .reply ≡ refused 14 j
-  unfolding readCall judged replied
-  graph-bad j q =
-      ap (λ (v : Verdict). replied v (record { vertices = vertexCount (net.readNetwork gr); count = length (edgesRead (net.readNetwork gr)) }))
-      (accept-then zeros-long ∙ ap judged q)
+  graph-told : (r : ReadReply) → graph.readOutcome r ts hs ws ≡ readCall gr zeros → verdictOf (graph.reading r) ≡ judged (net.readNetwork gr)
+  unfolding readCall
+  graph-told r e = ap (λ (o : Outcome Size Columns). verdictOf (o .reply)) e ∙ verdict-replied (shortTable zeros ▷ judged (net.readNetwork gr)) _ ∙ accept-then zeros-long
 
   module _ (st : net.State) (q : net.readNetwork gr ≡ good st) where
     abbrev found : (n : ℕ) × (es : List Edge) × (st ≡ net.within n (length es) es) × net.Good gr n es
@@ -89,26 +85,9 @@ module _ (gr ts hs ws : List ℕ) (l : length gr ≤ maxFile) where
         )
 
   pub graph-read : (r : ReadReply) → graph.readOutcome r ts hs ws ≡ readCall gr zeros → GraphRead gr r ts hs ws
-  unfolding graph.reading judged
-  graph-read r e = pick (net.readNetwork gr) refl r e
-    where
-      pick : (R : Read net.State) → net.readNetwork gr ≡ R → (r : ReadReply) → graph.readOutcome r ts hs ws ≡ readCall gr zeros → GraphRead gr r ts hs ws
-      pick (good st) q (graphs.Read n m) e = graph-loaded st q n m e
-      pick (good st) q (graphs.Refused k i) e = absurd (no-reply (sym (ap (λ (o : Outcome Size Columns). o .reply) (e ∙ graph-whole st q))))
-      pick (bad j) q (graphs.Read n m) e = absurd (no-reply (ap (λ (o : Outcome Size Columns). o .reply) e ∙ graph-bad j q))
-      pick (bad j) q (graphs.Refused k i) e =
-          let x : _≡_ {A = Reply Size} (refused k i) (refused 14 j) = ap (λ (o : Outcome Size Columns). o .reply) e ∙ graph-bad j q in
-          let a : k ≡ 14 = cc in
-          let b : i ≡ j = cc in
-          rw (a, b) (graph-verdict gr l ∙ ap judged q)
-
--- what the reply tells, by its case
-module _ (gr ts hs ws : List ℕ) (r : ReadReply) (h : GraphRead gr r ts hs ws) where
-  pub graph-refused : (k i : ℕ) → r ≡ graphs.Refused k i → graphVerdict gr ≡ refuse k i
-  graph-refused k i e = rw e at h
-
-  pub graph-given : (n m : ℕ) → r ≡ graphs.Read n m → GraphRead gr (graphs.Read n m) ts hs ws
-  graph-given n m e = rw e at h
+  unfolding graph.reading verdictOf
+  graph-read (graphs.Read n m) e = let (st, q) = judged-accept (net.readNetwork gr) (sym (graph-told (graphs.Read n m) e)) in graph-loaded st q n m e
+  graph-read (graphs.Refused k i) e = graph-verdict gr l ∙ sym (graph-told (graphs.Refused k i) e)
 
 -- ---- deck.ss
 
@@ -141,28 +120,13 @@ module _ (n : ℕ) (ss xs ys : List ℕ) (s : size n ≡ accept) (w : src.maxSou
         omega (arith, ap length b, length-append (sourcesRead R) (drop (length (sourcesRead R)) xs)),
       )
 
-  sources-other : (v : Verdict) (r : SourcesReply) → judged R ≡ v → list.sourcesOutcome r ys ≡ sourcesCall n ss xs → SourcesRead n ss r ys
-  unfolding list.reading replied
-  sources-other accept (lists.Read k) v e = sources-loaded k v e
-  sources-other accept (lists.Refused k i) v e =
-      absurd (no-reply (sym (ap (λ (o : Outcome ℕ (List ℕ)). o .reply) (e ∙ sources-call) ∙ ap (λ (u : Verdict). replied u (length (sourcesRead R))) v)))
-  sources-other (refuse a b) (lists.Read k) v e =
-      absurd (no-reply (ap (λ (o : Outcome ℕ (List ℕ)). o .reply) (e ∙ sources-call) ∙ ap (λ (u : Verdict). replied u (length (sourcesRead R))) v))
-  sources-other (refuse a b) (lists.Refused k i) v e =
-      let x : _≡_ {A = Reply ℕ} (refused k i) (refused a b) = ap (λ (o : Outcome ℕ (List ℕ)). o .reply) (e ∙ sources-call) ∙ ap (λ (u : Verdict). replied u (length (sourcesRead R))) v in
-      let p : k ≡ a = cc in
-      let q : i ≡ b = cc in
-      rw (p, q) (sources-verdict ∙ v)
+  sources-told : (r : SourcesReply) → list.sourcesOutcome r ys ≡ sourcesCall n ss xs → verdictOf (list.reading r) ≡ judged R
+  sources-told r e = ap (λ (o : Outcome ℕ (List ℕ)). verdictOf (o .reply)) (e ∙ sources-call) ∙ verdict-replied (judged R) (length (sourcesRead R))
 
   pub sources-read : (r : SourcesReply) → list.sourcesOutcome r ys ≡ sourcesCall n ss xs → SourcesRead n ss r ys
-  sources-read r e = sources-other (judged R) r refl e
-
-module _ (n : ℕ) (ss xs : List ℕ) (r : SourcesReply) (h : SourcesRead n ss r xs) where
-  pub sources-refused : (k i : ℕ) → r ≡ lists.Refused k i → sourcesVerdict n ss ≡ refuse k i
-  sources-refused k i e = rw e at h
-
-  pub sources-given : (k : ℕ) → r ≡ lists.Read k → SourcesRead n ss (lists.Read k) xs
-  sources-given k e = rw e at h
+  unfolding list.reading verdictOf
+  sources-read (lists.Read k) e = sources-loaded k (sym (sources-told (lists.Read k) e)) e
+  sources-read (lists.Refused k i) e = sources-verdict ∙ sym (sources-told (lists.Refused k i) e)
 
 -- ---- both
 

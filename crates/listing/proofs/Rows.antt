@@ -1,5 +1,5 @@
 -- The lines of a source by its five rows of settled words. Assumes nothing.
-use Rattle.property.proofs.Basics.{_≡_, refl, sym, ap, _∙_, true, false, List, [], _∷_, _++_, map, ℕ, zero, suc, _+_, _-_, _*_, _^_, _≤_, _<_, add-one, arith, ltb, ltb-true, ltb-false, length, getD, take, replicate, length-append, length-take-le, getD-take, List·getD-append}
+use Rattle.property.proofs.Basics.{_≡_, refl, sym, ap, _∙_, false, List, [], _∷_, _++_, map, ℕ, zero, suc, _+_, _-_, _*_, _^_, _≤_, _<_, add-one, arith, ltb, ltb-true, ltb-false, length, getD, take, length-append, length-take-le, getD-take, List·getD-append}
 use lib.Seq.{getD-append-add}
 use borrow.Rule.Slice.PartMut.{putMid}
 use Rattle.property.proofs.Tests.{by-test}
@@ -9,22 +9,12 @@ use Rattle.calls.proofs.Rows.{row-ends}
 use Rattle.graph.specs.Limits.{maxVertices}
 use Rattle.graph.proofs.Lists.{getD-within}
 use Rattle.network.specs.Network.{Network}
-use Rattle.network.specs.Query.{queryCall}
-use Rattle.query.specs.declared.Answered.{Answered}
-use Rattle.query.specs.Code.{asking, wordsOf, asOutcome}
 use Rattle.dimacs.specs.Decimal.{digits}
 use Rattle.dimacs.specs.Lines.{fieldsOf}
 use Rattle.dimacs.proofs.Widths.{width-most}
 use Rattle.writer.proofs.Fields.{width-word}
-use Rattle.listing.specs.Listing.{Graph, landmarksOf, valueAt, spaced, lineOf, linesOf, refusedLine}
+use Rattle.listing.specs.Listing.{Graph, landmarksOf, valueAt, spaced, lineOf, linesOf}
 use Rattle.listing.specs.Code.{maxLine, settledRow, rowsLine, rowsLines}
-
--- ---- a query's settled words
-
-pub row-settled : (n : ℕ) (ls : List ℕ) (w : Network) (s p : ℕ) (vs xs ys as′ bs : List ℕ) (r : Answered)
-    → asOutcome r as′ bs ≡ queryCall n ls w (asking p s vs) (wordsOf xs ys) → vs ≡ [] → xs ≡ replicate n 0 → ys ≡ replicate n 0
-    → bs ≡ settledRow n ls w s p
-row-settled n ls w s p vs xs ys as′ bs r e a b c = rw (a, b, c) at (ap (λ o. o .memory .settled) e)
 
 -- ---- rows one after the other
 
@@ -137,10 +127,6 @@ module _ (g : Graph) (w : Network) (s : ℕ) (ls xs : List ℕ) (chosen : landma
   lines-rows (suc k) t l = rw (line-rows t (omega arith), lines-rows k (suc t) (omega arith))
 
 -- ---- the line of a refusal
-
-pub refused-fields : (k i : ℕ) → refusedLine k i ≡ (114 ∷ 101 ∷ 102 ∷ 117 ∷ 115 ∷ 101 ∷ 100 ∷ []) ++ fieldsOf (k ∷ i ∷ []) ++ (10 ∷ [])
-unfolding refusedLine
-refused-fields k i = refl
 
 pub refused-most : (k i : ℕ) → k < 2 ^ 64 → i < 2 ^ 64 → length ((114 ∷ 101 ∷ 102 ∷ 117 ∷ 115 ∷ 101 ∷ 100 ∷ []) ++ fieldsOf (k ∷ i ∷ []) ++ (10 ∷ [])) ≤ 50
 unfolding fieldsOf

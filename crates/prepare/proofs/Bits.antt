@@ -1,10 +1,11 @@
 -- Marks of n vertices in words of 64 bits: read, set, cleared, counted. Assumes nothing.
 use Rattle.property.proofs.Basics.{_≡_, refl, sym, ap, _∙_, _⊎_, inl, inr, ⊎-elim, Bool, true, false, cond, List, [], _∷_, ℕ, zero, suc, _+_, _≤_, _<_, ℕ-discrete, decLt, arith, length, getD, set, take, List·getD-eq-default, getD-set-other, length-take-le}
-use Rattle.frontier.specs.Waiting.{waitingOf, countOf}
-use Rattle.frontier.proofs.Laws.{count-none, count-insert}
+use Rattle.frontier.specs.Waiting.{waitingOf, countOf, nextFrom}
+use Rattle.frontier.specs.declared.Next.the-variants.{At}
+use Rattle.frontier.proofs.Laws.{First, next-first, count-none, count-insert}
 use Rattle.graph.proofs.Lists.{at-set}
 use Rattle.run.specs.Code.{bits, Marks}
-use Rattle.run.proofs.States.{bits-at, marks-set}
+use Rattle.run.proofs.States.{bits-at, marks-set, marks-within}
 
 -- ---- one bit
 
@@ -45,6 +46,10 @@ bits-all n bs m t = elim (decLt t n) [
   | yes h ↦ bits-at n bs t h
   | no d ↦ List·getD-eq-default (bits n bs) false (omega (arith, bits-length n bs m)) ∙ sym (m .idle t (omega arith))
 ]
+
+-- the next mark from i on is one of the vertices
+pub marks-next : {n : ℕ} {bs : List ℕ} {i v : ℕ} → Marks n bs → nextFrom (waitingOf bs) i ≡ At v → First (waitingOf bs) i v × (v < n)
+marks-next {n} {bs} {i} {v} m e = let f = next-first (waitingOf bs) i v e in (f, marks-within n bs v m (f .waits))
 
 -- a vertex is marked where a test holds
 pub marks-if : (n : ℕ) (bs cs : List ℕ) (v : ℕ) (b : Bool) → v < n → waitingOf cs ≡ cond b (set (waitingOf bs) v true) (waitingOf bs)

@@ -11,7 +11,7 @@ use Rattle.graph.specs.Arc.{arcHead}
 use Rattle.graph.specs.Edge.{Edge, edge}
 use Rattle.graph.specs.Index.{part, own, Own}
 use Rattle.graph.proofs.Tests.{both, and-true, or-right}
-use Rattle.graph.proofs.Lists.{replicate-at, getD-within}
+use Rattle.graph.proofs.Lists.{replicate-at, getD-within, at-set}
 use Rattle.graph.proofs.Edges.{leaving-in, in-leaving}
 use Rattle.run.specs.Run.{word}
 use Rattle.run.specs.Code.{bits, Marks}
@@ -122,12 +122,10 @@ module _ {P : Property} {n s : ℕ} {f : ℕ → Edge} {on : ℕ → Bool} {j : 
 part-mem : (is : List ℕ) (u j c k : ℕ) → j ≤ k → k < j + c → List·Memᴰ (arcEdge is u k) (part is u j c)
 unfolding part
 part-mem is u j zero k a b = absurd (omega arith)
-part-mem is u j (suc c) k a b = pick (ℕ-discrete k j) (λ d. part-mem is u (suc j) c k (omega arith) (omega arith))
-  where
-    pick : Dec (k ≡ j) → ((k ≡ j → ⊥) → List·Memᴰ (arcEdge is u k) (part is u (suc j) c))
-        → List·Memᴰ (arcEdge is u k) (arcEdge is u j ∷ part is u (suc j) c)
-    pick (yes e) f = List·Memᴰ·head (ap (λ (i : ℕ). arcEdge is u i) e)
-    pick (no d) f = List·Memᴰ·tail (f d)
+part-mem is u j (suc c) k a b = elim (ℕ-discrete k j) [
+  | yes e ↦ List·Memᴰ·head (ap (λ (i : ℕ). arcEdge is u i) e)
+  | no d ↦ List·Memᴰ·tail (part-mem is u (suc j) c k (omega arith) (omega arith))
+]
 
 mem-part : (is : List ℕ) (u j c : ℕ) (e : Edge) → List·Memᴰ e (part is u j c)
     → (k : ℕ) × (j ≤ k) × (k < j + c) × (arcEdge is u k ≡ e)
@@ -160,12 +158,13 @@ spreads-none = record { keeps = λ t q. q; named = λ fs d. d; covered = λ c. c
 module _ {n : ℕ} {bs ds : List ℕ} (u : ℕ) (at : Going n bs ds) where
   -- u is to do no more
   pub taken-going : (es : List ℕ) → u < n → waitingOf es ≡ set (waitingOf ds) u false → Going n bs es
-  taken-going es h e = record { marks = at .marks; todo = marks-set n u ds es false h e (at .todo); among = λ t k. at .among t (pick t (ℕ-discrete t u) (rw e at k)) }
-    where
-      pick : (t : ℕ) → Dec (t ≡ u) → getD (set (waitingOf ds) u false) t false ≡ true → marked (waitingOf ds) t ≡ true
-      pick t (yes p) k =
-          absurd (false≢true (sym (getD-set-same (waitingOf ds) u false false (omega (arith, at .todo .bits, at .todo .few))) ∙ ap (λ (i : ℕ). getD (set (waitingOf ds) u false) i false) (sym p) ∙ k))
-      pick t (no d) k = sym (getD-set-other (waitingOf ds) u t false false d) ∙ k
+  taken-going es h e =
+      let b : u < length (waitingOf ds) = omega (arith, at .todo .bits, at .todo .few) in
+      record {
+        marks = at .marks;
+        todo = marks-set n u ds es false h e (at .todo);
+        among = λ t k. at .among t (⊎-elim (λ z. absurd (false≢true (sym (z .1) ∙ rw e at k))) (λ z. sym (z .1) ∙ rw e at k) (at-set (waitingOf ds) u false t false b));
+      }
 
   -- The edges of u are gone along: those of any other vertex that is not to do were covered before, and no mark is taken away; a
   -- vertex that was marked on the way is to do.
@@ -174,18 +173,13 @@ module _ {n : ℕ} {bs ds : List ℕ} (u : ℕ) (at : Going n bs ds) where
   spreads-turn {P} {s} {vs} is es on e bs′ ds′ h al xs o = record {
     keeps = al .grown .keeps;
     named = λ fs d. al .named xs fs (λ i a b y. (own-reads n is xs o u i h a b, inr (at .among u on))) d;
-    covered = λ c x m k q. ⊎-elim (λ r. old c x m k r (ℕ-discrete (x .tail) u)) inr (al .grown .new (x .tail) q);
+    covered = λ c x m k q. ⊎-elim (λ r. elim (ℕ-discrete (x .tail) u) [
+      | yes p ↦ (let z = own-whole n is xs o u x h p m in
+          inl (ap (λ (i : Edge). marked (waitingOf bs′) (i .head)) (sym (z .3)) ∙ al .heads (z .0) (z .1) (z .2) refl (ap (λ (i : Edge). held P s vs i) (z .3) ∙ k)))
+      | no d ↦ ⊎-elim (λ y. inl (al .grown .keeps (x .head) y))
+          (λ y. inr (al .grown .due (x .tail) (rw e (getD-set-other (waitingOf ds) u (x .tail) false false d ∙ y)))) (c x m k r)
+    ]) inr (al .grown .new (x .tail) q);
   }
-    where
-      old : Covered P xs s vs (waitingOf bs) (waitingOf ds) → (x : Edge) → List·Memᴰ x xs → held P s vs x ≡ true → marked (waitingOf bs) (x .tail) ≡ true
-          → Dec (x .tail ≡ u) → (marked (waitingOf bs′) (x .head) ≡ true) ⊎ (marked (waitingOf ds′) (x .tail) ≡ true)
-      old c x m k r (yes p) =
-          let z = own-whole n is xs o u x h p m in
-          let f : arcEdge is u (z .0) ≡ x = z .3 in
-          inl (ap (λ (i : Edge). marked (waitingOf bs′) (i .head)) (sym f) ∙ al .heads (z .0) (z .1) (z .2) refl (ap (λ (i : Edge). held P s vs i) f ∙ k))
-      old c x m k r (no d) =
-          ⊎-elim (λ q. inl (al .grown .keeps (x .head) q))
-          (λ q. inr (al .grown .due (x .tail) (rw e (getD-set-other (waitingOf ds) u (x .tail) false false d ∙ q)))) (c x m k r)
 
   -- what is left to do grows less: a vertex is taken, and each that is marked on the way has one mark less to come
   pub spread-falls : marked (waitingOf ds) u ≡ true → (es bs′ ds′ : List ℕ) → waitingOf es ≡ set (waitingOf ds) u false → Marks n bs′ → Grown (waitingOf bs) (waitingOf es) (waitingOf bs′) (waitingOf ds′)

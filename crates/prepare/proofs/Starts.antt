@@ -2,8 +2,9 @@
 --
 --   Given .. out i     == the first i words of out are those with which the rounds start, the others as they were
 --   opens es ms t e    == e, an edge of the new list, has vertex t wait
-use Rattle.property.proofs.Basics.{_≡_, refl, sym, ap, _∙_, _⊎_, inl, inr, ⊎-elim, Bool, true, false, _&&_, _||_, cond, false≢true, List, map, List·Memᴰ, ℕ, _+_, _≤_, _<_, ℕ-discrete, decLt, arith, length, getD, set, replicate, length-set, getD-set-same, getD-set-other, ext-getD, eqb, ltb, eqb-true, eq-eqb, ltb-true, ltb-false}
+use Rattle.property.proofs.Basics.{_≡_, refl, sym, ap, _∙_, _⊎_, inl, inr, ⊎-elim, Bool, true, false, _&&_, _||_, cond, false≢true, List, map, List·Memᴰ, ℕ, _+_, _≤_, _<_, ℕ-discrete, decLt, arith, length, getD, set, replicate, length-set, getD-set-same, getD-set-other, ext-getD, eqb, eqb-true, eq-eqb, ltb-true, lt-ltb}
 use Rattle.property.specs.Property.{Property}
+use Rattle.property.proofs.Tests.{by-test}
 use Rattle.frontier.specs.Waiting.{waitingOf, capacity}
 use Rattle.frontier.proofs.Laws.{First}
 use Rattle.graph.specs.Arc.{arcHead, arcWeight}
@@ -18,8 +19,8 @@ use Rattle.run.proofs.States.{bits-at}
 use Rattle.affected.specs.Affected.{added, marked, affected}
 use Rattle.affected.specs.Prepared.{cleared, reopened, prepared}
 use Rattle.compare.specs.Code.{after, pairs, Lists}
-use Rattle.prepare.specs.Code.{Raised, Woken, Entering}
-use Rattle.prepare.proofs.Bits.{bits-all, bits-length}
+use Rattle.prepare.specs.Code.{Raised, Reached, Woken, Entering}
+use Rattle.prepare.proofs.Bits.{raise-keeps, raise-only, bits-all, bits-length}
 use Rattle.prepare.proofs.Spreading.{own-reads, own-whole}
 
 -- ---- words
@@ -49,82 +50,38 @@ module _ (P : Property) (n : ℕ) (ms ws : List ℕ) (l : length ws ≡ n) where
     give-turn {v} {r} h f e = record {
       within = omega arith;
       size = length-set out v r ∙ at .size;
-      below = λ k j. pick k (ℕ-discrete k v) (λ d. under k (decLt k i) (λ o. at .below k o) (λ o. at .above k (omega arith) ∙ spared k (omega arith) (f .before k (omega arith) (omega arith))));
+      below = λ k j. elim (ℕ-discrete k v) [
+        | yes q ↦ rw q (getD-set-same out v r 0 (omega (arith, at .size)) ∙ (e ∙ ap (λ b. cond b (P .none) (word P ws v)) (sym (bits-at n ms v h ∙ f .waits))))
+        | no d ↦ getD-set-other out v k r 0 d ∙ elim (decLt k i) [ yes o ↦ at .below k o | no o ↦ at .above k (omega arith) ∙ spared k (omega arith) (f .before k (omega arith) (omega arith)) ]
+      ];
       above = λ k j. let o : k ≡ v → ⊥ = (λ q. omega arith) in getD-set-other out v k r 0 o ∙ at .above k (let a = f .from in omega arith);
     }
-      where
-        under : (k : ℕ) → Dec (k < i) → (k < i → getD out k 0 ≡ given P n ms ws k) → ((k < i → ⊥) → getD out k 0 ≡ given P n ms ws k) → getD out k 0 ≡ given P n ms ws k
-        under k (yes o) a b = a o
-        under k (no o) a b = b o
-
-        pick : (k : ℕ) → Dec (k ≡ v) → ((k ≡ v → ⊥) → getD out k 0 ≡ given P n ms ws k) → getD (set out v r) k 0 ≡ given P n ms ws k
-        pick k (yes q) g =
-            rw q (getD-set-same out v r 0 (omega (arith, at .size)) ∙ (e ∙ ap (λ b. cond b (P .none) (word P ws v)) (sym (bits-at n ms v h ∙ f .waits))))
-        pick k (no d) g = getD-set-other out v k r 0 d ∙ g d
 
     -- no vertex from i on is marked
-    pub give-done : ((k : ℕ) → i ≤ k → k < n → getD (waitingOf ms) k false ≡ false) → out ≡ cleared P (bits n ms) ws n
+    pub give-done : ((k : ℕ) → i ≤ k → getD (waitingOf ms) k false ≡ false) → out ≡ cleared P (bits n ms) ws n
     unfolding cleared
     give-done f =
         ext-getD 0 out (map (given P n ms ws) (range 0 n)) (at .size ∙ sym (length-table (given P n ms ws) 0 n))
-        (λ k o. let h : k < n = omega (arith, at .size) in each k h (decLt k i) ∙ sym (table-at (given P n ms ws) n k 0 h))
-      where
-        each : (k : ℕ) → k < n → Dec (k < i) → getD out k 0 ≡ given P n ms ws k
-        each k h (yes o) = at .below k o
-        each k h (no d) = at .above k (omega arith) ∙ spared k h (f k (omega arith) h)
+        (λ k o. let h : k < n = omega (arith, at .size) in
+        elim (decLt k i) [ yes o ↦ at .below k o | no d ↦ at .above k (omega arith) ∙ spared k h (f k (omega arith)) ] ∙ sym (table-at (given P n ms ws) n k 0 h))
 
 -- ---- bits that are set
 
 pub raised-none : (bs : List Bool) (Q : ℕ → Type 0) → ((t : ℕ) → Q t → ⊥) → Raised bs bs Q
 raised-none bs Q f = record { kept = λ t h. h; only = λ t h. inl h; all = λ t q. absurd (f t q) }
 
--- one bit more
-pub raised-turn : (bs cs ds : List Bool) (Q R : ℕ → Type 0) (u : ℕ) → Raised bs cs Q → u < length cs → ds ≡ set cs u true
-    → ((t : ℕ) → Q t → R t) → R u → ((t : ℕ) → R t → Q t ⊎ (t ≡ u)) → Raised bs ds R
-raised-turn bs cs ds Q R u a l e f g h = record {
-  kept = λ t q. rw e (put t (ℕ-discrete t u) (λ d. a .kept t q));
-  only = λ t q. back t (ℕ-discrete t u) (rw e at q);
-  all = λ t q. rw e (put t (ℕ-discrete t u) (λ d. ⊎-elim (a .all t) (λ p. absurd (d p)) (h t q)));
+-- one bit more, that of f k where k passes the test
+pub raised-turn : {bs cs : List Bool} {f : ℕ → ℕ} {on : ℕ → Bool} {j k : ℕ} → Raised bs cs (Reached f on j k) → f k < length cs → j ≤ k → (ds : List Bool)
+    → ds ≡ cond (on k) (set cs (f k) true) cs → Raised bs ds (Reached f on j (k + 1))
+raised-turn {cs = cs} {f = f} {on = on} {k = k} a l h ds e = record {
+  kept = λ t q. rw e (raise-keeps cs (f k) (on k) l t (a .kept t q));
+  only = λ t q. ⊎-elim (λ y. ⊎-elim inl (λ z. inr (z .0, z .1, (let w = z .2 in omega arith), z .3, z .4)) (a .only t y)) (λ y. inr (k, h, omega arith, y .0, sym (y .1)))
+      (raise-only cs (f k) (on k) t (rw e at q));
+  all = λ t q. rw e (elim (ℕ-discrete (q .0) k) [
+    | yes p ↦ rw (sym (q .4), p, rw p at (q .3)) (getD-set-same cs (f k) true false l)
+    | no d ↦ raise-keeps cs (f k) (on k) l t (a .all t (q .0, q .1, (let z = q .2 in omega arith), q .3, q .4))
+  ]);
 }
-  where
-    put : (t : ℕ) → Dec (t ≡ u) → ((t ≡ u → ⊥) → getD cs t false ≡ true) → getD (set cs u true) t false ≡ true
-    put t (yes p) k = rw p (getD-set-same cs u true false l)
-    put t (no d) k = getD-set-other cs u t true false d ∙ k d
-
-    back : (t : ℕ) → Dec (t ≡ u) → getD (set cs u true) t false ≡ true → (getD bs t false ≡ true) ⊎ R t
-    back t (yes p) k = inr (rw p g)
-    back t (no d) k = ⊎-elim inl (λ q. inr (f t q)) (a .only t (sym (getD-set-other cs u t true false d) ∙ k))
-
--- one bit more, that of the head of the arc at place k
-pub raised-part : (bs cs ds : List Bool) (is : List ℕ) (j k : ℕ) → Raised bs cs (Entering is j k) → arcHead (getD is k 0) < length cs → ds ≡ set cs (arcHead (getD is k 0)) true → j ≤ k
-    → Raised bs ds (Entering is j (k + 1))
-raised-part bs cs ds is j k a l e h =
-    raised-turn bs cs ds (Entering is j k) (Entering is j (k + 1)) (arcHead (getD is k 0)) a l e
-    (λ t q. (q .0, q .1, (let z = q .2 in omega arith), q .3)) (k, h, omega arith, refl) (λ t q. pick t q (ℕ-discrete (q .0) k))
-  where
-    pick : (t : ℕ) (q : Entering is j (k + 1) t) → Dec (q .0 ≡ k) → Entering is j k t ⊎ (t ≡ arcHead (getD is k 0))
-    pick t q (yes p) = inr (sym (q .3) ∙ ap (λ (i : ℕ). arcHead (getD is i 0)) p)
-    pick t q (no d) = inl (q .0, q .1, (let z = q .2 in omega arith), q .3)
-
--- one bit more, that of the tail of change k, where it added an edge
-pub raised-change : (bs cs ds : List Bool) (xs : List ℕ) (k : ℕ) (b : Bool) → ltb 0 (after xs k .weight) ≡ b → Raised bs cs (Woken xs k) → after xs k .tail < length cs
-    → ds ≡ cond b (set cs (after xs k .tail) true) cs → Raised bs ds (Woken xs (k + 1))
-raised-change bs cs ds xs k true z a l e =
-    raised-turn bs cs ds (Woken xs k) (Woken xs (k + 1)) (after xs k .tail) a l e
-    (λ t q. (q .0, (let z = q .1 in omega arith), q .2, q .3)) (k, omega arith, ltb-true 0 (after xs k .weight) z, refl) (λ t q. pick t q (ℕ-discrete (q .0) k))
-  where
-    pick : (t : ℕ) (q : Woken xs (k + 1) t) → Dec (q .0 ≡ k) → Woken xs k t ⊎ (t ≡ after xs k .tail)
-    pick t q (yes p) = inr (sym (q .3) ∙ ap (λ (i : ℕ). after xs i .tail) p)
-    pick t q (no d) = inl (q .0, (let z = q .1 in omega arith), q .2, q .3)
-raised-change bs cs ds xs k false z a l e = record {
-  kept = λ t q. rw e (a .kept t q);
-  only = λ t q. ⊎-elim inl (λ w. inr (w .0, (let z = w .1 in omega arith), w .2, w .3)) (a .only t (rw e at q));
-  all = λ t q. rw e (a .all t (pick t q (ℕ-discrete (q .0) k)));
-}
-  where
-    pick : (t : ℕ) (q : Woken xs (k + 1) t) → Dec (q .0 ≡ k) → Woken xs k t
-    pick t q (yes p) = absurd (let x = ltb-false 0 (after xs k .weight) z in let w : 0 < after xs (q .0) .weight = q .2 in let y : 0 < after xs k .weight = rw p at w in omega arith)
-    pick t q (no d) = (q .0, (let z = q .1 in omega arith), q .2, q .3)
 
 -- more bits
 pub raised-then : (bs cs ds : List Bool) (Q R S : ℕ → Type 0) → Raised bs cs Q → Raised cs ds R → ((t : ℕ) → Q t → S t) → ((t : ℕ) → R t → S t)
@@ -145,12 +102,10 @@ module _ (bs cs : List Bool) (ms is : List ℕ) (i : ℕ) (a : Raised bs cs (Beh
       → Raised bs ds (Behind ms is (v + 1))
   raised-behind v ds f b =
       raised-then bs cs ds (Behind ms is i) (Entering is (getD is v 0) (getD is (v + 1) 0)) (Behind ms is (v + 1)) a b
-      (λ t q. (q .0, (let z = q .1 in let y = f .from in omega arith), q .2, q .3)) (λ t q. (v, omega arith, f .waits, q)) (λ t q. pick t q (ℕ-discrete (q .0) v) (decLt (q .0) i))
-    where
-      pick : (t : ℕ) (q : Behind ms is (v + 1) t) → Dec (q .0 ≡ v) → Dec (q .0 < i) → Behind ms is i t ⊎ Entering is (getD is v 0) (getD is (v + 1) 0) t
-      pick t (u, l, on, q) (yes e) d = inr (rw e at q)
-      pick t (u, l, on, q) (no e) (yes h) = inl (u, h, on, q)
-      pick t (u, l, on, q) (no e) (no h) = absurd (false≢true (sym (f .before u (omega arith) (omega arith)) ∙ on))
+      (λ t q. (q .0, (let z = q .1 in let y = f .from in omega arith), q .2, q .3)) (λ t q. (v, omega arith, f .waits, q)) (λ t q. elim (ℕ-discrete (q .0) v) [
+        | yes e ↦ inr (rw e at (q .3))
+        | no e ↦ elim (decLt (q .0) i) [ yes h ↦ inl (q .0, h, q .2, q .3) | no h ↦ absurd (false≢true (sym (f .before (q .0) (omega arith) (let z = q .1 in omega arith)) ∙ q .2)) ]
+      ])
 
   -- none from i on is marked
   pub raised-over : ((v : ℕ) → i ≤ v → getD (waitingOf ms) v false ≡ false)
@@ -158,12 +113,8 @@ module _ (bs cs : List Bool) (ms is : List ℕ) (i : ℕ) (a : Raised bs cs (Beh
   raised-over f = record {
     kept = a .kept;
     only = λ t h. ⊎-elim inl (λ q. inr (q .0, q .2, q .3)) (a .only t h);
-    all = λ t q. a .all t (q .0, low (q .0) (q .1) (decLt (q .0) i), q .1, q .2);
+    all = λ t q. a .all t (q .0, elim (decLt (q .0) i) [ yes h ↦ h | no d ↦ absurd (false≢true (sym (f (q .0) (omega arith)) ∙ q .1)) ], q .1, q .2);
   }
-    where
-      low : (v : ℕ) → getD (waitingOf ms) v false ≡ true → Dec (v < i) → v < i
-      low v on (yes h) = h
-      low v on (no d) = absurd (false≢true (sym (f v (omega arith)) ∙ on))
 
 -- ---- who waits
 
@@ -184,10 +135,10 @@ module _ (n : ℕ) (xs is ms : List ℕ) (marks : Marks n ms) (bs cs ds : List �
     sound t h = ⊎-elim (λ y. ⊎-elim (λ z. absurd (false≢true (sym (replicate-at capacity t false) ∙ (ap (λ (l : List Bool). getD l t false) (sym p) ∙ z)))) listed (a .only t y)) into (b .only t h)
       where
         listed : Woken xs (pairs xs) t → exists (opens P es (bits n ms) t) fs ≡ true
-        listed z = witness t (after xs (z .0)) (q .among (z .0) (z .1) (z .2)) (z .3) (or-right (marked (bits n ms) _) (q .lacks (z .0) (z .1) (z .2)))
+        listed z = let w = ltb-true _ _ (z .3) in witness t (after xs (z .0)) (q .among (z .0) (z .2) w) (z .4) (or-right (marked (bits n ms) _) (q .lacks (z .0) (z .2) w))
 
         into : ((v : ℕ) × (getD (waitingOf ms) v false ≡ true) × Entering is (getD is v 0) (getD is (v + 1) 0) t) → exists (opens P es (bits n ms) t) fs ≡ true
-        into (v, on, (k, lo, hi, e)) =
+        into (v, on, (k, lo, hi, _, e)) =
             let z = reverse-mem fs _ (own-reads n is (map reverse fs) o v k (marked-within v on) lo hi) in
             witness t (edge (arcHead (getD is k 0)) v (arcWeight (getD is k 0))) z e (ap (λ c. c || added P es (edge (arcHead (getD is k 0)) v (arcWeight (getD is k 0)))) (bits-all n ms marks v ∙ on))
 
@@ -195,15 +146,11 @@ module _ (n : ℕ) (xs is ms : List ℕ) (marks : Marks n ms) (bs cs ds : List �
     whole t h =
         let z = exists-true (opens P es (bits n ms) t) fs h in
         let y = both (eqb ((z .0) .tail) t) _ (z .2) in
-        pick (z .0) (z .1) (eqb-true _ _ (y .0)) (marked (bits n ms) ((z .0) .head)) refl (y .1)
-      where
-        pick : (e : Edge) → List·Memᴰ e fs → e .tail ≡ t → (c : Bool) → marked (bits n ms) (e .head) ≡ c → (c || added P es e) ≡ true → getD (waitingOf ds) t false ≡ true
-        pick e i j true on k =
-            let z = own-whole n is (map reverse fs) o (e .head) (reverse e) (heads e i) refl (mem-reverse i) in
-            b .all t (e .head, sym (bits-all n ms marks (e .head)) ∙ on, (z .0, z .1, z .2, ap (λ (x : Edge). x .head) (z .3) ∙ j))
-        pick e i j false on k =
-            let y = q .all e i k in
-            b .kept t (a .all t (y .0, y .1, y .3, ap (λ (l : Edge). l .tail) (y .2) ∙ j))
+        let j = eqb-true _ _ (y .0) in
+        by-test (marked (bits n ms) ((z .0) .head))
+        (λ on. let w = own-whole n is (map reverse fs) o ((z .0) .head) (reverse (z .0)) (heads (z .0) (z .1)) refl (mem-reverse (z .1)) in
+        b .all t ((z .0) .head, sym (bits-all n ms marks ((z .0) .head)) ∙ on, (w .0, w .1, w .2, refl, ap (λ (x : Edge). x .head) (w .3) ∙ j)))
+        (λ on. let w = q .all (z .0) (z .1) (rw on at (y .1)) in b .kept t (a .all t (w .0, omega arith, w .1, lt-ltb _ _ (w .3), ap (λ (l : Edge). l .tail) (w .2) ∙ j)))
 
     pub reopen-done : bits n ds ≡ reopened P es fs (bits n ms) n
     unfolding reopened

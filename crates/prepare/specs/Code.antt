@@ -14,6 +14,7 @@
 --   Covered P es s ws ms ds      == a held edge from a marked vertex that is not to do has its head marked
 --   Spreads P n s es vs bs ds bs′ ds′ == marks went on along edges of es
 --   Raised bs cs Q               == the bits bs became cs: those of Q were set
+--   Reached f on j k t           == t is f i, of some i from j to k - 1 that passes the test on
 --   Woken xs k t                 == t is the tail of an edge that one of the first k changes added
 --   Entering is j k t            == t is the head of an arc at places j to k - 1
 use mathlib.Core.Path.{_≡_}
@@ -96,8 +97,11 @@ pub record Raised (bs cs : List Bool) (Q : ℕ → Type 0) : Type 0 where
   pub only : (t : ℕ) → getD cs t false ≡ true → (getD bs t false ≡ true) ⊎ Q t
   pub all : (t : ℕ) → Q t → getD cs t false ≡ true
 
+abbrev pub Reached : (ℕ → ℕ) → (ℕ → Bool) → ℕ → ℕ → ℕ → Type 0
+Reached f on j k t = (i : ℕ) × (j ≤ i) × (i < k) × (on i ≡ true) × (f i ≡ t)
+
 abbrev pub Woken : List ℕ → ℕ → ℕ → Type 0
-Woken xs k t = (i : ℕ) × (i < k) × (0 < after xs i .weight) × (after xs i .tail ≡ t)
+Woken xs k = Reached (λ i. after xs i .tail) (λ i. ltb 0 (after xs i .weight)) 0 k
 
 abbrev pub Entering : List ℕ → ℕ → ℕ → ℕ → Type 0
-Entering is j k t = (i : ℕ) × (j ≤ i) × (i < k) × (arcHead (getD is i 0) ≡ t)
+Entering is = Reached (λ i. arcHead (getD is i 0)) (λ i. true)

@@ -9,7 +9,7 @@ ghost use mathlib.Core.List.{List};
 ghost use Prim.Native.Nat.{ℕ, _+_, _*_, _<_, _≤_};
 ghost use lib.ListN.{length, getD, set};
 ghost use lib.Dec.{ltb};
-ghost use Rattle.property.specs.Property.{Property, property};
+ghost use Rattle.property.specs.Property.{property};
 ghost use Rattle.frontier.specs.Waiting.{waitingOf, countOf};
 ghost use Rattle.graph.specs.Limits.{maxVertices};
 ghost use Rattle.graph.specs.Arc.{arcHead};
@@ -22,14 +22,14 @@ ghost use Rattle.affected.specs.Prepared as start;
 ghost use Rattle.compare.specs.Code.{before, after, pairs, Inside};
 ghost use Rattle.prepare.specs.Code.{Batched, Going, holds, marksHead, marksChange, HeadsMarked, Along, Spreads, Raised, Woken, Entering};
 
-// ---- who is affected
+// ---- what the changes do
 
 // Whether the edge from a vertex with word `v`, of weight `w`, holds up its head `h`, whose word is `x`: it is tight, and the head
 // is not the landmark `s` and has a route.
 fn is_held(p: u32, s: u32, v: u32, w: u32, h: u32, x: u32) -> bool
     ensures { λ r. ⌜ r ≡ holds (property p) s v w h x ⌝ }
 {
-    property::along(p, v, w) == x && (h != s && x != property::none(p))
+    (property::along(p, v, w) == x) & ((h != s) & (x != property::none(p)))
 }
 
 // An edge from `t` to `h` that is removed, or whose tail is marked: where it holds its head up, the head is marked, and is to do where
@@ -60,11 +60,11 @@ fn mark_head(
     }
 }
 
-// Whether a change removed an edge: its pair had one of weight `old` before.
-fn is_removed(old: u32) -> bool
-    ensures { λ r. ⌜ r ≡ ltb 0 old ⌝ }
+// Whether a pair has an edge: its weight `w` is 0 where it has none.
+fn has_edge(w: u32) -> bool
+    ensures { λ r. ⌜ r ≡ ltb 0 w ⌝ }
 {
-    0 < old
+    0 < w
 }
 
 // Change `k` marks the head that its removed edge held up.
@@ -86,13 +86,25 @@ fn mark_change(
     let t = arc::head(net[at]);
     let w = arc::weight(net[at]);
     let h = arc::head(net[at + 1]);
-    if is_removed(w) {
+    if has_edge(w) {
         mark_head(p, n, s, t, h, w, words, marks, todo);
     }
 }
 
-// The removed edges mark the heads that they held up.
-fn mark_removed_heads(
+// The tail of change `k` waits where it added an edge.
+fn wake_change(k: usize, net: &[u32], waiting: &mut Words)
+    requires { ⌜ (2 * k + 1 < length (now net)) × Inside maxVertices (now net) ⌝ }
+    ensures { λ _. ⌜ waitingOf (now (waiting .exit)) ≡ cond (ltb 0 (after (now (net .entry)) k .weight)) (set (waitingOf (now (waiting .entry))) (after (now (net .entry)) k .tail) true) (waitingOf (now (waiting .entry))) ⌝ }
+{
+    let at = 2 * k;
+    let t = arc::head(net[at]) as usize;
+    if has_edge(arc::weight(net[at + 1])) {
+        frontier::insert(waiting, t);
+    }
+}
+
+// The changes of a batch: the removed edges mark the heads that they held up, and the tails of the added edges wait.
+fn take_changes(
     p: u32,
     n: usize,
     s: u32,
@@ -100,17 +112,22 @@ fn mark_removed_heads(
     words: &[u32],
     marks: &mut Words,
     todo: &mut Words,
+    waiting: &mut Words,
 )
-    requires { ⌜ Inside n (now net) × (n ≤ maxVertices) × (length (now words) ≡ n) × Going n (now marks) (now todo) ⌝ }
+    requires { ⌜ Inside n (now net) × (n ≤ maxVertices) × (length (now words) ≡ n) × Going n (now marks) (now todo) × Marks n (now waiting) ⌝ }
     ensures { λ _. ⌜ HeadsMarked (property p) n s (before (now (net .entry))) (pairs (now (net .entry))) (now (words .entry)) (now (marks .entry)) (now (todo .entry)) (now (marks .exit)) (now (todo .exit)) ⌝ }
+    ensures { λ _. ⌜ Raised (waitingOf (now (waiting .entry))) (waitingOf (now (waiting .exit))) (Woken (now (net .entry)) (pairs (now (net .entry)))) × Marks n (now (waiting .exit)) ⌝ }
 {
     let size = net.len() / 2;
     let mut k = 0;
     while k < size {
         mark_change(p, n, s, k, net, words, marks, todo);
+        wake_change(k, net, waiting);
         k += 1;
     }
 }
+
+// ---- who is affected
 
 // Marks go on from vertex `u` along its old edges. None is asked whether it is removed: a removed edge that holds its head up has marked
 // that head already, so that going along it marks nothing more.
@@ -186,76 +203,7 @@ fn spread(p: u32, n: usize, s: u32, old: &[u32], words: &[u32], marks: &mut Word
     }
 }
 
-// The affected vertices: marks are cleared, the removed edges mark heads, and marks spread along the index of the old edges.
-fn mark_affected(
-    p: u32,
-    n: usize,
-    s: u32,
-    net: &[u32],
-    old: &[u32],
-    words: &[u32],
-    marks: &mut Words,
-)
-    requires { ⌜ Inside n (now net) × Fit n (now old) × (length (now words) ≡ n) ⌝ }
-    ensures { λ _. ⌜ ((es fs : List Edge) (rs : List ℕ) → Batched n es fs (now (old .entry)) rs (now (net .entry)) → bits n (now (marks .exit)) ≡ spec.affected (property p) es fs s (now (words .entry)) n) ⌝ }
-    ensures { λ _. ⌜ Marks n (now (marks .exit)) ⌝ }
-{
-    frontier::clear(marks);
-    let mut todo = frontier::empty();
-    mark_removed_heads(p, n, s, net, words, marks, &mut todo);
-    spread(p, n, s, old, words, marks, &mut todo);
-}
-
 // ---- where the rounds start
-
-// The marked vertices of a row have no route.
-fn clear_marked(p: u32, n: usize, marks: &Words, words: &mut [u32])
-    requires { ⌜ Marks n (now marks) × (length (now words) ≡ n) ⌝ }
-    ensures { λ _. ⌜ now (words .exit) ≡ start.cleared (property p) (bits n (now (marks .entry))) (now (words .entry)) n ⌝ }
-{
-    let mut i = 0;
-    while i < n {
-        let next = frontier::next_from(marks, i);
-        let Next::At(v) = next else {
-            return;
-        };
-        words[v] = property::none(p);
-        i = v + 1;
-    }
-}
-
-// Whether a change added an edge: its pair has one of weight `new` after.
-fn is_added(new: u32) -> bool
-    ensures { λ r. ⌜ r ≡ ltb 0 new ⌝ }
-{
-    0 < new
-}
-
-// The tail of change `k` waits where it added an edge.
-fn wake_change(k: usize, net: &[u32], waiting: &mut Words)
-    requires { ⌜ (2 * k + 1 < length (now net)) × Inside maxVertices (now net) ⌝ }
-    ensures { λ _. ⌜ waitingOf (now (waiting .exit)) ≡ cond (ltb 0 (after (now (net .entry)) k .weight)) (set (waitingOf (now (waiting .entry))) (after (now (net .entry)) k .tail) true) (waitingOf (now (waiting .entry))) ⌝ }
-{
-    let at = 2 * k;
-    let t = arc::head(net[at]) as usize;
-    if is_added(arc::weight(net[at + 1])) {
-        frontier::insert(waiting, t);
-    }
-}
-
-// The tails of the added edges wait.
-fn wake_added(n: usize, net: &[u32], waiting: &mut Words)
-    requires { ⌜ Inside n (now net) × Marks n (now waiting) ⌝ }
-    ensures { λ _. ⌜ Raised (waitingOf (now (waiting .entry))) (waitingOf (now (waiting .exit))) (Woken (now (net .entry)) (pairs (now (net .entry)))) ⌝ }
-    ensures { λ _. ⌜ Marks n (now (waiting .exit)) ⌝ }
-{
-    let size = net.len() / 2;
-    let mut k = 0;
-    while k < size {
-        wake_change(k, net, waiting);
-        k += 1;
-    }
-}
 
 // The tails of the new edges into vertex `v` wait: they are the heads of its edges in the index of the reversed new table.
 fn wake_into(n: usize, v: usize, into: &[u32], waiting: &mut Words)
@@ -271,9 +219,17 @@ fn wake_into(n: usize, v: usize, into: &[u32], waiting: &mut Words)
     }
 }
 
-// The tails of the new edges into marked vertices wait.
-fn wake_marked(n: usize, into: &[u32], marks: &Words, waiting: &mut Words)
-    requires { ⌜ Fit n (now into) × Marks n (now marks) × Marks n (now waiting) ⌝ }
+// The marked vertices of a row have no route, and the tails of the new edges into them wait.
+fn reopen_marked(
+    p: u32,
+    n: usize,
+    into: &[u32],
+    marks: &Words,
+    words: &mut [u32],
+    waiting: &mut Words,
+)
+    requires { ⌜ Fit n (now into) × Marks n (now marks) × (length (now words) ≡ n) × Marks n (now waiting) ⌝ }
+    ensures { λ _. ⌜ now (words .exit) ≡ start.cleared (property p) (bits n (now (marks .entry))) (now (words .entry)) n ⌝ }
     ensures { λ _. ⌜ Raised (waitingOf (now (waiting .entry))) (waitingOf (now (waiting .exit))) (λ t. (v : ℕ) × (getD (waitingOf (now (marks .entry))) v false ≡ true) × Entering (now (into .entry)) (getD (now (into .entry)) v 0) (getD (now (into .entry)) (v + 1) 0) t) ⌝ }
     ensures { λ _. ⌜ Marks n (now (waiting .exit)) ⌝ }
 {
@@ -283,20 +239,10 @@ fn wake_marked(n: usize, into: &[u32], marks: &Words, waiting: &mut Words)
         let Next::At(v) = next else {
             return;
         };
+        words[v] = property::none(p);
         wake_into(n, v, into, waiting);
         i = v + 1;
     }
-}
-
-// Who waits: the tails of all added edges, and of all new edges into marked vertices.
-fn reopen(n: usize, net: &[u32], into: &[u32], marks: &Words, waiting: &mut Words)
-    requires { ⌜ Inside n (now net) × Fit n (now into) × Marks n (now marks) ⌝ }
-    ensures { λ _. ⌜ ((P : Property) (es fs : List Edge) (is : List ℕ) → Batched n es fs is (now (into .entry)) (now (net .entry)) → bits n (now (waiting .exit)) ≡ start.reopened P es fs (bits n (now (marks .entry))) n) ⌝ }
-    ensures { λ _. ⌜ Marks n (now (waiting .exit)) ⌝ }
-{
-    frontier::clear(waiting);
-    wake_added(n, net, waiting);
-    wake_marked(n, into, marks, waiting);
 }
 
 // A row after a batch: `words`, its words before it, become those that its rounds start from, `waiting` who waits then, and the answer is how
@@ -313,13 +259,14 @@ pub fn prepare(
     waiting: &mut Words,
 ) -> u64
     requires { ⌜ Inside n (now net) × Fit n (now old) × Fit n (now into) × (length (now words) ≡ n) ⌝ }
-    ensures { λ r. ⌜ ((es fs : List Edge) → Batched n es fs (now (old .entry)) (now (into .entry)) (now (net .entry)) → record { words = now (words .exit); waiting = bits n (now (waiting .exit)); tally = noTally } ≡ start.prepared (property p) es fs s (now (words .entry)) n) ⌝ }
-    ensures { λ r. ⌜ ((es fs : List Edge) → Batched n es fs (now (old .entry)) (now (into .entry)) (now (net .entry)) → r ≡ countOf (spec.affected (property p) es fs s (now (words .entry)) n)) ⌝ }
+    ensures { λ r. ⌜ ((es fs : List Edge) → Batched n es fs (now (old .entry)) (now (into .entry)) (now (net .entry)) → (record { words = now (words .exit); waiting = bits n (now (waiting .exit)); tally = noTally } ≡ start.prepared (property p) es fs s (now (words .entry)) n) × (r ≡ countOf (spec.affected (property p) es fs s (now (words .entry)) n))) ⌝ }
     ensures { λ r. ⌜ Marks n (now (waiting .exit)) × (r ≤ maxVertices) ⌝ }
 {
     let mut marks = frontier::empty();
-    mark_affected(p, n, s, net, old, words, &mut marks);
-    clear_marked(p, n, &marks, words);
-    reopen(n, net, into, &marks, waiting);
+    let mut todo = frontier::empty();
+    frontier::clear(waiting);
+    take_changes(p, n, s, net, words, &mut marks, &mut todo, waiting);
+    spread(p, n, s, old, words, &mut marks, &mut todo);
+    reopen_marked(p, n, into, &marks, words, waiting);
     frontier::count(&marks) as u64
 }

@@ -8,8 +8,9 @@ ghost use mathlib.Core.List.{List};
 ghost use Prim.Native.Nat.{ℕ, _+_, _<_, _≤_};
 ghost use lib.ListN.{length, getD};
 ghost use Rattle.property.specs.Property.{property};
-ghost use Rattle.graph.specs.Refusal.{accept, _▷_};
-ghost use Rattle.graph.specs.Edge.{edges};
+ghost use Rattle.graph.specs.Limits.{maxVertices};
+ghost use Rattle.graph.specs.Refusal.{_▷_, over};
+ghost use Rattle.graph.specs.Edge.{Edge};
 ghost use Rattle.graph.specs.Table.{size};
 ghost use Rattle.graph.specs.Code.{told};
 ghost use Rattle.graph.specs.Index.{Fit, Own};
@@ -17,7 +18,7 @@ ghost use Rattle.run.specs.Code.{Scheduled};
 ghost use Rattle.run.specs.Start as start;
 ghost use Rattle.network.specs.Query.{scheduled, longSchedule, shortWords, requested, queryFaults, queryCall};
 ghost use Rattle.calls.specs.Code.{network};
-ghost use Rattle.query.specs.Code.{asking, wordsOf, asOutcome, knownBy, Rowed};
+ghost use Rattle.query.specs.Code.{asking, wordsOf, asOutcome, runFrom, Ended, knownBy, Rowed};
 
 // The reply to a query: its tally.
 pub enum Answered {
@@ -165,39 +166,28 @@ fn start_words(
     out[source] = property::start(p);
 }
 
-// A query that every refusal before the run lets pass, by an index of the table: start words, made in a scratch list, and the run, in the
-// lent list. Nothing waits after n rounds.
-fn query_in(
+// The run of a query from its start words, by an index of the table: they go to both lists, and the run goes on in the second. Nothing waits
+// after n rounds.
+fn run_query(
+    p: u32,
     n: usize,
-    landmarks: &[u32],
-    index: &[u32],
-    forward: &[u32],
-    backward: &[u32],
-    property: u32,
     source: usize,
+    index: &[u32],
     schedule: &[u32],
-    start: &mut [u32],
+    start: &[u32],
     starts: &mut [u32],
     settled: &mut [u32],
-) -> Answered
-    requires { ⌜ Fit n (now index) × Rowed n (now landmarks) property source (now forward) (now backward) × Scheduled n (now schedule) ⌝ }
+) -> Tally
+    requires { ⌜ Fit n (now index) × Scheduled n (now schedule) × (source < n) × (n ≤ maxVertices) ⌝ }
     requires { ⌜ (length (now start) ≡ n) × (n ≤ length (now starts)) × (n ≤ length (now settled)) ⌝ }
-    ensures { λ r. ⌜ ((ts hs ws : List ℕ) (m : ℕ) → Own n (now (index .entry)) (edges ts hs ws m) → queryFaults n (now (landmarks .entry)) (network ts hs ws (now (forward .entry)) (now (backward .entry)) m) (asking property source (now (schedule .entry))) (length (now (starts .entry))) (length (now (settled .entry))) ≡ accept → asOutcome r (now (starts .exit)) (now (settled .exit)) ≡ queryCall n (now (landmarks .entry)) (network ts hs ws (now (forward .entry)) (now (backward .entry)) m) (asking property source (now (schedule .entry))) (wordsOf (now (starts .entry)) (now (settled .entry)))) ⌝ }
+    ensures { λ _. ⌜ now (starts .exit) ≡ over (now (start .entry)) (now (starts .entry)) ⌝ }
+    ensures { λ r. ⌜ ((es : List Edge) → Own n (now (index .entry)) es → Ended (runFrom (property p) es n source (now (schedule .entry)) (now (start .entry))) r (now (settled .entry)) (now (settled .exit))) ⌝ }
 {
-    start_words(property, n, landmarks, source, forward, backward, start);
     graph::words::copy(n, start, starts, 0);
     graph::words::copy(n, start, settled, 0);
     let mut waiting = frontier::empty();
     run::start_at(n, source, &mut waiting);
-    let tally = run::run_counted(
-        property,
-        n,
-        index,
-        schedule,
-        &mut settled[..n],
-        &mut waiting,
-    );
-    Answered::Settled(tally)
+    run::run_counted(p, n, index, schedule, &mut settled[..n], &mut waiting)
 }
 
 // A query: refused, or answered by its tally, with start words and settled words in the lent lists; words past `n` stay.
@@ -249,17 +239,24 @@ pub fn query(
         &mut index,
     );
     let mut start = [0u32; graph::VERTEX_WORDS];
-    query_in(
+    start_words(
+        property,
         size,
         landmarks,
-        &index,
+        source as usize,
         forward,
         backward,
-        property,
-        source as usize,
-        schedule,
         &mut start[..size],
+    );
+    let tally = run_query(
+        property,
+        size,
+        source as usize,
+        &index,
+        schedule,
+        &start[..size],
         starts,
         settled,
-    )
+    );
+    Answered::Settled(tally)
 }

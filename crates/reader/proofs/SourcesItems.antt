@@ -2,7 +2,7 @@
 use Rattle.property.proofs.Basics.{_≡_, refl, sym, List, [], _∷_, map, Option, none, some, bind, ℕ, zero, suc, arith}
 use Rattle.dimacs.specs.Read.{after}
 use Rattle.dimacs.specs.Network.{orElse}
-use Rattle.dimacs.specs.Sources.{header, source, headerFrom, sourceFrom, itemIn}
+use Rattle.dimacs.specs.Sources.{source, headerFrom, sourceFrom, itemIn}
 use Rattle.scanner.specs.Capped.{cap, capFields}
 use Rattle.reader.specs.Capped.{capVertex, capSource, capSources}
 

@@ -1,6 +1,6 @@
 -- Rounds as the code makes them: from one waiting vertex to the next. Assumes nothing.
-use Rattle.property.proofs.Basics.{_≡_, sym, ap, _∙_, Bool, true, false, List, foldl, ℕ, zero, suc, _+_, _-_, _≤_, _<_, add-zero, zero-add, suc-add, add-one, arith, getD}
-use native.Mathlib.Decide.{decLe}
+use Rattle.property.proofs.Basics.{_≡_, sym, ap, _∙_, Bool, true, false, List, foldl, ℕ, zero, suc, _+_, _-_, _≤_, _<_, add-zero, zero-add, suc-add, add-one, arith, getD, leb, leb-true, leb-false}
+use Rattle.property.proofs.Tests.{by-test}
 use Rattle.property.specs.Property.{Property}
 use Rattle.frontier.specs.Waiting.{waitingOf, anyOf}
 use Rattle.frontier.proofs.Laws.{First}
@@ -55,13 +55,9 @@ module _ (P : Property) (es : List Edge) where
 
     -- none of those left waits
     visit-none : ((j : ℕ) → i ≤ j → j < n → waits st j ≡ false) → st ≡ z
-    visit-none f = pick (decLe i n)
-      where
-        pick : Dec (i ≤ n) → st ≡ z
-        pick (yes h) =
-            fold-done (visit P es) (range-none n n (omega arith))
-            (sym (visit-skip st i n n h (omega arith) f) ∙ left)
-        pick (no h) = fold-done (visit P es) (range-none i n (omega arith)) left
+    visit-none f = by-test (leb i n)
+        (λ q. fold-done (visit P es) (range-none n n (omega arith)) (sym (visit-skip st i n n (leb-true i n q) (omega arith) f) ∙ left))
+        (λ q. let l = leb-false i n q in fold-done (visit P es) (range-none i n (omega arith)) left)
 
 -- ---- a turn of a round, by the waiting bits
 

@@ -1,5 +1,6 @@
 -- The waiting bits of n vertices, in words of 64 bits, and what a store and a cleared bit make of a state. Assumes nothing.
-use Rattle.property.proofs.Basics.{_≡_, refl, sym, ap, _∙_, Bool, true, false, true≢false, List, foldl, ℕ, _+_, _≤_, _<_, decLt, add-one, arith, length, getD, set, take, replicate, length-set, length-take, length-replicate, List·getD-eq-default, take-set-lt, getD-take, getD-set-other, ⊎-elim}
+use Rattle.property.proofs.Basics.{_≡_, sym, ap, _∙_, Bool, true, false, true≢false, List, foldl, ℕ, _+_, _≤_, _<_, ltb, ltb-true, ltb-false, add-one, arith, length, getD, set, take, replicate, length-set, length-take, length-replicate, List·getD-eq-default, take-set-lt, getD-take, getD-set-other, ⊎-elim}
+use Rattle.property.proofs.Tests.{by-test}
 use Rattle.property.specs.Property.{Property, M}
 use Rattle.property.specs.Laws.{Laws}
 use Rattle.frontier.specs.Waiting.{waitingOf, capacity, anyOf}
@@ -43,25 +44,19 @@ bits-at n bs i h = getD-take n (waitingOf bs) i false h
 
 -- who waits is one of the n
 pub marks-within : (n : ℕ) (bs : List ℕ) (i : ℕ) → Marks n bs → getD (waitingOf bs) i false ≡ true → i < n
-marks-within n bs i f e = pick (decLt i n)
-  where
-    pick : Dec (i < n) → i < n
-    pick (yes h) = h
-    pick (no h) = absurd (true≢false (sym e ∙ f .idle i (omega arith)))
+marks-within n bs i f e = by-test (ltb i n) (λ q. ltb-true i n q) (λ q. absurd (true≢false (sym e ∙ f .idle i (ltb-false i n q))))
 
 -- past the n vertices no bit is set, so that any of the n waits where any bit is set
 pub bits-any : (n : ℕ) (bs : List ℕ) → Marks n bs → anyOf (bits n bs) ≡ anyOf (waitingOf bs)
-bits-any n bs f = pick (anyOf (waitingOf bs)) refl
+bits-any n bs f = by-test (anyOf (waitingOf bs))
+    (λ e.
+    let (v, l, w) = any-some (waitingOf bs) e in
+    some-any (bits n bs) v (bits-at n bs v (marks-within n bs v f w) ∙ w) ∙ sym e)
+    (λ e. none-any (bits n bs) (none (any-none (waitingOf bs) e)) ∙ sym e)
   where
-    none : ((k : ℕ) → getD (waitingOf bs) k false ≡ false) → (k : ℕ) → Dec (k < n) → getD (bits n bs) k false ≡ false
-    none g k (yes h) = bits-at n bs k h ∙ g k
-    none g k (no h) = List·getD-eq-default (bits n bs) false (omega (arith, length-take n (waitingOf bs)))
-
-    pick : (b : Bool) → anyOf (waitingOf bs) ≡ b → anyOf (bits n bs) ≡ anyOf (waitingOf bs)
-    pick true e =
-        let (v, l, w) = any-some (waitingOf bs) e in
-        some-any (bits n bs) v (bits-at n bs v (marks-within n bs v f w) ∙ w) ∙ sym e
-    pick false e = none-any (bits n bs) (λ k. none (any-none (waitingOf bs) e) k (decLt k n)) ∙ sym e
+    none : ((k : ℕ) → getD (waitingOf bs) k false ≡ false) → (k : ℕ) → getD (bits n bs) k false ≡ false
+    none g k = by-test (ltb k n) (λ q. bits-at n bs k (ltb-true k n q) ∙ g k)
+        (λ q. let l = ltb-false k n q in List·getD-eq-default (bits n bs) false (omega (arith, length-take n (waitingOf bs))))
 
 -- ---- what a run leaves, one step after the other
 
@@ -111,15 +106,13 @@ module _ (P : Property) (n h a : ℕ) (ws bs : List ℕ) (t : Tally) (e : Edge)
 pub relax-tail : (P : Property) → Laws P → (st : State) (e : Edge) → word P (st .words) (e .tail) ≤ M → e .head < length (st .words)
     → word P (relax P st e .words) (e .tail) ≡ word P (st .words) (e .tail)
 unfolding relax storeIf
-relax-tail P L st e m h = pick (relaxable P (st .words) e) refl
-  where
-    pick : (b : Bool) → relaxable P (st .words) e ≡ b → word P (storeIf b P st e .words) (e .tail) ≡ word P (st .words) (e .tail)
-    pick false r = refl
-    pick true r =
-        ⊎-elim
-        (λ q. absurd (true≢false (sym r ∙ ap (λ (k : ℕ). P .better (P .along (word P (st .words) (e .tail)) (e .weight)) (word P (st .words) k)) (sym (q .0)) ∙ L .along-no-better _ (e .weight) m)))
-        (λ q. q .1)
-        (at-set (st .words) (e .head) _ (e .tail) (P .none) h)
+relax-tail P L st e m h = by-test (relaxable P (st .words) e)
+    (λ r. rw r
+    (⊎-elim
+    (λ q. absurd (true≢false (sym r ∙ ap (λ (k : ℕ). P .better (P .along (word P (st .words) (e .tail)) (e .weight)) (word P (st .words) k)) (sym (q .0)) ∙ L .along-no-better _ (e .weight) m)))
+    (λ q. q .1)
+    (at-set (st .words) (e .head) _ (e .tail) (P .none) h)))
+    (λ r. rw r)
 
 -- so the tail keeps its word, as the code holds it
 pub keeps-tail : (P : Property) → Laws P → (n : ℕ) (ws bs : List ℕ) (t : Tally) {st : State} (e : Edge) → st ≡ relax P (state n ws bs t) e

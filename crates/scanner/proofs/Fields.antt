@@ -3,17 +3,12 @@ use Rattle.property.proofs.Basics.{_≡_, refl, sym, ap, _∙_, true, false, tr
 use Rattle.dimacs.specs.Decimal.{number}
 use Rattle.dimacs.specs.Read.{after, fields}
 use Rattle.dimacs.proofs.Options.{bind-bind}
-use Rattle.dimacs.proofs.Positions as at
 use Rattle.scanner.specs.declared.numbers.Parsed.{Parsed}
 use Rattle.scanner.specs.declared.numbers.Parsed.the-variants.{At, Nothing}
 use Rattle.scanner.specs.Code.{parsed}
-use Rattle.scanner.specs.Capped.{cap, capNumber, field, capFields, starts, commented}
+use Rattle.scanner.specs.Capped.{cap, capNumber, field, capFields, starts}
 
 -- ---- bytes
-
-pub starts-end : (c : ℕ) (s : List ℕ) (i : ℕ) → length s ≤ i → starts c (drop i s) ≡ false
-unfolding starts
-starts-end c s i h = rw (drop-of-length-le s h)
 
 pub starts-at : (c : ℕ) (s : List ℕ) (i : ℕ) → i < length s → starts c (drop i s) ≡ eqb (getD s i 0) c
 unfolding starts
@@ -26,12 +21,12 @@ starts-inside c [] (suc i) h = absurd (true≢false (sym h))
 starts-inside c (b ∷ s) zero h = omega arith
 starts-inside c (b ∷ s) (suc i) h = omega (arith, starts-inside c s i h)
 
-after-other : (c : ℕ) (p s : List ℕ) → starts c s ≡ false → after (c ∷ p) s ≡ none
+pub after-other : (c : ℕ) (p s : List ℕ) → starts c s ≡ false → after (c ∷ p) s ≡ none
 unfolding starts after
 after-other c p [] h = refl
 after-other c p (b ∷ s) h = rw h
 
-after-one : (c : ℕ) (p s : List ℕ) (i : ℕ) → starts c (drop i s) ≡ true → after (c ∷ p) (drop i s) ≡ after p (drop (i + 1) s)
+pub after-one : (c : ℕ) (p s : List ℕ) (i : ℕ) → starts c (drop i s) ≡ true → after (c ∷ p) (drop i s) ≡ after p (drop (i + 1) s)
 unfolding after
 after-one c p s i h =
     let l : i < length s = starts-inside c s i h in
@@ -52,16 +47,6 @@ module _ (p s : List ℕ) (i : ℕ) where
   mark-done e =
       let l : length p ≤ i = omega arith in
       rw (drop-of-length-le p l, e)
-
--- ---- a field
-
-pub field-not : (s : List ℕ) (i : ℕ) → starts 32 (drop i s) ≡ false → capNumber (field (drop i s)) ≡ none
-unfolding field bind capNumber
-field-not s i h = rw (after-other 32 [] (drop i s) h)
-
-pub field-at : (s : List ℕ) (i : ℕ) → starts 32 (drop i s) ≡ true → field (drop i s) ≡ number (drop (i + 1) s)
-unfolding field bind after
-field-at s i h = rw (after-one 32 [] s i h)
 
 -- ---- fields to the end of a line
 
@@ -101,19 +86,9 @@ module _ (k : ℕ) (s x : List ℕ) {r : Parsed} (h : parsed s r ≡ capNumber (
   fields-more {v} {e} {o} q g = ap (put v) g ∙ first (At v e) q
 
 pub fields-over : (s : List ℕ) (i : ℕ) → length s ≤ i → some [] ≡ capFields (fields 0 (drop i s))
-unfolding capFields
-fields-over s i h = sym (ap capFields (at.fields-over s i h))
+unfolding capFields fields
+fields-over s i h = rw (drop-of-length-le s h)
 
 pub fields-long : (s : List ℕ) (i : ℕ) → i < length s → none ≡ capFields (fields 0 (drop i s))
-unfolding capFields
-fields-long s i h = sym (ap capFields (at.fields-long s i h))
-
--- ---- comments
-
-pub comment-short : (s : List ℕ) → length s ≤ 1 → true ≡ commented (drop 1 s)
-unfolding commented
-comment-short s h = rw (drop-of-length-le s h)
-
-pub comment-space : (s : List ℕ) → 1 < length s → starts 32 (drop 1 s) ≡ commented (drop 1 s)
-unfolding commented starts
-comment-space s h = rw (drop-cons s 1 0 h)
+unfolding capFields fields
+fields-long s i h = rw (drop-cons s i 0 h)

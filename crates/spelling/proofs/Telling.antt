@@ -39,3 +39,7 @@ module _ {A : Type 0} (f : A → List ℕ) (xs : List ℕ) (l : replyWords ≤ l
   pub accepted-tells : (a : A) {ys : List ℕ} → ys ≡ over (f a) xs → Tells f (accepted a) 0 xs ys
   unfolding numberOf wordsTold
   accepted-tells a e = record { number = refl; reply = e }
+
+  -- the words of the answer, stored one by one
+  pub stored-tells : (a : A) → length (f a) ≤ replyWords → Tells f (accepted a) 0 xs (setAll (f a) xs 0)
+  stored-tells a h = accepted-tells a (setAll-over (f a) xs (omega arith))

@@ -1,5 +1,6 @@
 -- Numbers in base ten from the last digit to the first. Assumes nothing.
-use Rattle.property.proofs.Basics.{_≡_, refl, ap, _∙_, Bool, true, false, List, [], _∷_, _++_, ℕ, zero, suc, _+_, _/_, _%_, _≤_, _<_, arith, ltb, length, length-append, ltb-true, ltb-false}
+use Rattle.property.proofs.Basics.{_≡_, refl, ap, _∙_, List, [], _∷_, _++_, ℕ, zero, suc, _+_, _/_, _%_, _≤_, _<_, arith, ltb, length, length-append, ltb-true, ltb-false}
+use Rattle.property.proofs.Tests.{by-test}
 use Rattle.dimacs.specs.Decimal.{digits}
 use Rattle.dimacs.proofs.Digits.{digits-small, digits-big}
 use Rattle.dimacs.proofs.Widths.{width-big}
@@ -20,16 +21,14 @@ unfolding pad
 pad-in zero v h =
     let e : v % 10 ≡ v = omega arith in
     rw (digits-small v (omega arith), e)
-pad-in (suc j) v h = pick (ltb v 10) refl (pad-in j (v / 10))
-  where
-    pick : (b : Bool) → ltb v 10 ≡ b → (v / 10 ≤ j → digits (v / 10) ≡ pad (length (digits (v / 10))) (v / 10)) → digits v ≡ pad (length (digits v)) v
-    pick true e ih =
-        let l : v < 10 = ltb-true v 10 e in
+pad-in (suc j) v h = by-test (ltb v 10)
+    (λ b.
+        let l : v < 10 = ltb-true v 10 b in
         let e : v % 10 ≡ v = omega arith in
-        rw (digits-small v l, e)
-    pick false e ih =
-        let l : 10 ≤ v = ltb-false v 10 e in
-        rw (width-big v l, digits-big v l) (ap (λ (x : List ℕ). x ++ ((48 + v % 10) ∷ [])) (ih (omega arith)))
+        rw (digits-small v l, e))
+    (λ b.
+        let l : 10 ≤ v = ltb-false v 10 b in
+        rw (width-big v l, digits-big v l) (ap (λ (x : List ℕ). x ++ ((48 + v % 10) ∷ [])) (pad-in j (v / 10) (omega arith))))
 
 pub digits-pad : (v : ℕ) → digits v ≡ pad (length (digits v)) v
 digits-pad v = pad-in v v (omega arith)

@@ -70,6 +70,18 @@ module _ {text : List ℕ} {at : ℕ} {out left : List ℕ} {r : ℕ} {mid : Lis
   pub pending-last : {s : ℕ} {new : List ℕ} → Wrote left r mid s new → Wrote text at out s new
   pending-last {s} {new} w = p .ends s new w
 
+-- two pieces, one after the other
+module _ {text : List ℕ} (xs ys : List ℕ) (e : text ≡ xs ++ ys) {at : ℕ} {out : List ℕ} (f : Fits text at out) where
+  pub first-fits : Fits xs at out
+  first-fits = pending-fits (pending-start f) xs ys e
+
+  module _ {r : ℕ} {mid : List ℕ} (v : Wrote xs at out r mid) where
+    pub second-fits : Fits ys r mid
+    second-fits = pending-turn (pending-start f) xs ys e v .fits
+
+    pub both-wrote : {s : ℕ} {new : List ℕ} → Wrote ys r mid s new → Wrote text at out s new
+    both-wrote w = pending-last (pending-turn (pending-start f) xs ys e v) w
+
 -- a copy of all bytes
 pub paste-wrote : (text : List ℕ) (at : ℕ) (out : List ℕ) (i : ℕ) (new : List ℕ) → i ≡ length text → new ≡ paste out at text i → Wrote text at out (at + i) new
 unfolding laid

@@ -41,21 +41,15 @@ tables s =
     let w = s .pre .1 in
     record { few = s .pre .0 .few; old = (o .few, room-less (o .few) (o .room), o .rules); new = (w .few, room-less (w .few) (w .room), w .rules) }
 
--- the lists as they are made
-blank-free : maxVertices + 1 ≤ length (replicate {A = ℕ} 257 0)
-blank-free = let e = length-replicate {A = ℕ} 257 0 in omega arith
-
-blank-index : maxVertices + 1 + maxEdges ≤ length (replicate {A = ℕ} 2305 0)
-blank-index = let e = length-replicate {A = ℕ} 2305 0 in omega arith
-
--- either may be indexed
-indexable : (s : tie.Start) (fs is : List ℕ) → maxVertices + 1 ≤ length fs → maxVertices + 1 + maxEdges ≤ length is
-    → let a = s .args in Indexable (a .n) (a .count) (a .tails .now) (a .heads .now) (a .weights .now) fs is × Indexable (a .n) (a .count2) (a .tails2 .now) (a .heads2 .now) (a .weights2 .now) fs is
-indexable s fs is x y =
+-- either may be indexed, in a list as it is made
+indexable : (s : tie.Start) (fs : List ℕ) → maxVertices + 1 ≤ length fs
+    → let a = s .args in let is = replicate {A = ℕ} 2305 0 in Indexable (a .n) (a .count) (a .tails .now) (a .heads .now) (a .weights .now) fs is × Indexable (a .n) (a .count2) (a .tails2 .now) (a .heads2 .now) (a .weights2 .now) fs is
+indexable s fs x =
     let t = tables s in
     let few = t .few in
     let p = t .old .0 in
-    let q = t .new .0 in (
+    let q = t .new .0 in
+    let e = length-replicate {A = ℕ} 2305 0 in (
       record { few = few; records = p; room = t .old .1; rules = t .old .2; firsts = omega arith; list = omega arith },
       record { few = few; records = q; room = t .new .1; rules = t .new .2; firsts = omega arith; list = omega arith },
     )
@@ -64,25 +58,25 @@ differences-requires : tie.Need-differences-requires
 differences-requires c κs = let s = c .before .before .before .before .before .before .before .before .before .before .before .before .before in let t = tables s in ((s .args .n, t), omega (arith, t .old .0, t .new .0))
 
 index-requires : tie.Need-index-requires
-index-requires c κs = indexable (start (c .before .before .before .before .before .before)) (replicate 257 0) (replicate 2305 0) blank-free blank-index .0
+index-requires c κs = indexable (start (c .before .before .before .before .before .before)) (replicate 257 0) (omega (arith, length-replicate {A = ℕ} 257 0)) .0
 
 index-reversed-requires : tie.Need-index-reversed-requires
 index-reversed-requires c κs =
     let i = c .before .before .before .before .before .before .before in
-    indexable (start (listed i)) (i .index .last .1 .1 .1 .1 .1 .0) (replicate 2305 0) (omega (arith, i .index .kept .1 .1 .1 .1 .1 .0)) blank-index .0
+    indexable (start (listed i)) (i .index .last .1 .1 .1 .1 .1 .0) (omega (arith, i .index .kept .1 .1 .1 .1 .1 .0)) .0
 
 index-requires-2 : tie.Need-index-requires-2
 index-requires-2 c κs =
     let r = c .before .before .before .before in
     let i = indexed r in
-    indexable (start (listed i)) (r .index-reversed .last .1 .1 .1 .1 .1 .0) (replicate 2305 0) (omega (arith, r .index-reversed .kept .1 .1 .1 .1 .1 .0, i .index .kept .1 .1 .1 .1 .1 .0)) blank-index .1
+    indexable (start (listed i)) (r .index-reversed .last .1 .1 .1 .1 .1 .0) (omega (arith, r .index-reversed .kept .1 .1 .1 .1 .1 .0, i .index .kept .1 .1 .1 .1 .1 .0)) .1
 
 index-reversed-requires-2 : tie.Need-index-reversed-requires-2
 index-reversed-requires-2 c κs =
     let j = c .before .before .before .before in
     let r = reversed j in
     let i = indexed r in
-    indexable (start (listed i)) (j .index2 .last .1 .1 .1 .1 .1 .0) (replicate 2305 0) (omega (arith, j .index2 .kept .1 .1 .1 .1 .1 .0, r .index-reversed .kept .1 .1 .1 .1 .1 .0, i .index .kept .1 .1 .1 .1 .1 .0)) blank-index .1
+    indexable (start (listed i)) (j .index2 .last .1 .1 .1 .1 .1 .0) (omega (arith, j .index2 .kept .1 .1 .1 .1 .1 .0, r .index-reversed .kept .1 .1 .1 .1 .1 .0, i .index .kept .1 .1 .1 .1 .1 .0)) .1
 
 -- the changes lie in their list
 array-borrow-prefix-net : tie.Need-array-borrow-prefix-net

@@ -1,5 +1,5 @@
 -- `compare::differences` meets its contract. Assumes nothing.
-use Rattle.property.proofs.Basics.{needs, arith, _≡_, refl, sym, _∙_, _⊎_, inl, inr, ⊎-elim, ℕ, _+_, _-_, _*_, _<_, _≤_, length, ltb-true, ltb-false}
+use Rattle.property.proofs.Basics.{needs, arith, _≡_, refl, _⊎_, inl, inr, ⊎-elim, ℕ, _+_, _-_, _*_, _<_, _≤_, length, ltb-true, ltb-false}
 use Rattle.compare.specs.Code.{Tables}
 use Rattle.compare.proofs.Walking.{Walk, walk-start, walk-turn, walk-inside, walk-done, old-on, new-on, other-on, tail-low, head-low, old-low, new-low, step-on}
 use Rattle.compare.proofs.differences.Statement.{statement}

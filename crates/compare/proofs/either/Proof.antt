@@ -1,5 +1,5 @@
 -- `compare::either` meets its contract. Assumes nothing.
-use Rattle.property.proofs.Basics.{needs, arith, sym, ap, cond, getD}
+use Rattle.property.proofs.Basics.{arith, sym, ap, cond, getD}
 use Rattle.compare.proofs.either.Statement.{statement}
 use Rattle.compare.proofs.either.Tie as tie
 

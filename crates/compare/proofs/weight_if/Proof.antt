@@ -1,5 +1,5 @@
 -- `compare::weight_if` meets its contract. Assumes nothing.
-use Rattle.property.proofs.Basics.{needs, arith, sym, ap, cond, getD}
+use Rattle.property.proofs.Basics.{arith, sym, ap, cond, getD}
 use Rattle.compare.proofs.weight_if.Statement.{statement}
 use Rattle.compare.proofs.weight_if.Tie as tie
 

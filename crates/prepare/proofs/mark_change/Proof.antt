@@ -14,17 +14,14 @@ mark-head-requires c κs =
     (omega (arith, x, c .before .before .before .before .before .before .before .before .head .ensures), omega (arith, y, c .before .before .before .before .head2 .ensures), s .pre .2, s .pre .3)
 
 -- whether the pair had an edge
-had : (c : tie.After-is-removed) → c .is-removed .result ≡ ltb 0 (before (c .before .before .before .before .before .before .before .before .before .args .net .now) (c .before .before .before .before .before .before .before .before .before .args .k) .weight)
-had c = c .is-removed .ensures ∙ ap (ltb 0) (c .before .before .before .weight .ensures)
+had : (c : tie.After-has-edge) → c .has-edge .result ≡ ltb 0 (before (c .before .before .before .before .before .before .before .before .before .args .net .now) (c .before .before .before .before .before .before .before .before .before .args .k) .weight)
+had c = c .has-edge .ensures ∙ ap (ltb 0) (c .before .before .before .weight .ensures)
 
 returns : tie.Need-returns
 returns c =
     let z = sym (had (c .before .before .before .before)) ∙ c .before .before .before .if1 .taken in
     let e = c .mark-head .ensures in
     (rw z (rw (c .before .before .before .before .before .before .before .before .before .head .ensures, c .before .before .before .before .before .head2 .ensures, c .before .before .before .before .before .before .before .weight .ensures) at (e .0)), rw z (rw (c .before .before .before .before .before .before .before .before .before .head .ensures, c .before .before .before .before .before .head2 .ensures, c .before .before .before .before .before .before .before .weight .ensures) at (e .1)))
-
-returns-2 : tie.Need-returns-2
-returns-2 c = let z = sym (had (c .before)) ∙ c .if1 .left in (rw z, rw z)
 
 pub mark-change-spec : {M : Type 1} → statement M
 mark-change-spec =
@@ -44,4 +41,4 @@ mark-change-spec =
     (λ c κs. search needs)
     mark-head-requires
     returns
-    returns-2)
+    (λ c. let z = sym (had (c .before)) ∙ c .if1 .left in (rw z, rw z)))

@@ -5,18 +5,6 @@ use Rattle.property.proofs.Basics.{needs}
 use Rattle.prepare.proofs.spread.Statement.{statement}
 use Rattle.prepare.proofs.spread.Tie as tie
 
-returns : tie.Need-returns
-returns c = rw (c .before .before .before .match .keys1) (c .spread-of .ensures)
-
-returns-2 : tie.Need-returns-2
-returns-2 c = rw (c .before .before .before .match .keys2) (c .spread-of2 .ensures)
-
-returns-3 : tie.Need-returns-3
-returns-3 c = rw (c .before .before .before .match .keys3) (c .spread-of3 .ensures)
-
-returns-4 : tie.Need-returns-4
-returns-4 c = rw (c .before .before .before .match .keys4) (c .spread-of4 .ensures)
-
 returns-5 : tie.Need-returns-5
 unfolding property
 returns-5 c = rw (property-rest _ (c .before .before .before .match .rest)) (c .spread-of5 .ensures)
@@ -30,8 +18,8 @@ spread-spec =
     (λ c κs. search needs)
     (λ c κs. search needs)
     (λ c κs. search needs)
-    returns
-    returns-2
-    returns-3
-    returns-4
+    (λ c. rw (c .before .before .before .match .keys1) (c .spread-of .ensures))
+    (λ c. rw (c .before .before .before .match .keys2) (c .spread-of2 .ensures))
+    (λ c. rw (c .before .before .before .match .keys3) (c .spread-of3 .ensures))
+    (λ c. rw (c .before .before .before .match .keys4) (c .spread-of4 .ensures))
     returns-5)

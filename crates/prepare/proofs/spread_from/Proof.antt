@@ -14,12 +14,6 @@ Inv-loop p n s u old words marks₀ todo₀ hi j₀ marks todo j =
 abbrev μ-loop : tie.MeasureT-loop
 μ-loop p n s u old words marks₀ todo₀ hi j₀ marks todo j = hi - j
 
-cast-hi : tie.Need-cast-hi Inv-loop μ-loop
-cast-hi c = omega (arith, c .shared-slice-known3 .given (c .before .before .before .args .u + 1))
-
-cast-j : tie.Need-cast-j Inv-loop μ-loop
-cast-j c = omega (arith, c .shared-slice-known4 .given (c .before .before .before .before .args .u))
-
 loop-holds : tie.Need-loop-holds Inv-loop μ-loop
 loop-holds c =
     let s = c .before .before .before .before in
@@ -61,10 +55,10 @@ spread-from-spec =
     (λ c. search needs)
     (λ c. search needs)
     (λ c. search needs)
-    cast-hi
+    (λ c. omega (arith, c .shared-slice-known3 .given (c .before .before .before .args .u + 1)))
     (λ c. search needs)
     (λ c. search needs)
-    cast-j
+    (λ c. omega (arith, c .shared-slice-known4 .given (c .before .before .before .before .args .u)))
     loop-holds
     (λ c. search needs)
     (λ c. search needs)

@@ -3,11 +3,11 @@
 use Rattle.property.proofs.Basics.{sym, _∙_, List, _+_, _-_, _*_, _<_, arith, needs}
 use Rattle.property.specs.Property.{property}
 use Rattle.frontier.specs.Waiting.{waitingOf, capacity, countOf}
-use Rattle.frontier.proofs.Laws.{First, next-first, next-none}
+use Rattle.frontier.proofs.Laws.{First, next-none}
 use Rattle.graph.specs.Edge.{Edge}
 use Rattle.graph.specs.Index.{Own}
-use Rattle.run.proofs.States.{marks-within}
 use Rattle.prepare.specs.Code.{Going, Spreads}
+use Rattle.prepare.proofs.Bits.{marks-next}
 use Rattle.prepare.proofs.Spreading.{spreads-none, spreads-turn, spreads-then, spread-falls, taken-going}
 use Rattle.prepare.proofs.spread_of.Statement.{statement}
 use Rattle.prepare.proofs.spread_of.Tie as tie
@@ -18,16 +18,9 @@ Inv-loop p n s old words marks₀ todo₀ marks todo = ((es : List Edge) → Own
 abbrev μ-loop : tie.MeasureT-loop
 μ-loop p n s old words marks₀ todo₀ marks todo = 2 * (capacity - countOf (waitingOf marks)) + countOf (waitingOf todo)
 
--- what was found
-found : (c : tie.After-next Inv-loop μ-loop) → First (waitingOf (c .before .before .before .before .loop .todo)) 0 (c .next .given .0 .0)
-found c = next-first _ _ _ (sym (c .before .before .next-from .ensures .0) ∙ c .next .given .1)
-
--- it is one of the vertices
-found-within : (c : tie.After-next Inv-loop μ-loop) → c .next .given .0 .0 < c .before .before .before .before .before .before .before .args .n
-found-within c = marks-within _ (c .before .before .before .before .loop .todo) _ (c .before .before .before .before .loop .inv .1 .todo) (found c .waits)
-
-loop-holds : tie.Need-loop-holds Inv-loop μ-loop
-loop-holds c = ((λ es o. spreads-none), c .before .before .pre .2)
+-- what was found is one of the vertices
+found : (c : tie.After-next Inv-loop μ-loop) → let l = c .before .before .before .before in let v = c .next .given .0 .0 in First (waitingOf (l .loop .todo)) 0 v × (v < l .before .before .before .args .n)
+found c = marks-next (c .before .before .before .before .loop .inv .1 .todo) (sym (c .before .before .next-from .ensures .0) ∙ c .next .given .1)
 
 returns : tie.Need-returns Inv-loop μ-loop
 returns c =
@@ -35,16 +28,13 @@ returns c =
     let l = f .before .before in
     (l .loop .inv .0, (l .loop .inv .1, λ t. next-none (waitingOf (l .loop .todo)) 0 (sym (f .next-from .ensures .0) ∙ c .enum-told .given .1) t (omega arith)))
 
-remove-requires : tie.Need-remove-requires Inv-loop μ-loop
-remove-requires c κs = let z = found-within (c .before .before) in search needs
-
 spread-from-requires : tie.Need-spread-from-requires Inv-loop μ-loop
 spread-from-requires c κs =
     let r = c .before .before in
     let k = r .before .before .before in
     let l = k .before .before .before .before in
     let s = l .before .before .before in
-    let h = found-within k in
+    let h = found k .1 in
     ((h, s .pre .0, s .pre .1), taken-going _ (l .loop .inv .1) _ h (r .remove .ensures))
 
 loop-less : tie.Need-loop-less Inv-loop μ-loop
@@ -52,7 +42,7 @@ loop-less c =
     let r = c .before .before .before in
     let k = r .before .before .before in
     let l = k .before .before .before .before in
-    spread-falls _ (l .loop .inv .1) (found k .waits) _ _ _ (r .remove .ensures) (c .spread-from .ensures .going .marks) (c .spread-from .ensures .grown)
+    spread-falls _ (l .loop .inv .1) (found k .0 .waits) _ _ _ (r .remove .ensures) (c .spread-from .ensures .going .marks) (c .spread-from .ensures .grown)
 
 loop-again : tie.Need-loop-again Inv-loop μ-loop
 loop-again c =
@@ -60,8 +50,8 @@ loop-again c =
     let k = r .before .before .before in
     let l = k .before .before .before .before in
     let a = l .before .before .before .args in
-    let h = found-within k in
-    ((λ es o. spreads-then (l .loop .inv .0 es o) (spreads-turn _ (l .loop .inv .1) (a .old .now) _ (found k .waits) (r .remove .ensures) _ _ h (c .spread-from .ensures) es o)), c .spread-from .ensures .going)
+    let h = found k .1 in
+    ((λ es o. spreads-then (l .loop .inv .0 es o) (spreads-turn _ (l .loop .inv .1) (a .old .now) _ (found k .0 .waits) (r .remove .ensures) _ _ h (c .spread-from .ensures) es o)), c .spread-from .ensures .going)
 
 pub spread-of-spec : {M : Type 1} → statement M
 spread-of-spec =
@@ -69,12 +59,12 @@ spread-of-spec =
     (tie.spec
     Inv-loop
     μ-loop
-    loop-holds
+    (λ c. ((λ es o. spreads-none), c .before .before .pre .2))
     (λ c κs. search needs)
     (λ c. search needs)
     (λ c. search needs)
     returns
-    remove-requires
+    (λ c κs. let z = found (c .before .before) .1 in search needs)
     spread-from-requires
     loop-less
     loop-again)

@@ -10,18 +10,12 @@ insert-requires c κs =
     let x = s .pre .1 (2 * s .args .k) (let l = s .pre .0 in omega arith) in
     omega (arith, x, c .before .before .before .before .before .head .ensures)
 
-cast-t : tie.Need-cast-t
-cast-t c = omega (arith, c .head .ensures)
-
 -- whether the pair has an edge
-has : (c : tie.After-is-added) → c .is-added .result ≡ ltb 0 (after (c .before .before .before .before .before .before .args .net .now) (c .before .before .before .before .before .before .args .k) .weight)
-has c = c .is-added .ensures ∙ ap (ltb 0) (c .before .weight .ensures)
+has : (c : tie.After-has-edge) → c .has-edge .result ≡ ltb 0 (after (c .before .before .before .before .before .before .args .net .now) (c .before .before .before .before .before .before .args .k) .weight)
+has c = c .has-edge .ensures ∙ ap (ltb 0) (c .before .weight .ensures)
 
 returns : tie.Need-returns
 returns c = let z = sym (has (c .before .before .before)) ∙ c .before .before .if1 .taken in rw z (rw (c .before .before .before .before .before .before .head .ensures) at (c .insert .ensures))
-
-returns-2 : tie.Need-returns-2
-returns-2 c = let z = sym (has (c .before)) ∙ c .if1 .left in rw z
 
 pub wake-change-spec : {M : Type 1} → statement M
 wake-change-spec =
@@ -31,7 +25,7 @@ wake-change-spec =
     (λ c. search needs)
     (λ c. search needs)
     (λ c κs. search needs)
-    cast-t
+    (λ c. omega (arith, c .head .ensures))
     (λ c. search needs)
     (λ c. search needs)
     (λ c. search needs)
@@ -39,4 +33,4 @@ wake-change-spec =
     (λ c κs. search needs)
     insert-requires
     returns
-    returns-2)
+    (λ c. let z = sym (has (c .before)) ∙ c .if1 .left in rw z))

@@ -5,7 +5,7 @@ use Rattle.graph.specs.Arc.{arcHead}
 use Rattle.run.specs.Code.{Marks}
 use Rattle.run.proofs.States.{marks-set}
 use Rattle.prepare.specs.Code.{Raised, Entering}
-use Rattle.prepare.proofs.Starts.{raised-none, raised-part}
+use Rattle.prepare.proofs.Starts.{raised-none, raised-turn}
 use Rattle.prepare.proofs.wake_into.Statement.{statement}
 use Rattle.prepare.proofs.wake_into.Tie as tie
 
@@ -14,12 +14,6 @@ Inv-loop n v into waiting₀ hi j₀ waiting j = Raised (waitingOf waiting₀) (
 
 abbrev μ-loop : tie.MeasureT-loop
 μ-loop n v into waiting₀ hi j₀ waiting j = hi - j
-
-cast-hi : tie.Need-cast-hi Inv-loop μ-loop
-cast-hi c = omega (arith, c .shared-slice-known2 .given (c .before .before .args .v + 1))
-
-cast-j : tie.Need-cast-j Inv-loop μ-loop
-cast-j c = omega (arith, c .shared-slice-known3 .given (c .before .before .before .args .v))
 
 -- the head at hand is a vertex
 inside : (t : tie.In-loop Inv-loop μ-loop) → let s = t .before .before .before .before .before in arcHead (getD (s .args .into .now) (t .before .loop .j) 0) < s .args .n
@@ -32,9 +26,6 @@ loop-holds c =
     let w = f .within (s .args .v) (s .pre .0) in
     (raised-none _ _ (λ t q. let a = q .1 in let b = q .2 in omega arith), s .pre .2, omega arith, w, f .rising (s .args .v) (s .pre .0), f .after (s .args .v) (omega (arith, s .pre .0)), omega (arith, w, f .last))
 
-cast-insert : tie.Need-cast-insert Inv-loop μ-loop
-cast-insert c = omega (arith, c .head .ensures)
-
 insert-requires : tie.Need-insert-requires Inv-loop μ-loop
 insert-requires c κs = let z = inside (c .before .before .before) in let y = c .before .before .before .before .loop .inv .1 .few in omega (arith, c .head .ensures)
 
@@ -44,7 +35,7 @@ loop-again c =
     let l = t .before in
     let v = l .loop .inv in
     let e = rw (c .before .head .ensures) at (c .insert .ensures) in
-    (raised-part _ (waitingOf (l .loop .waiting)) _ (l .before .before .before .before .args .into .now) _ _ (v .0) (omega (arith, inside t, v .1 .few, v .1 .bits)) e (v .2), marks-set _ _ _ _ _ (inside t) e (v .1), omega arith, v .3, omega arith, v .5, v .6)
+    (raised-turn (v .0) (omega (arith, inside t, v .1 .few, v .1 .bits)) (v .2) _ e, marks-set _ _ _ _ _ (inside t) e (v .1), omega arith, v .3, omega arith, v .5, v .6)
 
 returns : tie.Need-returns Inv-loop μ-loop
 returns c =
@@ -62,15 +53,15 @@ wake-into-spec =
     (λ c. search needs)
     (λ c. search needs)
     (λ c. search needs)
-    cast-hi
+    (λ c. omega (arith, c .shared-slice-known2 .given (c .before .before .args .v + 1)))
     (λ c. search needs)
     (λ c. search needs)
-    cast-j
+    (λ c. omega (arith, c .shared-slice-known3 .given (c .before .before .before .args .v)))
     loop-holds
     (λ c. search needs)
     (λ c. search needs)
     (λ c κs. search needs)
-    cast-insert
+    (λ c. omega (arith, c .head .ensures))
     insert-requires
     (λ c. search needs)
     (λ c. search needs)

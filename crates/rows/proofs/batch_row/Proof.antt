@@ -7,14 +7,11 @@ use Rattle.rows.proofs.batch_row.Tie as tie
 abbrev start : tie.After-waiting → tie.Start
 start w = w .before .before .before .before .before .before .before .before .before .before .before .before
 
-prepare-requires : tie.Need-prepare-requires
-prepare-requires c κs = let s = start c in let l = s .pre .3 in (l .inside, l .old, l .into, s .pre .2)
-
 run-unscheduled-requires : tie.Need-run-unscheduled-requires
 run-unscheduled-requires c κs =
     let p = c .before .before .before .before in
     let s = start (p .before) in
-    (s .pre .3 .new, record { words = p .prepare .kept .1 .1 .1 .1 .1 .1 .0 ∙ s .pre .2; waiting = p .prepare .ensures .1 .1 .0 })
+    (s .pre .3 .new, record { words = p .prepare .kept .1 .1 .1 .1 .1 .1 .0 ∙ s .pre .2; waiting = p .prepare .ensures .1 .0 })
 
 returns : tie.Need-returns
 returns c =
@@ -23,10 +20,10 @@ returns c =
     let s = start (p .before) in
     let i = p .before .before .before .before .before in
     let w = q .run-unscheduled .ensures .1 .stores in (
-      record { few = p .prepare .ensures .1 .1 .1; low = omega arith },
+      record { few = p .prepare .ensures .1 .1; low = omega arith },
       (λ es fs d.
-          row-done (s .args .n) (s .args .r) (s .args .landmarks .now) es fs _ _ _ _ _ (q .run-unscheduled .result) (i .before .row-property .ensures) (i .row-landmark .ensures) (p .prepare .ensures .0 es fs (d .batch)) (q .run-unscheduled .ensures .0 fs (d .new))
-          _ (p .prepare .ensures .1 .0 es fs (d .batch)) refl),
+          row-done (s .args .n) (s .args .r) (s .args .landmarks .now) es fs _ _ _ _ _ (q .run-unscheduled .result) (i .before .row-property .ensures) (i .row-landmark .ensures) (p .prepare .ensures .0 es fs (d .batch) .0) (q .run-unscheduled .ensures .0 fs (d .new))
+          _ (p .prepare .ensures .0 es fs (d .batch) .1) refl),
     )
 
 pub batch-row-spec : {M : Type 1} → statement M
@@ -38,7 +35,7 @@ batch-row-spec =
     (λ c κs. search needs)
     (λ c. search needs)
     (λ c. search needs)
-    prepare-requires
+    (λ c κs. let s = start c in let l = s .pre .3 in (l .inside, l .old, l .into, s .pre .2))
     run-unscheduled-requires
     (λ c. search needs)
     returns)

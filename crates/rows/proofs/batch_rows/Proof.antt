@@ -26,9 +26,6 @@ lies c =
     let l = c .before .loop in
     row-ends (l .r) (rowCount (s .args .landmarks .now)) (s .args .n) (length (l .rows)) (c .loop-test .taken) (omega (arith, s .pre .1, l .inv .0 .size))
 
-loop-holds : tie.Need-loop-holds Inv-loop μ-loop
-loop-holds c = (counting-start _ _, (λ es fs d. rows-start _ _ es fs _ _))
-
 batch-row-requires : tie.Need-batch-row-requires Inv-loop μ-loop
 batch-row-requires c κs =
     let i = c .before in
@@ -52,9 +49,6 @@ add-r : tie.Need-add-r Inv-loop μ-loop
 add-r c =
     let l = c .before .before .before .before .before .before .before in
     omega (arith, l .loop .inv .0 .within, start l .pre .0 .few)
-
-loop-less : tie.Need-loop-less Inv-loop μ-loop
-loop-less c = let i = c .before .before .before .before .before .before in omega (arith, i .loop-test .taken)
 
 loop-again : tie.Need-loop-again Inv-loop μ-loop
 loop-again c =
@@ -86,7 +80,7 @@ batch-rows-spec =
     Inv-loop
     μ-loop
     (λ c. search needs)
-    loop-holds
+    (λ c. (counting-start _ _, (λ es fs d. rows-start _ _ es fs _ _)))
     (λ c. let z = lies c in let g = start (c .before) .good in omega arith)
     (λ c. let z = lies c in let g = start (c .before) .good in omega arith)
     (λ c. let z = lies c in let g = start (c .before) .good in omega arith)
@@ -97,7 +91,7 @@ batch-rows-spec =
     add-affected
     add-stores
     add-r
-    loop-less
+    (λ c. let i = c .before .before .before .before .before .before in omega (arith, i .loop-test .taken))
     loop-again
     (λ c. c .before .loop .inv .0 .size)
     returns)

@@ -3,7 +3,6 @@
 use Rattle.property.proofs.Basics.{_≡_, refl, sym, ap, _∙_, false, foldl, ℕ, _+_, _-_, _≤_, _<_, arith, needs, getD, length}
 use Rattle.property.specs.Property.{property, M}
 use Rattle.property.proofs.Instances.{property-laws}
-use Rattle.graph.specs.Limits.{maxEdges}
 use Rattle.graph.specs.Arc.{arcHead, arcWeight}
 use Rattle.graph.specs.Edge.{edge}
 use Rattle.graph.specs.Index.{part}
@@ -24,12 +23,6 @@ Inv-loop p n u index words₀ waiting₀ v hi j₀ t₀ words waiting j t =
 abbrev μ-loop : tie.MeasureT-loop
 μ-loop p n u index words₀ waiting₀ v hi j₀ t₀ words waiting j t = hi - j
 
-cast-hi : tie.Need-cast-hi Inv-loop μ-loop
-cast-hi c = omega (arith, c .shared-slice-known2 .given (c .before .before .before .before .args .u + 1))
-
-cast-j : tie.Need-cast-j Inv-loop μ-loop
-cast-j c = omega (arith, c .shared-slice-known3 .given (c .before .before .before .before .before .args .u))
-
 loop-holds : tie.Need-loop-holds Inv-loop μ-loop
 loop-holds c =
     let s = c .before .before .before .before .before .before .before in
@@ -46,9 +39,6 @@ loop-holds c =
       refl,
       f .within (a .u) (s .pre .0),
     )
-
-cast-h : tie.Need-cast-h Inv-loop μ-loop
-cast-h c = omega (arith, c .head .ensures)
 
 relax-requires : tie.Need-relax-requires Inv-loop μ-loop
 relax-requires c κs =
@@ -117,16 +107,16 @@ handle-spec =
     (λ c. search needs)
     (λ c. search needs)
     (λ c. search needs)
-    cast-hi
+    (λ c. omega (arith, c .shared-slice-known2 .given (c .before .before .before .before .args .u + 1)))
     (λ c. search needs)
     (λ c. search needs)
-    cast-j
+    (λ c. omega (arith, c .shared-slice-known3 .given (c .before .before .before .before .before .args .u)))
     (λ c κs. search needs)
     loop-holds
     (λ c. search needs)
     (λ c. search needs)
     (λ c κs. search needs)
-    cast-h
+    (λ c. omega (arith, c .head .ensures))
     (λ c κs. search needs)
     (λ c κs. search needs)
     relax-requires

@@ -28,9 +28,6 @@ loop-holds c =
     let s = c .before .before .before in
     ((λ es o. refl), omega arith, ran-none (s .pre .0 .sized) (s .args .tally) 0 0 0)
 
-cast-u : tie.Need-cast-u Inv-loop μ-loop
-cast-u c = omega (arith, c .shared-slice-known3 .given (c .before .before .loop .entry))
-
 take-requires : tie.Need-take-requires Inv-loop μ-loop
 take-requires c κs =
     let l = c .before .before .before .before in
@@ -74,7 +71,7 @@ pass-spec =
     loop-holds
     (λ c. search needs)
     (λ c. search needs)
-    cast-u
+    (λ c. omega (arith, c .shared-slice-known3 .given (c .before .before .loop .entry)))
     take-requires
     (λ c. search needs)
     (λ c. search needs)

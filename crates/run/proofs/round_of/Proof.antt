@@ -61,12 +61,6 @@ handle-requires c κs =
       record { index = s .pre .index; sized = r .sized; low = record { taken = omega arith; rounds = omega arith; stores = omega arith } },
     )
 
-add-i : tie.Need-add-i Inv-loop μ-loop
-add-i c = omega (arith, found-within (c .before .before .before .before .before .before))
-
-loop-less : tie.Need-loop-less Inv-loop μ-loop
-loop-less c = omega (arith, found (c .before .before .before .before .before .before) .from)
-
 loop-again : tie.Need-loop-again Inv-loop μ-loop
 loop-again c =
     let r = c .before .before in
@@ -109,8 +103,8 @@ round-of-spec =
     (λ c. search needs)
     returns
     handle-requires
-    add-i
-    loop-less
+    (λ c. omega (arith, found-within (c .before .before .before .before .before .before)))
+    (λ c. omega (arith, found (c .before .before .before .before .before .before) .from))
     loop-again
     (λ c. search needs)
     returns-2)

@@ -25,12 +25,6 @@ step c =
     count-word (c .before .before .before .args .ws .now) (c .before .before .loop .k) (c .before .loop-test .taken)
     (c .shared-slice-known .given (c .before .before .loop .k) .fits)
 
-cast-n : tie.Need-cast-n Inv-loop μ-loop
-cast-n c = omega (arith, step c, count-words-le (c .before .before .before .args .ws .now))
-
-add-n : tie.Need-add-n Inv-loop μ-loop
-add-n c = omega (arith, step c, count-words-le (c .before .before .before .args .ws .now))
-
 loop-again : tie.Need-loop-again Inv-loop μ-loop
 loop-again c = omega (arith, step c)
 
@@ -46,8 +40,8 @@ count-spec =
     loop-holds
     (λ c. search needs)
     (λ c. search needs)
-    cast-n
-    add-n
+    (λ c. omega (arith, step c, count-words-le (c .before .before .before .args .ws .now)))
+    (λ c. omega (arith, step c, count-words-le (c .before .before .before .args .ws .now)))
     (λ c. search needs)
     (λ c. search needs)
     loop-again

@@ -1,5 +1,5 @@
 -- `frontier::slices::next_from` meets its contract. Assumes nothing.
-use Rattle.property.proofs.Basics.{_≡_, sym, ap, _∙_, List, ℕ, _+_, _-_, _*_, _/_, _%_, _^_, _<_, div-add-mod', lt-of-le-of-lt, arith, needs, length, getD}
+use Rattle.property.proofs.Basics.{_≡_, sym, ap, _∙_, List, ℕ, _-_, _*_, _/_, _%_, _^_, _<_, div-add-mod', lt-of-le-of-lt, arith, needs, length, getD}
 use lib.Bits.{bitAnd, and-le-l}
 use Rattle.frontier.specs.Waiting.{waitingOf, nextFrom}
 use Rattle.frontier.proofs.Word.{high-mask}

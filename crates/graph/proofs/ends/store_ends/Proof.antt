@@ -1,5 +1,5 @@
 -- `graph::ends::store_ends` meets its contract. Assumes nothing.
-use Rattle.property.proofs.Basics.{needs, arith, _≡_, refl, ℕ, _+_, _-_, _<_, _≤_, length, getD, length-set}
+use Rattle.property.proofs.Basics.{needs, arith, _≡_, refl, _+_, _-_, _<_, _≤_, length, getD, length-set}
 use Rattle.graph.specs.Parted.{Ends}
 use Rattle.graph.proofs.Parted.{ends-none, ends-turn, ends-done}
 use Rattle.graph.proofs.ends.store_ends.Statement.{statement}
@@ -17,18 +17,6 @@ near c = c .before .before .pre .1 .0 (c .before .loop .k) (c .loop-test .taken)
 
 loop-holds : tie.Need-loop-holds Inv-loop μ-loop
 loop-holds c = (ends-none (c .args .keys .now) (c .args .ends .now) (c .pre .1 .1), omega arith, refl)
-
-cast-u : tie.Need-cast-u Inv-loop μ-loop
-cast-u c = let x = near (c .before) in omega arith
-
-add-u : tie.Need-add-u Inv-loop μ-loop
-add-u c = let x = near (c .before) in omega arith
-
-mul-ends : tie.Need-mul-ends Inv-loop μ-loop
-mul-ends c = let x = near (c .before) in omega arith
-
-slice-write-ends : tie.Need-slice-write-ends Inv-loop μ-loop
-slice-write-ends c = let x = near (c .before) in omega arith
 
 loop-again : tie.Need-loop-again Inv-loop μ-loop
 loop-again c =
@@ -52,12 +40,12 @@ store-ends-spec =
     loop-holds
     (λ c. search needs)
     (λ c. search needs)
-    cast-u
-    add-u
+    (λ c. let x = near (c .before) in omega arith)
+    (λ c. let x = near (c .before) in omega arith)
     (λ c. search needs)
     (λ c. search needs)
-    mul-ends
-    slice-write-ends
+    (λ c. let x = near (c .before) in omega arith)
+    (λ c. let x = near (c .before) in omega arith)
     (λ c. search needs)
     loop-again
     (λ c. search needs)

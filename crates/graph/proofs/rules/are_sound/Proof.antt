@@ -2,9 +2,9 @@
 --
 -- The bound of a tail is that of the tails before it, for tails never fall. So the invariant speaks of the tail of the last record that was gone
 -- past: if it is a vertex, what is left to judge gives the verdict on all. After the last record it is tested.
-use Rattle.property.proofs.Basics.{needs, arith, _≡_, sym, _∙_, true, ℕ, _+_, _-_, _≤_, _<_, drop, getD, lt-ltb, ltb-true}
+use Rattle.property.proofs.Basics.{needs, arith, _≡_, sym, _∙_, true, _+_, _-_, _≤_, _<_, drop, getD, not, _&&_, eqb, ltb, lt-ltb, ltb-true}
 use Rattle.graph.specs.Edge.{edges, precedes}
-use Rattle.graph.specs.Table.{follow, rules}
+use Rattle.graph.specs.Table.{isWeight, follow, rules}
 use Rattle.graph.specs.Code.{edgeAt}
 use Rattle.graph.proofs.Tests.{both, and-true}
 use Rattle.graph.proofs.Order.{precedes-tail}
@@ -36,10 +36,10 @@ loop-again c =
     let x : k + 1 - 1 ≡ k = omega arith in (
       (λ t i.
           let z = both (l .loop .all) _ t in
-          let y = both (precedes e f) _ (sym (c .is-next .ensures) ∙ z .1) in
+          let y = both (ltb (f .head) (a .n) && (not (eqb (f .tail) (f .head)) && isWeight (f .weight))) (precedes e f) (sym (c .is-next .ensures) ∙ z .1) in
           let j : f .tail < a .n = rw x at i in
-          let p = precedes-tail e f (y .0) in
-          follow-more _ _ _ _ (start l .pre .1) (a .n) k (l .loop .inv .0 (z .0) (omega arith)) (omega arith) (and-true (y .0) (and-true (lt-ltb _ _ j) (y .1)))),
+          let p = precedes-tail e f (y .1) in
+          follow-more _ _ _ _ (start l .pre .1) (a .n) k (l .loop .inv .0 (z .0) (omega arith)) (omega arith) (and-true (y .1) (and-true (lt-ltb _ _ j) (y .0)))),
       omega arith,
       omega arith,
     )

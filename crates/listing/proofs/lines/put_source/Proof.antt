@@ -1,9 +1,8 @@
 -- `listing::lines::put_source` meets its contract. The loop's invariant: the rows so far have the settled words of their queries. Assumes nothing.
-use Rattle.property.proofs.Basics.{needs, arith, _≡_, refl, sym, _∙_, List, ℕ, _+_, _-_, _*_, _≤_, length}
+use Rattle.property.proofs.Basics.{arith, _≡_, refl, sym, _∙_, _+_, _-_, _*_, _≤_, length}
 use borrow.Rule.Slice.PartMut.{same-len-mid}
 use Rattle.property.specs.Property.{properties}
 use Rattle.graph.specs.Limits.{maxVertices}
-use Rattle.network.specs.Network.{Network}
 use Rattle.calls.specs.Code.{network}
 use Rattle.calls.proofs.Rows.{row-ends}
 use Rattle.calls.proofs.Flat.{row-size}

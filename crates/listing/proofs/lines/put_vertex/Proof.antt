@@ -1,5 +1,5 @@
 -- `listing::lines::put_vertex` meets its contract. Assumes nothing.
-use Rattle.property.proofs.Basics.{needs, arith, _≡_, [], _∷_, _++_, _+_}
+use Rattle.property.proofs.Basics.{needs, _≡_, [], _∷_, _++_, _+_}
 use Rattle.dimacs.specs.Decimal.{digits}
 use Rattle.dimacs.specs.Lines.{fieldsOf}
 use Rattle.listing.specs.Code.{rowsLine}

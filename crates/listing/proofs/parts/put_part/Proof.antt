@@ -1,39 +1,28 @@
 -- `listing::parts::put_part` meets its contract: a refusal, the header, or the lines of a source. Assumes nothing.
 use Rattle.property.proofs.Basics.{needs, arith, _≡_, _+_, _-_}
 use Rattle.listing.specs.Code.{parts}
-use Rattle.listing.proofs.Pieces.{parts-refused, fine-accepts, parts-accepted, piece-only, piece-first}
+use Rattle.listing.proofs.Pieces.{parts-refused, fine-accepts, parts-accepted, piece-only}
 use Rattle.listing.proofs.parts.put_part.Statement.{statement}
 use Rattle.listing.proofs.parts.put_part.Tie as tie
 
 returns : tie.Need-returns
 returns c =
     let r = c .before .before in
-    let v = r .before .before .before in
-    let a = v .before .before .before .before .before .before .before .before .before .args in (
-      λ gr ss h l. rw (piece-only (parts gr ss) _ (a .i) (parts-refused gr ss (a .prepared) (a .tails .now) (a .heads .now) (a .weights .now) (a .sources .now) (a .forward .now) (a .backward .now) h _ _ (v .verdict .given .1)) l) (r .put-refused .ensures .0),
-      r .put-refused .ensures .1,
-    )
+    (λ gr ss h l. rw (piece-only (parts gr ss) _ _ (parts-refused h _ _ (r .before .before .before .verdict .given .1)) l) (r .put-refused .ensures .0), r .put-refused .ensures .1)
 
 returns-2 : tie.Need-returns-2
 returns-2 c =
     let r = c .before .before in
     let i = r .before .before in
-    let e = i .before in
-    let a = e .before .before .before .before .before .before .before .before .before .args in (
-      λ gr ss h l. rw (piece-first (parts gr ss) _ _ (a .i) (parts-accepted gr ss (a .prepared) (a .tails .now) (a .heads .now) (a .weights .now) (a .sources .now) (a .forward .now) (a .backward .now) h (fine-accepts gr ss (a .prepared) (a .tails .now) (a .heads .now) (a .weights .now) (a .sources .now) (a .forward .now) (a .backward .now) h (e .enum-told .given .1))) (omega arith)) (r .put-header .ensures .0),
-      r .put-header .ensures .1,
-    )
+    (λ gr ss h l. rw (i .if1 .taken, parts-accepted h (fine-accepts h (i .before .enum-told .given .1))) (r .put-header .ensures .0), r .put-header .ensures .1)
 
 returns-3 : tie.Need-returns-3
 returns-3 c =
     let r = c .before .before in
-    let i = r .before .before in
-    let e = i .before in
+    let e = r .before .before .before in
     let a = e .before .before .before .before .before .before .before .before .before .args in
-    let z : a .i - 1 + 1 ≡ a .i = omega arith in (
-      λ gr ss h l. rw z at (r .put-lines .ensures .0 gr ss h (fine-accepts gr ss (a .prepared) (a .tails .now) (a .heads .now) (a .weights .now) (a .sources .now) (a .forward .now) (a .backward .now) h (e .enum-told .given .1))),
-      r .put-lines .ensures .1,
-    )
+    let z : a .i - 1 + 1 ≡ a .i = omega arith in
+    (λ gr ss h l. rw z at (r .put-lines .ensures .0 gr ss h (fine-accepts h (e .enum-told .given .1))), r .put-lines .ensures .1)
 
 pub put-part-spec : {M : Type 1} → statement M
 put-part-spec =

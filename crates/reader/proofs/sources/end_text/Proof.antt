@@ -1,9 +1,9 @@
 -- `reader::sources::end_text` meets its contract. Assumes nothing.
-use Rattle.property.proofs.Basics.{needs, add-one, arith}
+use Rattle.property.proofs.Basics.{needs, add-one, arith, eq-eqb, ne-eqb}
 use Rattle.dimacs.specs.Read.{ended}
 use Rattle.dimacs.specs.Sources.{complete}
 use Rattle.reader.specs.SourcesCode.{stateOf, readOf}
-use Rattle.reader.proofs.SourcesSteps.{held-inside, end-short, end-whole}
+use Rattle.reader.proofs.SourcesSteps.{held-inside, end-within}
 use Rattle.reader.proofs.sources.end_text.Statement.{statement}
 use Rattle.reader.proofs.sources.end_text.Tie as tie
 
@@ -15,7 +15,7 @@ returns-2 : tie.Need-returns-2
 unfolding readOf
 returns-2 c =
     let s = c .before .before in (
-      λ n xs h. end-whole xs _ n _ _ _ (s .state .given .1) h (c .if1 .taken),
+      λ n xs h. rw (end-within (s .state .given .1) h, eq-eqb _ _ (c .if1 .taken), c .if1 .taken),
       λ xs h. (let i = held-inside _ h (s .state .given .1) in (omega arith, h .room)),
     )
 
@@ -23,7 +23,7 @@ returns-3 : tie.Need-returns-3
 unfolding readOf
 returns-3 c =
     let s = c .before .before in
-    (λ n xs h. end-short xs _ n _ _ _ (s .state .given .1) h (c .if1 .left), λ xs h. tt)
+    (λ n xs h. rw (end-within (s .state .given .1) h, ne-eqb _ _ (c .if1 .left)), λ xs h. tt)
 
 pub end-text-spec : {M : Type 1} → statement M
 end-text-spec =

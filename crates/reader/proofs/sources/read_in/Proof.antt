@@ -1,14 +1,14 @@
 -- `reader::sources::read_in` meets its contract. Assumes nothing.
-use Rattle.property.proofs.Basics.{needs, arith, _≡_, sym, ap, subst, _∙_, _≤_, _<_, length, length-take-le}
-use Rattle.graph.specs.Refusal.{accept}
+use Rattle.property.proofs.Basics.{needs, arith, _≡_, sym, ap, subst, _∙_, _≤_, length, length-take-le, lt-ltb, le-ltb}
+use Rattle.graph.specs.Refusal.{accept, _▷_, refuseIf, replied, choose}
+use Rattle.dimacs.specs.Call.{judged, sourcesRead, sourcesCall}
 use Rattle.graph.specs.Table.{size}
 use Rattle.graph.specs.Code.{told}
 use Rattle.graph.proofs.Judging.{size-accept}
 use Rattle.dimacs.specs.Sources.{maxSources}
 use Rattle.graph.proofs.Copies.{paste-front}
-use Rattle.reader.specs.SourcesCode.{Whole, readOf}
+use Rattle.reader.specs.SourcesCode.{Whole, readOf, reading}
 use Rattle.reader.proofs.Steps.{known}
-use Rattle.reader.proofs.SourcesSteps.{call-size, call-short, call-bad, call-good}
 use Rattle.reader.proofs.sources.read_in.Statement.{statement}
 use Rattle.reader.proofs.sources.read_in.Tie as tie
 
@@ -27,17 +27,9 @@ readOn k = k .before .before .before .before
 count : (k : tie.After-count) → let t = readOn k in (k .count .given .0 .0 ≤ maxSources) × (maxSources ≤ length (t .read-text .last .1 .1 .0))
 count k = let t = readOn k .read-text in subst (λ r. Whole r (t .last .1 .1 .0)) (k .count .given .1) (t .ensures .1)
 
-returns : tie.Need-returns
-unfolding told
-returns c =
-    let j = c .before .before .before in
-    call-size _ _ (start j .args .sources .now) (ap told (sym (c .before .size .given .1)) ∙ j .judge-size .ensures)
-
 returns-2 : tie.Need-returns-2
-returns-2 c =
-    let e = c .before in
-    let l : length (start (e .before .before) .args .sources .now) < maxSources = omega arith in
-    call-short _ _ _ (fine e) l
+unfolding sourcesCall reading _▷_ refuseIf replied choose
+returns-2 c = rw (← fine (c .before), lt-ltb (length (start (c .before .before .before) .args .sources .now)) maxSources (omega arith))
 
 read-text-requires : tie.Need-read-text-requires
 read-text-requires c κs =
@@ -52,15 +44,15 @@ copy-requires c κs =
     (omega arith, omega arith)
 
 returns-3 : tie.Need-returns-3
-unfolding readOf
+unfolding readOf sourcesCall reading _▷_ refuseIf replied choose judged
 returns-3 c =
     let l = c .before in
     let t = l .before .before .before .before in
     let e = t .before .before in
-    call-bad _ _ _ (fine (e .before)) (e .if1 .left) (known (readOf _) (l .line .given .1) (t .read-text .ensures .0))
+    rw (← fine (e .before), le-ltb _ maxSources (e .if1 .left), ← known (readOf _) (l .line .given .1) (t .read-text .ensures .0))
 
 returns-4 : tie.Need-returns-4
-unfolding readOf
+unfolding readOf sourcesCall reading _▷_ refuseIf replied choose judged sourcesRead
 returns-4 c =
     let p = c .before .before in
     let k = p .before .before .before .before in
@@ -68,8 +60,7 @@ returns-4 c =
     let e = t .before .before in
     let w = count k in
     let fits : k .count .given .0 .0 ≤ length (t .read-text .last .1 .1 .0) = omega arith in
-    call-good _ _ _ (fine (e .before)) (e .if1 .left) _ _ _ (known (readOf _) (k .count .given .1) (t .read-text .ensures .0)) (length-take-le _ _ fits)
-    (p .copy .ensures ∙ paste-front _ _ _ fits)
+    rw (← fine (e .before), le-ltb _ maxSources (e .if1 .left), ← known (readOf _) (k .count .given .1) (t .read-text .ensures .0), p .copy .ensures ∙ paste-front _ _ _ fits, length-take-le _ _ fits)
 
 pub read-in-spec : {M : Type 1} → statement M
 read-in-spec =
@@ -77,7 +68,7 @@ read-in-spec =
     (tie.spec
     (λ c κs. search needs)
     (λ c. search needs)
-    returns
+    (λ c. unfold told sourcesCall reading _▷_ replied choose in rw (← (ap told (sym (c .before .size .given .1)) ∙ c .before .before .before .judge-size .ensures)))
     (λ c. search needs)
     returns-2
     read-text-requires

@@ -14,10 +14,6 @@ number : (k : tie.After-v) → sourceFrom (k .v .given .0 .0 ∷ []) ≡ capSour
 unfolding bind
 number k = said-fields sourceFrom capSources oneOf source-read _ (k .v .given .1) (k .before .before .read-one .ensures)
 
-returns : tie.Need-returns
-unfolding bind
-returns c = said-fields sourceFrom capSources oneOf source-read _ (c .enum-told .given .1) (c .before .before .read-one .ensures)
-
 returns-3 : tie.Need-returns-3
 returns-3 c =
     let k = c .before .before in
@@ -30,7 +26,7 @@ read-source-spec =
     (λ c κs. search needs)
     (λ c. search needs)
     (λ c. search needs)
-    returns
+    (λ c. unfold bind in said-fields sourceFrom capSources oneOf source-read _ (c .enum-told .given .1) (c .before .before .read-one .ensures))
     (λ c. source-zero _ (c .if1 .taken) ∙ number (c .before .before))
     (λ c. search needs)
     returns-3)

@@ -1,8 +1,8 @@
 -- `reader::sources::take_source` meets its contract. Assumes nothing.
-use Rattle.property.proofs.Basics.{needs, arith, _≤_, _<_, length, length-set}
+use Rattle.property.proofs.Basics.{needs, arith, _≤_, _<_, length, length-set, lt-ltb, le-ltb}
 use Rattle.dimacs.specs.Sources.{act}
 use Rattle.reader.specs.SourcesCode.{stateOf, stepOf}
-use Rattle.reader.proofs.SourcesSteps.{held-inside, source-full, source-broken, source-next}
+use Rattle.reader.proofs.SourcesSteps.{held-inside, act-source, source-next}
 use Rattle.reader.proofs.sources.take_source.Statement.{statement}
 use Rattle.reader.proofs.sources.take_source.Tie as tie
 
@@ -17,15 +17,11 @@ inside c =
     let r = start k .pre .room in
     omega arith
 
-returns : tie.Need-returns
-unfolding stepOf stateOf act
-returns c = (rw (c .enum-told .given .1), tt)
-
 returns-2 : tie.Need-returns-2
 unfolding stepOf
 returns-2 c =
     let k = c .before .before in
-    (source-full _ _ _ _ _ _ (k .state .given .1) (start k .pre) (c .if1 .taken), tt)
+    (rw (act-source (k .state .given .1) (start k .pre), le-ltb _ _ (c .if1 .taken)), tt)
 
 returns-3 : tie.Need-returns-3
 unfolding stepOf
@@ -33,7 +29,7 @@ returns-3 c =
     let k = c .before .before .before in
     let a = start k .args in
     let m : a .n ≤ a .v = omega arith in
-    (source-broken _ _ _ _ _ _ (k .state .given .1) (start k .pre) (c .before .if1 .left) m, tt)
+    (rw (act-source (k .state .given .1) (start k .pre), lt-ltb _ _ (c .before .if1 .left), le-ltb (a .v) (a .n) m), tt)
 
 returns-4 : tie.Need-returns-4
 unfolding stepOf
@@ -42,7 +38,7 @@ returns-4 c =
     let l = c .before .if1 .left in
     let i = held-inside _ (start k .pre) (k .state .given .1) in
     let r = start k .pre .room in (
-      source-next _ _ _ _ _ _ (k .state .given .1) (start k .pre) l (omega arith),
+      source-next (k .state .given .1) (start k .pre) _ _ l (omega arith),
       record { room = simp length-set r; inside = (i .0, omega arith) },
     )
 
@@ -52,7 +48,7 @@ take-source-spec =
     (tie.spec
     (λ c. search needs)
     (λ c. search needs)
-    returns
+    (λ c. unfold stepOf stateOf act in (rw (c .enum-told .given .1), tt))
     (λ c. search needs)
     returns-2
     returns-3

@@ -1,26 +1,13 @@
 -- `spelling::spell::spell_batch` meets its contract. Assumes nothing.
 use Rattle.property.proofs.Basics.{[], _∷_, needs, arith}
-use Rattle.apply.specs.Code.{applying, reporting}
+use Rattle.apply.specs.Code.{applying}
 use Rattle.spelling.specs.Code.{reportWords}
-use Rattle.spelling.proofs.Telling.{setAll-over, setAll-within, refused-tells, accepted-tells}
+use Rattle.spelling.proofs.Telling.{setAll-within, refused-tells, stored-tells}
 use Rattle.spelling.proofs.spell.spell_batch.Statement.{statement}
 use Rattle.spelling.proofs.spell.spell_batch.Tie as tie
 
 slice-write-reply-3 : tie.Need-slice-write-reply-3
 slice-write-reply-3 c = setAll-within (c .before .before .r .given .0 .0 .count ∷ c .before .before .r .given .0 .0 .affected ∷ []) (c .before .before .before .before .args .reply .now) 2 (omega arith)
-
-returns : tie.Need-returns
-unfolding applying
-returns c =
-    let s = c .before .before .before .before in
-    let t = c .before .before .r .given .0 .0 in
-    rw (c .before .before .r .given .1) (accepted-tells reportWords (s .args .reply .now) (omega arith) (reporting t) (setAll-over (t .count ∷ t .affected ∷ t .stores ∷ []) (s .args .reply .now) (omega arith)))
-
-returns-2 : tie.Need-returns-2
-unfolding applying
-returns-2 c =
-    let s = c .before .before .before in
-    rw (c .before .r2 .given .1) (refused-tells reportWords (s .args .reply .now) (omega arith) _ _)
 
 pub spell-batch-spec : {M : Type 1} → statement M
 spell-batch-spec =
@@ -34,6 +21,6 @@ spell-batch-spec =
     (λ c. search needs)
     (λ c. search needs)
     (λ c. search needs)
-    returns
+    (λ c. unfold applying in rw (c .before .before .r .given .1) (stored-tells reportWords _ (c .before .before .before .before .pre) _ (omega arith)))
     (λ c. search needs)
-    returns-2)
+    (λ c. unfold applying in rw (c .before .r2 .given .1) (refused-tells reportWords _ (c .before .before .before .pre) _ _)))

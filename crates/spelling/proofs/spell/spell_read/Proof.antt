@@ -2,22 +2,9 @@
 use Rattle.property.proofs.Basics.{[], _∷_, needs, arith}
 use Rattle.reader.specs.NetworkCode.{reading}
 use Rattle.spelling.specs.Code.{sizeWords}
-use Rattle.spelling.proofs.Telling.{setAll-over, setAll-within, refused-tells, accepted-tells}
+use Rattle.spelling.proofs.Telling.{setAll-within, refused-tells, stored-tells}
 use Rattle.spelling.proofs.spell.spell_read.Statement.{statement}
 use Rattle.spelling.proofs.spell.spell_read.Tie as tie
-
-returns : tie.Need-returns
-unfolding reading
-returns c =
-    let s = c .before .before .before in
-    let t = c .before .r .given .0 in
-    rw (c .before .r .given .1) (accepted-tells sizeWords (s .args .reply .now) (omega arith) (record { vertices = t .0; count = t .1 .0 }) (setAll-over (t .0 ∷ t .1 .0 ∷ []) (s .args .reply .now) (omega arith)))
-
-returns-2 : tie.Need-returns-2
-unfolding reading
-returns-2 c =
-    let s = c .before .before .before in
-    rw (c .before .r2 .given .1) (refused-tells sizeWords (s .args .reply .now) (omega arith) _ _)
 
 pub spell-read-spec : {M : Type 1} → statement M
 spell-read-spec =
@@ -31,6 +18,6 @@ spell-read-spec =
     (λ c. search needs)
     (λ c. search needs)
     (λ c. search needs)
-    returns
+    (λ c. unfold reading in rw (c .before .r .given .1) (stored-tells sizeWords _ (c .before .before .before .pre) _ (omega arith)))
     (λ c. search needs)
-    returns-2)
+    (λ c. unfold reading in rw (c .before .r2 .given .1) (refused-tells sizeWords _ (c .before .before .before .pre) _ _)))

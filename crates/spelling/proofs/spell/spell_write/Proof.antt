@@ -1,23 +1,10 @@
 -- `spelling::spell::spell_write` meets its contract. Assumes nothing.
-use Rattle.property.proofs.Basics.{[], _∷_, needs, arith}
+use Rattle.property.proofs.Basics.{needs, arith}
 use Rattle.writer.specs.Code.{writing}
 use Rattle.spelling.specs.Code.{oneWord}
-use Rattle.spelling.proofs.Telling.{setAll-over, refused-tells, accepted-tells}
+use Rattle.spelling.proofs.Telling.{refused-tells, stored-tells}
 use Rattle.spelling.proofs.spell.spell_write.Statement.{statement}
 use Rattle.spelling.proofs.spell.spell_write.Tie as tie
-
-returns : tie.Need-returns
-unfolding writing
-returns c =
-    let s = c .before .before .before in
-    let t = c .before .r .given .0 .0 in
-    rw (c .before .r .given .1) (accepted-tells oneWord (s .args .reply .now) (omega arith) t (setAll-over (t ∷ []) (s .args .reply .now) (omega arith)))
-
-returns-2 : tie.Need-returns-2
-unfolding writing
-returns-2 c =
-    let s = c .before .before .before in
-    rw (c .before .r2 .given .1) (refused-tells oneWord (s .args .reply .now) (omega arith) _ _)
 
 pub spell-write-spec : {M : Type 1} → statement M
 spell-write-spec =
@@ -28,6 +15,6 @@ spell-write-spec =
     (λ c. search needs)
     (λ c. search needs)
     (λ c. search needs)
-    returns
+    (λ c. unfold writing in rw (c .before .r .given .1) (stored-tells oneWord _ (c .before .before .before .pre) _ (omega arith)))
     (λ c. search needs)
-    returns-2)
+    (λ c. unfold writing in rw (c .before .r2 .given .1) (refused-tells oneWord _ (c .before .before .before .pre) _ _)))

@@ -7,7 +7,7 @@ use Rattle.graph.specs.Table.{Columns}
 use Rattle.graph.specs.Code.{columns}
 use Rattle.dimacs.specs.Network.{written}
 use Rattle.writer.specs.Code.{arcsOf, Fits}
-use Rattle.writer.proofs.Laid.{Pending, pending-start, pending-fits, pending-turn, pending-last}
+use Rattle.writer.proofs.Laid.{first-fits, second-fits, both-wrote}
 use Rattle.writer.proofs.Text.{problemLine, written-lines}
 use Rattle.writer.proofs.Writing.{judgedWrite, Writable, write-accept, write-refused, write-short, write-accepted, wrote-over}
 use Rattle.writer.proofs.network_text.write_network.Statement.{statement}
@@ -49,24 +49,11 @@ whole c =
 room : (c : tie.Else1) → let s = begin (c .before .before .before .before .before) in Fits (text s) 0 (s .args .text .now)
 room c = record { room = omega (arith, whole (c .before)) }
 
-after-problem : (c : tie.After-put-problem) →
-    let s = begin (c .before .before .before .before .before .before .before) in
-    Pending (text s) 0 (s .args .text .now) (arcs s) (c .put-problem .result) (c .put-problem .last .1 .1 .1 .0)
-after-problem c =
-    let i = c .before .before in
-    let s = begin (i .before .before .before .before .before) in
-    pending-turn (pending-start (room i)) (problemLine (s .args .n) (s .args .count)) (arcs s) (lines (i .before .before .before)) (c .put-problem .ensures)
-
 returns : tie.Need-returns
 returns c =
     let j = c .before .before .before in
     let a = begin j .args in
     write-refused (a .n) (table (begin j)) (a .count) (a .text .now) _ _ _ (j .judge-write .ensures) (c .before .judged .given .1)
-
-arcs-width-requires : tie.Need-arcs-width-requires
-arcs-width-requires c κs =
-    let w = writable (c .before) in
-    (w .count, w .room)
 
 add-length : tie.Need-add-length
 add-length c =
@@ -79,15 +66,11 @@ returns-2 c =
     let s = begin (e .before .before) in
     write-short (s .args .n) (table s) (s .args .count) (s .args .text .now) (fine e) (omega (arith, whole (c .before)))
 
-put-problem-requires : tie.Need-put-problem-requires
-put-problem-requires c κs =
-    let s = begin (c .before .before .before .before .before .before) in
-    pending-fits (pending-start (room (c .before))) (problemLine (s .args .n) (s .args .count)) (arcs s) (lines (c .before .before .before .before))
-
 put-arcs-requires : tie.Need-put-arcs-requires
 put-arcs-requires c κs =
     let p = c .before .before .before in
-    (writable (p .before .before .before .before .before) .room, after-problem p .fits)
+    let e = p .before .before .before .before .before in
+    (writable e .room, second-fits _ _ (lines e) (room (p .before .before)) (p .put-problem .ensures))
 
 returns-3 : tie.Need-returns-3
 returns-3 c =
@@ -98,7 +81,7 @@ returns-3 c =
     let s = begin (e .before .before) in
     let w = whole (i .before) in
     write-accepted (s .args .n) (table s) (s .args .count) (s .args .text .now) _ _ (fine e) (omega (arith, w)) w
-    (wrote-over (pending-last (after-problem p) (b .put-arcs .ensures)))
+    (wrote-over (both-wrote _ _ (lines e) (room i) (p .put-problem .ensures) (b .put-arcs .ensures)))
 
 pub write-network-spec : {M : Type 1} → statement M
 write-network-spec =
@@ -109,10 +92,10 @@ write-network-spec =
     returns
     (λ c. search needs)
     (λ c κs. search needs)
-    arcs-width-requires
+    (λ c κs. (writable (c .before) .count, writable (c .before) .room))
     add-length
     returns-2
-    put-problem-requires
+    (λ c κs. first-fits _ _ (lines (c .before .before .before .before)) (room (c .before)))
     put-arcs-requires
     (λ c. search needs)
     returns-3)
