@@ -1,18 +1,18 @@
 -- Refusals 1 to 4 of a network as the code judges them, and what an accepted network tells. Assumes nothing.
-use Rattle.property.proofs.Basics.{_≡_, sym, _∙_, Bool, true, false, not, List, ℕ, _+_, _*_, _/_, _<_, _≤_, div-lt-iff-lt-mul, decLt, add-one, arith, length, getD, drop, drop-of-length-le, drop-cons, eqb, ltb, eq-eqb, ne-eqb, lt-ltb, le-ltb, ltb-false, not-false}
+use Rattle.property.proofs.Basics.{_≡_, sym, Bool, true, false, not, List, ℕ, _+_, _*_, _/_, _<_, _≤_, div-lt-iff-lt-mul, add-one, arith, length, getD, drop, drop-of-length-le, drop-cons, eqb, ltb, eq-eqb, ne-eqb, lt-ltb, le-ltb, ltb-true, ltb-false, not-false}
 use native.Mathlib.Nat.{mul-assoc, mul-zero}
 use Rattle.graph.specs.Edge.{exists}
 use Rattle.graph.specs.Refusal.{accept}
-use Rattle.graph.specs.Limits.{maxVertices, maxEdges, maxLandmarks}
-use Rattle.graph.specs.Code.{Room, columns}
-use Rattle.graph.proofs.Tests.{neither}
+use Rattle.graph.specs.Limits.{maxLandmarks}
+use Rattle.graph.specs.Code.{columns}
+use Rattle.graph.proofs.Tests.{neither, same-test}
 use Rattle.graph.proofs.Verdicts.{if-accept}
 use Rattle.graph.proofs.Judging.{size-accept, lengths-accept, table-accept}
 use Rattle.graph.proofs.Records.{room-less}
-use Rattle.graph.proofs.Own.{tails-below, heads-below}
 use Rattle.network.specs.Network.{isIn, areLandmarks, landmarks, shortRows, faults, rowCount}
+use Rattle.network.proofs.Rows.{landmark-below}
 use Rattle.network.proofs.Moment.{faults-parts}
-use Rattle.calls.specs.Code.{rowLists, network}
+use Rattle.calls.specs.Code.{rowLists, network, Openable}
 
 -- ---- landmarks, one by one
 
@@ -49,15 +49,7 @@ module _ (n : ℕ) (vs : List ℕ) (i : ℕ) {b : Bool} (h : areLandmarks n (dro
 -- ---- row lists: the quotient is compared for the product
 
 ltb-iff : (a b c d : ℕ) → (a < b → c < d) → (c < d → a < b) → ltb a b ≡ ltb c d
-ltb-iff a b c d to from = pick (decLt a b)
-  where
-    pick : Dec (a < b) → ltb a b ≡ ltb c d
-    pick (yes l) = lt-ltb a b l ∙ sym (lt-ltb c d (to l))
-    pick (no l) = le-ltb a b (omega arith) ∙ sym (le-ltb c d (high (decLt c d)))
-      where
-        high : Dec (c < d) → d ≤ c
-        high (yes k) = absurd (l (from k))
-        high (no k) = omega arith
+ltb-iff a b c d to from = same-test _ _ ((λ e. lt-ltb c d (to (ltb-true a b e))), (λ e. lt-ltb a b (from (ltb-true c d e))))
 
 pub short-none : (w k n : ℕ) → n ≡ 0 → false ≡ ltb w (k * 5 * n)
 short-none w k n e = rw (e, mul-zero) (sym (le-ltb w 0 (omega arith)))
@@ -81,33 +73,19 @@ landmarks-accept n ls e =
     let z = neither (ltb maxLandmarks (length ls)) (not (areLandmarks n ls)) (y .1) in
     (ltb-false maxLandmarks _ (z .0), not-false _ (z .1))
 
--- ---- what an accepted network tells
+-- ---- what an accepted network tells: its sides may be opened, and its row lists are long enough
 
-pub record Accepted (n : ℕ) (ls ts hs ws : List ℕ) (m : ℕ) (f b : List ℕ) : Type 0 where
-  pub some : 0 < n
-  pub few : n ≤ maxVertices
-  pub landmarks : length ls ≤ maxLandmarks
-  pub count : m ≤ maxEdges
-  pub room : Room maxEdges ts hs ws
-  pub forward : rowCount ls * n ≤ length f
-  pub backward : rowCount ls * n ≤ length b
-  pub ends : (k : ℕ) → k < m → (getD ts k 0 < n) × (getD hs k 0 < n)
-
-pub network-accept : (n : ℕ) (ls ts hs ws : List ℕ) (m : ℕ) (f b : List ℕ) → faults n ls (network ts hs ws f b m) ≡ accept → Accepted n ls ts hs ws m f b
+pub network-accept : (n : ℕ) (ls ts hs ws : List ℕ) (m : ℕ) (f b : List ℕ) → faults n ls (network ts hs ws f b m) ≡ accept
+    → Openable n m ls ts hs ws × (rowCount ls * n ≤ length f) × (rowCount ls * n ≤ length b)
 network-accept n ls ts hs ws m f b e =
-    let o = faults-parts n ls (network ts hs ws f b m) e in
-    let t = table-accept n (columns ts hs ws) m (o .4) in
-    let q = size-accept n (o .0) in
-    let x = rows-accept n ls f b (o .2) in
-    let y = lengths-accept ts hs ws (o .1) in
-    let z = room-less (t .0) y in
-    record {
-      some = q .0;
-      few = q .1;
-      landmarks = landmarks-accept n ls (o .3) .0;
-      count = t .0;
-      room = y;
-      forward = x .0;
-      backward = x .1;
-      ends = λ k h. (tails-below n m ts hs ws z (t .1) k h, heads-below n m ts hs ws z (t .1) k h);
-    }
+    let a = faults-parts n ls (network ts hs ws f b m) e in
+    let t = table-accept n (columns ts hs ws) m (a .4) in
+    let o : Openable n m ls ts hs ws = record {
+      few = size-accept n (a .0) .1;
+      records = t .0;
+      room = room-less (t .0) (lengths-accept ts hs ws (a .1));
+      rules = t .1;
+      landmarks = record { few = landmarks-accept n ls (a .3) .0; vertices = λ i k. landmark-below n ls i (a .3) k };
+    } in
+    let x = rows-accept n ls f b (a .2) in
+    (o, x .0, x .1)

@@ -14,7 +14,7 @@ use Rattle.network.specs.Query.{rowAt}
 pub row-fits : (r n : ℕ) → r ≤ maxLandmarks * properties → n ≤ maxVertices → Fits w64 (r * n)
 row-fits r n a b = fits-le (mul-le-mul a b) (fits-lit tt)
 
--- the rows of k landmarks are at most 20 of at most 256 words, so scratch lists of 5,120 have room for them
+-- the rows of k landmarks are at most 20 of at most 256 words, so lists of 5,120 have room for them
 pub rows-most : (k n : ℕ) → k ≤ maxLandmarks → n ≤ maxVertices → k * properties * n ≤ maxLandmarks * properties * maxVertices
 rows-most k n a b = mul-le-mul {n₁ = k * properties} {m₁ = n} {n₂ = maxLandmarks * properties} {m₂ = maxVertices} (omega arith) b
 

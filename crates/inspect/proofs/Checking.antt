@@ -1,5 +1,5 @@
 -- The settled check: one record against one row, and the search through sides, rows and records. Assumes nothing.
-use Rattle.property.proofs.Basics.{_≡_, refl, ap, _∙_, Bool, true, false, cond, List, [], _∷_, map, ℕ, zero, suc, _+_, _*_, _-_, _%_, _<_, _≤_, add-one, arith, length, getD, drop, eqb, eq-eqb, ne-eqb}
+use Rattle.property.proofs.Basics.{_≡_, refl, ap, _∙_, Bool, true, false, cond, List, [], _∷_, map, ℕ, zero, suc, _+_, _*_, _-_, _%_, _<_, _≤_, add-one, arith, length, getD, drop, eqb}
 use Rattle.property.specs.Property.{Property, property, properties}
 use Rattle.graph.specs.declared.Judged.{Judged}
 use Rattle.graph.specs.declared.Judged.the-variants.{Fine, Refused}
@@ -36,12 +36,9 @@ abbrev pub edgeOn : Bool → Edge → Edge
 edgeOn t e = cond t e (reverse e)
 
 -- a side in the code
-module _ (side : ℕ) (P : Property) (n r : ℕ) (f b : List ℕ) (e : Edge) where
-  pub spot-forward : side ≡ 0 → relaxable P (row n r f) e ≡ relaxable P (row n r (cond (eqb side 0) f b)) (edgeOn (eqb side 0) e)
-  spot-forward h = rw (eq-eqb side 0 h)
-
-  pub spot-backward : (side ≡ 0 → ⊥) → relaxable P (row n r b) (reverse e) ≡ relaxable P (row n r (cond (eqb side 0) f b)) (edgeOn (eqb side 0) e)
-  spot-backward h = rw (ne-eqb side 0 h)
+pub spot-on : (side : ℕ) (P : Property) (n r : ℕ) (f b : List ℕ) (e : Edge) (t : Bool) → eqb side 0 ≡ t
+    → relaxable P (row n r (cond t f b)) (edgeOn t e) ≡ relaxable P (row n r (cond (eqb side 0) f b)) (edgeOn (eqb side 0) e)
+spot-on side P n r f b e t h = rw h
 
 drop-map : {A B : Type 0} (g : A → B) (k : ℕ) (l : List A) → drop k (map g l) ≡ map g (drop k l)
 drop-map g zero l = refl

@@ -1,6 +1,7 @@
 -- Row look-up: where a landmark stands in the list, where its row lies, and what is shown. Assumes nothing.
-use Rattle.property.proofs.Basics.{_≡_, sym, ap, _∙_, Bool, true, false, not, _||_, cond, false≢true, List, [], _∷_, ℕ, suc, _+_, _*_, _-_, _<_, _≤_, add-zero, add-one, arith, length, getD, take, drop, drop-of-length-le, drop-cons, eqb, ltb, leb, eq-eqb, ne-eqb, ltb-true, ltb-false, leb-true, not-false}
+use Rattle.property.proofs.Basics.{_≡_, sym, ap, _∙_, Bool, true, not, cond, false≢true, List, [], _∷_, ℕ, suc, _+_, _*_, _-_, _<_, _≤_, add-zero, add-one, arith, length, getD, take, drop, drop-of-length-le, drop-cons, eqb, ltb, leb, eq-eqb, ne-eqb, ltb-true, ltb-false, leb-true, not-false}
 use Rattle.property.specs.Property.{isProperty}
+use Rattle.property.proofs.Tests.{by-test}
 use Rattle.graph.specs.declared.Judged.{Judged}
 use Rattle.graph.specs.declared.Judged.the-variants.{Fine, Refused}
 use Rattle.graph.specs.Edge.{exists}
@@ -10,7 +11,7 @@ use Rattle.graph.specs.Table.{size}
 use Rattle.graph.specs.Code.{told}
 use Rattle.graph.proofs.Tests.{both, neither}
 use Rattle.graph.proofs.Verdicts.{not-accept, then-accept, if-accept, verdict-replied}
-use Rattle.network.specs.Network.{isIn, landmarks, shortRows, row}
+use Rattle.network.specs.Network.{isIn, landmarks, shortRows}
 use Rattle.network.specs.Query.{rowAt}
 use Rattle.network.specs.Lookup.{indexOf, lookupVerdict, lookupRow, lookupNumber}
 use Rattle.calls.specs.Code.{rowLists}
@@ -40,11 +41,7 @@ module _ (v : ℕ) (vs : List ℕ) (i : ℕ) {x : ℕ} (h : i + indexOf v (drop 
 pub index-below : (v : ℕ) (vs : List ℕ) → isIn v vs ≡ true → indexOf v vs < length vs
 unfolding exists indexOf
 index-below v [] h = absurd (false≢true h)
-index-below v (x ∷ vs) h = pick (eqb v x) (λ k. index-below v vs k) h
-  where
-    pick : (b : Bool) → (isIn v vs ≡ true → indexOf v vs < length vs) → (b || isIn v vs) ≡ true → cond b 0 (suc (indexOf v vs)) < suc (length vs)
-    pick true below k = omega arith
-    pick false below k = let z = below k in omega arith
+index-below v (x ∷ vs) h = by-test (eqb v x) (λ e. rw e (omega arith)) (λ e. let z = index-below v vs (rw e at h) in rw e (omega arith))
 
 -- ---- the number
 
@@ -67,29 +64,13 @@ module _ (n : ℕ) (ls f b : List ℕ) (side l p : ℕ) where
     unfolding told
     part-refused k i q x y z h = absurd (not-accept (sym (ap told q) ∙ (told-number r e ∙ h)))
 
-    row-shown : r ≡ Fine → row n (rowAt (indexOf l ls) p) (cond (eqb side 0) f b) ≡ lookupRow n ls (rowLists f b) side l p
+    -- the part from s on of the list of its side, where s is the row's start; and where it lies, if the lists lie at x and y
+    pub row-shown : r ≡ Fine → (s : ℕ) → s ≡ rowAt (indexOf l ls) p * n → (x y : ℕ × ℕ) (t : Bool) → eqb side 0 ≡ t
+        → (take (s + n - s) (drop s (cond t f b)) ≡ lookupRow n ls (rowLists f b) side l p) × Shows n ls (rowLists f b) side l p x y (wordAt (cond t x y) s)
     unfolding lookupRow choose told
-    row-shown q = rw (sym (told-number r e) ∙ ap told q)
-
-    -- the part from s on, where s is the row's start
-    module _ (q : r ≡ Fine) (s : ℕ) (at : s ≡ rowAt (indexOf l ls) p * n) where
-      part : (xs : List ℕ) → take (s + n - s) (drop s xs) ≡ row n (rowAt (indexOf l ls) p) xs
-      part xs = let z : s + n - s ≡ n = omega arith in rw (z, at)
-
-      pub row-forward : side ≡ 0 → take (s + n - s) (drop s f) ≡ lookupRow n ls (rowLists f b) side l p
-      row-forward h = part f ∙ (ap (λ (t : Bool). row n (rowAt (indexOf l ls) p) (cond t f b)) (sym (eq-eqb side 0 h)) ∙ row-shown q)
-
-      pub row-backward : (side ≡ 0 → ⊥) → take (s + n - s) (drop s b) ≡ lookupRow n ls (rowLists f b) side l p
-      row-backward h = part b ∙ (ap (λ (t : Bool). row n (rowAt (indexOf l ls) p) (cond t f b)) (sym (ne-eqb side 0 h)) ∙ row-shown q)
-
-  -- ---- where the part starts
-
-  module _ (s : ℕ) (at : s ≡ rowAt (indexOf l ls) p * n) (x y : ℕ × ℕ) where
-    pub part-forward : side ≡ 0 → Shows n ls (rowLists f b) side l p x y (wordAt x s)
-    part-forward h _ = ap (wordAt x) at ∙ ap (λ (t : Bool). wordAt (cond t x y) (rowAt (indexOf l ls) p * n)) (sym (eq-eqb side 0 h))
-
-    pub part-backward : (side ≡ 0 → ⊥) → Shows n ls (rowLists f b) side l p x y (wordAt y s)
-    part-backward h _ = ap (wordAt y) at ∙ ap (λ (t : Bool). wordAt (cond t x y) (rowAt (indexOf l ls) p * n)) (sym (ne-eqb side 0 h))
+    row-shown q s at x y t d =
+        let z : s + n - s ≡ n = omega arith in
+        (rw (z, at, ← d, sym (told-number r e) ∙ ap told q), λ _. rw (at, ← d))
 
   -- ---- what an accepted look-up tells
 

@@ -1,27 +1,22 @@
--- The run of a row as its functions leave it, what an accepted network tells an opening, and the opening's outcome. Assumes nothing.
-use Rattle.property.proofs.Basics.{_≡_, sym, ap, _∙_, List, map, ℕ, suc, _*_, _/_, _%_, _≤_, length, getD}
+-- The run of a row as its functions leave it, and the opening's outcome. Assumes nothing.
+use Rattle.property.proofs.Basics.{_≡_, sym, ap, _∙_, List, map, ℕ, suc, _/_, _%_, getD}
 use Rattle.property.specs.Property.{property, properties}
 use Rattle.graph.specs.declared.Judged.{Judged}
 use Rattle.graph.specs.declared.Judged.the-variants as judged
 use Rattle.graph.specs.Refusal.{accept, over}
 use Rattle.graph.specs.Edge.{Edge, reverse}
-use Rattle.graph.specs.Code.{told, columns}
-use Rattle.graph.proofs.Records.{room-less}
+use Rattle.graph.specs.Code.{told}
 use Rattle.graph.proofs.Verdicts.{outcome-refused, outcome-accepted}
 use Rattle.run.specs.declared.Tally.{Tally}
 use Rattle.run.specs.Run.{settle}
 use Rattle.run.specs.Start.{opened}
 use Rattle.run.specs.Code.{noCounts, state}
 use Rattle.open.specs.declared.Opened.the-variants.{Accepted, Refused}
-use Rattle.network.specs.Network.{Network, edgesIn, rowCount, faults, flat}
+use Rattle.network.specs.Network.{Network, edgesIn, faults, flat}
 use Rattle.network.specs.Open.{openRow, openRows, openVerdict, openCall}
 use Rattle.open.specs.Code.{opening, openOutcome}
-use Rattle.calls.specs.Code.{network, Openable}
-use Rattle.network.proofs.Rows.{landmark-below}
-use Rattle.network.proofs.Moment.{faults-parts}
+use Rattle.calls.specs.Code.{network}
 use Rattle.network.proofs.Never.{open-verdict}
-use Rattle.graph.proofs.Judging.{size-accept, lengths-accept, table-accept}
-use Rattle.calls.proofs.Judging.{rows-accept, landmarks-accept}
 
 -- ---- a row
 
@@ -33,24 +28,6 @@ module _ (n r : ℕ) {p i : ℕ} (ls : List ℕ) (es : List Edge) (ws bs ws′ b
   row-settled =
       let e : state n ws′ bs′ t ≡ openRow n ls es r = run ∙ rw (start, ep, ei) in
       ap (λ st. st .words) e
-
--- ---- what numbers 1 to 4 leave: a network whose sides may be opened, and row lists that are long enough
-
-pub open-accept : (n : ℕ) (ls ts hs ws f b : List ℕ) (m : ℕ) → faults n ls (network ts hs ws f b m) ≡ accept
-    → Openable n m ls ts hs ws × (rowCount ls * n ≤ length f) × (rowCount ls * n ≤ length b)
-open-accept n ls ts hs ws f b m e =
-    let a = faults-parts n ls (network ts hs ws f b m) e in
-    let t = table-accept n (columns ts hs ws) m (a .4) in
-    let x = rows-accept n ls f b (a .2) in
-    let p = landmarks-accept n ls (a .3) in
-    let o : Openable n m ls ts hs ws = record {
-      few = size-accept n (a .0) .1;
-      records = t .0;
-      room = room-less (t .0) (lengths-accept ts hs ws (a .1));
-      rules = t .1;
-      landmarks = record { few = p .0; vertices = λ i k. landmark-below n ls i (a .3) k };
-    } in
-    (o, x .0, x .1)
 
 -- ---- the outcome: numbers 1 to 4 alone refuse, since nothing waits after n rounds
 

@@ -11,9 +11,6 @@ Inv-loop n vertices i₀ i = areLandmarks n (drop i vertices) ≡ areLandmarks n
 abbrev μ-loop : tie.MeasureT-loop
 μ-loop n vertices i₀ i = length vertices - i
 
-loop-holds : tie.Need-loop-holds Inv-loop μ-loop
-loop-holds c = refl
-
 returns : tie.Need-returns Inv-loop μ-loop
 returns c =
     let t = c .before .before in
@@ -33,16 +30,13 @@ loop-again c =
     let t = e .before .before in
     landmark-more _ _ (t .before .loop .i) (t .before .loop .inv) (t .loop-test .taken) (e .if1 .left) (sym (c .before .is-in .ensures) ∙ c .if2 .left)
 
-returns-3 : tie.Need-returns-3 Inv-loop μ-loop
-returns-3 c = landmark-none _ _ (c .before .loop .i) (c .before .loop .inv) (c .loop-test .left)
-
 pub are-landmarks-spec : {M : Type 1} → statement M
 are-landmarks-spec =
     tie.close
     (tie.spec
     Inv-loop
     μ-loop
-    loop-holds
+    (λ c. refl)
     (λ c. search needs)
     (λ c. search needs)
     returns
@@ -52,4 +46,4 @@ are-landmarks-spec =
     (λ c. search needs)
     (λ c. search needs)
     loop-again
-    returns-3)
+    (λ c. landmark-none _ _ (c .before .loop .i) (c .before .loop .inv) (c .loop-test .left)))

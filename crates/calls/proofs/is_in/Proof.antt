@@ -11,9 +11,6 @@ Inv-loop v vertices from i₀ i = isIn v (drop i vertices) ≡ isIn v (drop from
 abbrev μ-loop : tie.MeasureT-loop
 μ-loop v vertices from i₀ i = length vertices - i
 
-loop-holds : tie.Need-loop-holds Inv-loop μ-loop
-loop-holds c = refl
-
 returns : tie.Need-returns Inv-loop μ-loop
 returns c =
     let l = c .before .before .before in
@@ -24,20 +21,17 @@ loop-again c =
     let l = c .before .before .before in
     in-more _ _ (l .loop .i) (l .loop .inv) (c .before .before .loop-test .taken) (c .if1 .left)
 
-returns-2 : tie.Need-returns-2 Inv-loop μ-loop
-returns-2 c = in-none _ _ (c .before .loop .i) (c .before .loop .inv) (c .loop-test .left)
-
 pub is-in-spec : {M : Type 1} → statement M
 is-in-spec =
     tie.close
     (tie.spec
     Inv-loop
     μ-loop
-    loop-holds
+    (λ c. refl)
     (λ c. search needs)
     (λ c. search needs)
     returns
     (λ c. search needs)
     (λ c. search needs)
     loop-again
-    returns-2)
+    (λ c. in-none _ _ (c .before .loop .i) (c .before .loop .inv) (c .loop-test .left)))

@@ -5,9 +5,6 @@ use Rattle.graph.proofs.Judging.{lengths-accept, then-refused, then-judged, fin
 use Rattle.calls.proofs.judge_all.Statement.{statement}
 use Rattle.calls.proofs.judge_all.Tie as tie
 
-returns : tie.Need-returns
-returns c = then-refused _ _ _ _ _ (c .before .before .judge-size .ensures) (c .enum-told2 .given .1)
-
 returns-2 : tie.Need-returns-2
 returns-2 c =
     let l = c .before .before in
@@ -34,7 +31,7 @@ judge-all-spec =
     (λ c κs. search needs)
     (λ c. search needs)
     (λ c. search needs)
-    returns
+    (λ c. then-refused _ _ _ _ _ (c .before .before .judge-size .ensures) (c .enum-told2 .given .1))
     (λ c κs. search needs)
     (λ c. search needs)
     (λ c. search needs)

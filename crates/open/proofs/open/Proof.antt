@@ -4,7 +4,8 @@ use Rattle.graph.proofs.Judging.{fine-accept}
 use Rattle.graph.specs.Refusal.{accept}
 use Rattle.network.specs.Network.{rowCount, faults}
 use Rattle.calls.specs.Code.{network, Openable}
-use Rattle.open.proofs.Opening.{open-accept, open-refused, open-written}
+use Rattle.calls.proofs.Judging.{network-accept}
+use Rattle.open.proofs.Opening.{open-refused, open-written}
 use Rattle.open.proofs.open.Statement.{statement}
 use Rattle.open.proofs.open.Tie as tie
 
@@ -22,7 +23,7 @@ sound : (c : tie.After-enum-told) → let g = begin (c .before .before) .args in
     × (rowCount (g .landmarks .now) * g .n ≤ length (g .forward .now)) × (rowCount (g .landmarks .now) * g .n ≤ length (g .backward .now))
 sound c =
     let g = begin (c .before .before) .args in
-    open-accept (g .n) (g .landmarks .now) (g .tails .now) (g .heads .now) (g .weights .now) (g .forward .now) (g .backward .now) (g .count) (fine c)
+    network-accept (g .n) (g .landmarks .now) (g .tails .now) (g .heads .now) (g .weights .now) (g .count) (g .forward .now) (g .backward .now) (fine c)
 
 returns : tie.Need-returns
 returns c =

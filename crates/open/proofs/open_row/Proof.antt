@@ -4,9 +4,6 @@ use Rattle.open.proofs.Opening.{row-settled}
 use Rattle.open.proofs.open_row.Statement.{statement}
 use Rattle.open.proofs.open_row.Tie as tie
 
-cast-s : tie.Need-cast-s
-cast-s c = omega (arith, c .shared-slice-known3 .given (c .before .row-landmark .result))
-
 open-row-requires : tie.Need-open-row-requires
 open-row-requires c κs =
     let i = c .before .before .before in
@@ -30,7 +27,7 @@ open-row-spec =
     (λ c κs. search needs)
     (λ c. search needs)
     (λ c. search needs)
-    cast-s
+    (λ c. omega (arith, c .shared-slice-known3 .given (c .before .row-landmark .result)))
     open-row-requires
     (λ c κs. search needs)
     (λ c. search needs)

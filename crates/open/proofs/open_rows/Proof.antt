@@ -35,18 +35,6 @@ loop-holds c =
     let g = c .before .before .before .before .args in
     (λ es o. over-none (openRow (g .n) (g .landmarks .now) es) (g .out .now), omega arith, refl)
 
-mul-start : tie.Need-mul-start Inv-loop μ-loop
-mul-start c = omega (arith, within c)
-
-add-end : tie.Need-add-end Inv-loop μ-loop
-add-end c = omega (arith, within c)
-
-mul-open-row : tie.Need-mul-open-row Inv-loop μ-loop
-mul-open-row c = omega (arith, within (c .before))
-
-part-open-row-end : tie.Need-part-open-row-end Inv-loop μ-loop
-part-open-row-end c = omega (arith, within (c .before))
-
 open-row-requires : tie.Need-open-row-requires Inv-loop μ-loop
 open-row-requires c κs =
     let l = c .before .before .before in
@@ -55,9 +43,6 @@ open-row-requires c κs =
 
 add-r : tie.Need-add-r Inv-loop μ-loop
 add-r c = omega (arith, begin (c .before .before .before .before .before .before) .pre .0 .1 .few, c .before .before .before .before .before .loop-test .taken)
-
-loop-less : tie.Need-loop-less Inv-loop μ-loop
-loop-less c = omega (arith, c .before .before .before .before .before .loop-test .taken)
 
 loop-again : tie.Need-loop-again Inv-loop μ-loop
 loop-again c =
@@ -72,9 +57,6 @@ loop-again c =
       omega (arith, t .loop-test .taken),
       same-len-mid a (a + g .n - a) (l .loop .out) part size ∙ l .loop .inv .2,
     )
-
-same-length : tie.Need-same-length Inv-loop μ-loop
-same-length c = c .before .loop .inv .2
 
 returns : tie.Need-returns Inv-loop μ-loop
 returns c =
@@ -92,15 +74,15 @@ open-rows-spec =
     (λ c. search needs)
     (λ c κs. search needs)
     loop-holds
-    mul-start
-    add-end
-    mul-open-row
+    (λ c. omega (arith, within c))
+    (λ c. omega (arith, within c))
+    (λ c. omega (arith, within (c .before)))
     (λ c. omega arith)
     (λ c. omega arith)
-    part-open-row-end
+    (λ c. omega (arith, within (c .before)))
     open-row-requires
     add-r
-    loop-less
+    (λ c. omega (arith, c .before .before .before .before .before .loop-test .taken))
     loop-again
-    same-length
+    (λ c. c .before .loop .inv .2)
     returns)

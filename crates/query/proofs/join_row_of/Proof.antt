@@ -15,9 +15,6 @@ Inv-loop p b at forward out₀ t₀ out t =
 abbrev μ-loop : tie.MeasureT-loop
 μ-loop p b at forward out₀ t₀ out t = length out₀ - t
 
-loop-holds : tie.Need-loop-holds Inv-loop μ-loop
-loop-holds c = ((λ j l. absurd (omega arith)), (λ j l. refl), refl, omega arith)
-
 loop-again : tie.Need-loop-again Inv-loop μ-loop
 loop-again c =
     let l = c .before .before .before .before .before in
@@ -34,16 +31,13 @@ loop-again c =
       omega arith,
     )
 
-returns : tie.Need-returns Inv-loop μ-loop
-returns c = λ t l. c .before .loop .inv .0 t (omega arith)
-
 pub join-row-of-spec : {M : Type 1} → statement M
 join-row-of-spec =
     tie.close
     (tie.spec
     Inv-loop
     μ-loop
-    loop-holds
+    (λ c. ((λ j l. absurd (omega arith)), (λ j l. refl), refl, omega arith))
     (λ c. search needs)
     (λ c. search needs)
     (λ c. search needs)
@@ -57,4 +51,4 @@ join-row-of-spec =
     (λ c. search needs)
     loop-again
     (λ c. search needs)
-    returns)
+    (λ c. λ t l. c .before .loop .inv .0 t (omega arith)))

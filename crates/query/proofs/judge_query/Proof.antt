@@ -6,9 +6,6 @@ use Rattle.query.proofs.AskingFaults.{faults-flat}
 use Rattle.query.proofs.judge_query.Statement.{statement}
 use Rattle.query.proofs.judge_query.Tie as tie
 
-returns : tie.Need-returns
-returns c = then-refused _ _ _ _ _ (c .before .before .judge-sizes .ensures) (c .enum-told2 .given .1) ∙ faults-flat _ _ _ _ _ _
-
 returns-2 : tie.Need-returns-2
 returns-2 c =
     let l = c .before .before in
@@ -57,7 +54,7 @@ judge-query-spec =
     (λ c κs. search needs)
     (λ c. search needs)
     (λ c. search needs)
-    returns
+    (λ c. then-refused _ _ _ _ _ (c .before .before .judge-sizes .ensures) (c .enum-told2 .given .1) ∙ faults-flat _ _ _ _ _ _)
     (λ c κs. search needs)
     (λ c. search needs)
     (λ c. search needs)

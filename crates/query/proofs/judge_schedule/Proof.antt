@@ -11,9 +11,6 @@ Inv-loop n schedule i₀ i = (scheduled n i (drop i schedule) ≡ scheduled n 0 
 abbrev μ-loop : tie.MeasureT-loop
 μ-loop n schedule i₀ i = length schedule - i
 
-loop-holds : tie.Need-loop-holds Inv-loop μ-loop
-loop-holds c = (refl, omega arith)
-
 returns : tie.Need-returns Inv-loop μ-loop
 returns c =
     let l = c .before .before .before in
@@ -35,7 +32,7 @@ judge-schedule-spec =
     (tie.spec
     Inv-loop
     μ-loop
-    loop-holds
+    (λ c. (refl, omega arith))
     (λ c. search needs)
     (λ c. search needs)
     returns

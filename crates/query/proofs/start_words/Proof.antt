@@ -46,18 +46,6 @@ inside c =
     let z = row-within (a .n) (b .loop .i - 1) (a .p) (length (a .landmarks .now)) (length (a .forward .now)) (omega arith) (h .first) (h .last) (h .forward) in
     (omega (arith, c .row-start .ensures), omega (arith, c .row-start .ensures))
 
-add-join-row : tie.Need-add-join-row Inv-loop μ-loop
-add-join-row c = let h = inside c in omega (arith, start (c .before .before) .pre .1 .source)
-
-mul-join-row : tie.Need-mul-join-row Inv-loop μ-loop
-mul-join-row c = let h = inside c in omega (arith, start (c .before .before) .pre .1 .source)
-
-shared-slice-read-join-row : tie.Need-shared-slice-read-join-row Inv-loop μ-loop
-shared-slice-read-join-row c = let h = inside (c .before) in omega (arith, start (c .before .before .before) .pre .1 .source)
-
-join-row-requires : tie.Need-join-row-requires Inv-loop μ-loop
-join-row-requires c κs = let h = inside (c .before .before) in let l = c .before .before .before .before in omega (arith, h .1, l .loop .inv .1)
-
 loop-again : tie.Need-loop-again Inv-loop μ-loop
 loop-again c =
     let j = c .before .before in
@@ -108,10 +96,10 @@ start-words-spec =
     loop-holds
     (λ c. search needs)
     (λ c κs. search needs)
-    add-join-row
-    mul-join-row
-    shared-slice-read-join-row
-    join-row-requires
+    (λ c. let h = inside c in omega (arith, start (c .before .before) .pre .1 .source))
+    (λ c. let h = inside c in omega (arith, start (c .before .before) .pre .1 .source))
+    (λ c. let h = inside (c .before) in omega (arith, start (c .before .before .before) .pre .1 .source))
+    (λ c κs. let h = inside (c .before .before) in let l = c .before .before .before .before in omega (arith, h .1, l .loop .inv .1))
     (λ c. search needs)
     loop-again
     (λ c κs. search needs)

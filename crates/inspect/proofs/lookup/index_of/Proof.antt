@@ -11,9 +11,6 @@ Inv-loop v vertices i₀ i = i + indexOf v (drop i vertices) ≡ indexOf v verti
 abbrev μ-loop : tie.MeasureT-loop
 μ-loop v vertices i₀ i = length vertices - i
 
-loop-holds : tie.Need-loop-holds Inv-loop μ-loop
-loop-holds c = zero-add _
-
 returns : tie.Need-returns Inv-loop μ-loop
 returns c =
     let t = c .before .before in
@@ -24,20 +21,17 @@ loop-again c =
     let t = c .before .before in
     index-more _ _ (t .before .loop .i) (t .before .loop .inv) (t .loop-test .taken) (c .if1 .left)
 
-returns-2 : tie.Need-returns-2 Inv-loop μ-loop
-returns-2 c = index-none _ _ (c .before .loop .i) (c .before .loop .inv) (c .loop-test .left)
-
 pub index-of-spec : {M : Type 1} → statement M
 index-of-spec =
     tie.close
     (tie.spec
     Inv-loop
     μ-loop
-    loop-holds
+    (λ c. zero-add _)
     (λ c. search needs)
     (λ c. search needs)
     returns
     (λ c. search needs)
     (λ c. search needs)
     loop-again
-    returns-2)
+    (λ c. index-none _ _ (c .before .loop .i) (c .before .loop .inv) (c .loop-test .left)))

@@ -1,8 +1,8 @@
 -- `inspect::lookup::row` meets its contract. Assumes nothing.
-use Rattle.property.proofs.Basics.{needs, arith, _≡_, ap, _∙_, ℕ, _+_, _*_, _≤_, length}
+use Rattle.property.proofs.Basics.{needs, arith, _≡_, ap, _∙_, true, false, ℕ, _+_, _*_, _≤_, length, eq-eqb, ne-eqb}
 use Rattle.network.specs.Query.{rowAt}
 use Rattle.network.specs.Lookup.{indexOf}
-use Rattle.inspect.proofs.LookupLaws.{Shown, lookup-accept, row-refused, row-forward, row-backward, part-refused, part-forward, part-backward}
+use Rattle.inspect.proofs.LookupLaws.{Shown, lookup-accept, row-refused, part-refused, row-shown}
 use Rattle.inspect.proofs.lookup.row.Statement.{statement}
 use Rattle.inspect.proofs.lookup.row.Tie as tie
 
@@ -40,36 +40,21 @@ row-start-requires c κs =
     let s = shown (c .before) in
     (s .first, s .last, s .few, omega (arith, s .listed, c .index-of .ensures))
 
-add-end : tie.Need-add-end
-add-end c = omega (arith, lies c)
-
-mul-result : tie.Need-mul-result
-mul-result c = omega (arith, lies (c .before))
-
-part-result-end-2 : tie.Need-part-result-end-2
-part-result-end-2 c = lies (c .before) .forward
-
 returns-2 : tie.Need-returns-2
 returns-2 c =
     let s = c .before .before in
     let n = s .before .before in
     let a = start n .args in
-    let at = lies s .at in
-    (row-forward _ _ _ _ _ _ _ _ (n .before .before .row-number .ensures) (n .enum-told .given .1) (s .row-start .result) at (c .before .if1 .taken), part-forward (a .n) (a .landmarks .now) (a .forward .now) (a .backward .now) (a .side) (a .landmark) (a .property) (s .row-start .result) at (a .forward .ptr) (a .backward .ptr) (c .before .if1 .taken))
-
-mul-result-2 : tie.Need-mul-result-2
-mul-result-2 c = omega (arith, lies (c .before))
-
-part-result-end-3 : tie.Need-part-result-end-3
-part-result-end-3 c = lies (c .before) .backward
+    row-shown (a .n) (a .landmarks .now) (a .forward .now) (a .backward .now) (a .side) (a .landmark) (a .property) _ (n .before .before .row-number .ensures) (n .enum-told .given .1)
+    (s .row-start .result) (lies s .at) (a .forward .ptr) (a .backward .ptr) true (eq-eqb _ _ (c .before .if1 .taken))
 
 returns-3 : tie.Need-returns-3
 returns-3 c =
     let s = c .before .before in
     let n = s .before .before in
     let a = start n .args in
-    let at = lies s .at in
-    (row-backward _ _ _ _ _ _ _ _ (n .before .before .row-number .ensures) (n .enum-told .given .1) (s .row-start .result) at (c .before .if1 .left), part-backward (a .n) (a .landmarks .now) (a .forward .now) (a .backward .now) (a .side) (a .landmark) (a .property) (s .row-start .result) at (a .forward .ptr) (a .backward .ptr) (c .before .if1 .left))
+    row-shown (a .n) (a .landmarks .now) (a .forward .now) (a .backward .now) (a .side) (a .landmark) (a .property) _ (n .before .before .row-number .ensures) (n .enum-told .given .1)
+    (s .row-start .result) (lies s .at) (a .forward .ptr) (a .backward .ptr) false (ne-eqb _ _ (c .before .if1 .left))
 
 pub row-spec : {M : Type 1} → statement M
 row-spec =
@@ -84,14 +69,14 @@ row-spec =
     returns
     (λ c κs. search needs)
     row-start-requires
-    add-end
-    mul-result
+    (λ c. omega (arith, lies c))
+    (λ c. omega (arith, lies (c .before)))
     (λ c. search needs)
     (λ c. search needs)
-    part-result-end-2
+    (λ c. lies (c .before) .forward)
     returns-2
-    mul-result-2
+    (λ c. omega (arith, lies (c .before)))
     (λ c. search needs)
     (λ c. search needs)
-    part-result-end-3
+    (λ c. lies (c .before) .backward)
     returns-3)

@@ -28,9 +28,6 @@ listed : (c : tie.After-enum-told5) (r : Judged) (w : Verdict) → told r ≡ w 
     told r ≡ (size (a .n) ▷ shortRows (a .n) (a .landmarks .now) (rowLists (a .forward .now) (a .backward .now)) ▷ landmarks (a .n) (a .landmarks .now) ▷ w)
 listed c r w e = spaced (c .before .before .before) r _ (then-judged _ r _ w (c .before .before .judge-landmarks .ensures) (c .enum-told5 .given .1) e)
 
-returns : tie.Need-returns
-returns c = number-told _ _ _ _ _ _ _ _ (then-refused _ _ _ _ _ (c .before .before .judge-size .ensures) (c .enum-told2 .given .1))
-
 returns-2 : tie.Need-returns-2
 returns-2 c =
     let r = c .before .before in
@@ -60,7 +57,7 @@ row-number-spec =
     (λ c κs. search needs)
     (λ c. search needs)
     (λ c. search needs)
-    returns
+    (λ c. number-told _ _ _ _ _ _ _ _ (then-refused _ _ _ _ _ (c .before .before .judge-size .ensures) (c .enum-told2 .given .1)))
     (λ c κs. search needs)
     (λ c. search needs)
     (λ c. search needs)

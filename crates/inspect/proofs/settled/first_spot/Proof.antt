@@ -1,13 +1,13 @@
 -- `inspect::settled::first_spot` meets its contract: each loop's invariant says that what is left from here on gives the whole
 -- check. Assumes nothing.
-use Rattle.property.proofs.Basics.{needs, arith, _+_, _-_, _<_, _≤_, _≡_, refl, sym, _∙_, cond, List, ℕ, drop, eqb}
+use Rattle.property.proofs.Basics.{needs, arith, _+_, _-_, _*_, _<_, _≤_, _≡_, refl, sym, _∙_, cond, List, ℕ, length, drop, eqb}
 use Rattle.graph.specs.Edge.{edges, range}
-use Rattle.graph.proofs.Records.{room-less}
+use Rattle.graph.proofs.Own.{tails-below, heads-below}
 use Rattle.inspect.specs.declared.Checked.the-variants as checked
 use Rattle.network.specs.Network.{row, rowCount, propertyOf}
 use Rattle.network.specs.Settled.{Check, check, inRecords, inRows}
-use Rattle.calls.specs.Code.{network}
-use Rattle.calls.proofs.Judging.{Accepted, network-accept}
+use Rattle.calls.specs.Code.{network, Openable}
+use Rattle.calls.proofs.Judging.{network-accept}
 use Rattle.inspect.proofs.Checking.{edgesOn, records-more, records-found, records-none, rows-more, rows-none, inSides, sides-all, sides-more, sides-none, checking-found, checking-settled}
 use Rattle.calls.proofs.Rows.{row-ends}
 use Rattle.inspect.proofs.settled.first_spot.Statement.{statement}
@@ -54,16 +54,11 @@ start c = c .before .before .before .before .before .before .before
 
 accepted : (s : tie.Start Inv-loop2 μ-loop2 Inv-loop μ-loop Inv-sides μ-sides) →
     let a = s .args in
-    Accepted (a .n) (a .landmarks .now) (a .tails .now) (a .heads .now) (a .weights .now) (a .count) (a .forward .now) (a .backward .now)
+    Openable (a .n) (a .count) (a .landmarks .now) (a .tails .now) (a .heads .now) (a .weights .now)
+    × (rowCount (a .landmarks .now) * a .n ≤ length (a .forward .now)) × (rowCount (a .landmarks .now) * a .n ≤ length (a .backward .now))
 accepted s =
     let a = s .args in
     network-accept (a .n) (a .landmarks .now) (a .tails .now) (a .heads .now) (a .weights .now) (a .count) (a .forward .now) (a .backward .now) (s .pre)
-
-mul-rows : tie.Need-mul-rows Inv-loop2 μ-loop2 Inv-loop μ-loop Inv-sides μ-sides
-mul-rows c = omega (arith, accepted (c .before .before .before .before .before .before) .landmarks)
-
-sides-holds : tie.Need-sides-holds Inv-loop2 μ-loop2 Inv-loop μ-loop Inv-sides μ-sides
-sides-holds c = (sides-all _ _ _ _ _, omega arith, refl)
 
 loop-holds : tie.Need-loop-holds Inv-loop2 μ-loop2 Inv-loop μ-loop Inv-sides μ-sides
 loop-holds c =
@@ -81,11 +76,15 @@ is-spot-requires c κs =
     let l = c .before .before in
     let s = start (l .before .before .before) in
     let a = accepted s in
+    let o = a .0 in
+    let g = s .args in
     let k : l .before .loop .r < rowCount (s .args .landmarks .now) = l .loop-test .taken in
-    let j : c .before .loop2 .j < s .args .count = c .loop2-test .taken in
-    let r = a .room in (
+    let j : c .before .loop2 .j < g .count = c .loop2-test .taken in
+    let r = o .room in
+    let e = tails-below (g .n) (g .count) (g .tails .now) (g .heads .now) (g .weights .now) r (o .rules) (c .before .loop2 .j) j in
+    let h = heads-below (g .n) (g .count) (g .tails .now) (g .heads .now) (g .weights .now) r (o .rules) (c .before .loop2 .j) j in (
       (omega arith, omega arith, omega arith),
-      (a .ends (c .before .loop2 .j) j, (row-ends _ _ _ _ k (a .forward), row-ends _ _ _ _ k (a .backward))),
+      ((e, h), (row-ends _ _ _ _ k (a .1), row-ends _ _ _ _ k (a .2))),
     )
 
 loop2-again : tie.Need-loop2-again Inv-loop2 μ-loop2 Inv-loop μ-loop Inv-sides μ-sides
@@ -93,9 +92,8 @@ loop2-again c =
     let b = c .before in
     let t = b .before in
     let l = t .before in
-    let s = start (l .before .before .before .before) in
-    let a = accepted s in (
-      records-more (s .args .tails .now) (s .args .heads .now) (s .args .weights .now) (s .args .count) (room-less (a .count) (a .room)) _ _ _ _ (l .loop2 .j) _ (l .loop2 .inv .0) (t .loop2-test .taken) (sym (b .is-spot .ensures) ∙ c .if1 .left),
+    let s = start (l .before .before .before .before) in (
+      records-more (s .args .tails .now) (s .args .heads .now) (s .args .weights .now) (s .args .count) (accepted s .0 .room) _ _ _ _ (l .loop2 .j) _ (l .loop2 .inv .0) (t .loop2-test .taken) (sym (b .is-spot .ensures) ∙ c .if1 .left),
       omega arith,
       l .loop2 .inv .2,
     )
@@ -104,8 +102,7 @@ loop-again : tie.Need-loop-again Inv-loop2 μ-loop2 Inv-loop μ-loop Inv-sides �
 loop-again c =
     let l = c .before in
     let s = start (l .before .before .before .before) in
-    let a = accepted s in
-    (records-none _ _ _ _ (room-less (a .count) (a .room)) _ _ _ _ (l .loop2 .j) _ (l .loop2 .inv .0) (c .loop2-test .left), omega arith, l .loop2 .inv .2)
+    (records-none _ _ _ _ (accepted s .0 .room) _ _ _ _ (l .loop2 .j) _ (l .loop2 .inv .0) (c .loop2-test .left), omega arith, l .loop2 .inv .2)
 
 sides-again : tie.Need-sides-again Inv-loop2 μ-loop2 Inv-loop μ-loop Inv-sides μ-sides
 sides-again c =
@@ -123,9 +120,8 @@ returns-2 c =
     let t = b .before in
     let l = t .before in
     let s = start (l .before .before .before .before) in
-    let a = accepted s in
     checking-found _ _ _ _
-    (records-found (s .args .tails .now) (s .args .heads .now) (s .args .weights .now) (s .args .count) (room-less (a .count) (a .room)) _ _ _ _ (l .loop2 .j) _ (l .loop2 .inv .0) (t .loop2-test .taken) (sym (b .is-spot .ensures) ∙ c .if1 .taken))
+    (records-found (s .args .tails .now) (s .args .heads .now) (s .args .weights .now) (s .args .count) (accepted s .0 .room) _ _ _ _ (l .loop2 .j) _ (l .loop2 .inv .0) (t .loop2-test .taken) (sym (b .is-spot .ensures) ∙ c .if1 .taken))
 
 pub first-spot-spec : {M : Type 1} → statement M
 first-spot-spec =
@@ -137,8 +133,8 @@ first-spot-spec =
     μ-loop
     Inv-sides
     μ-sides
-    mul-rows
-    sides-holds
+    (λ c. omega (arith, accepted (c .before .before .before .before .before .before) .0 .landmarks .few))
+    (λ c. (sides-all _ _ _ _ _, omega arith, refl))
     loop-holds
     loop2-holds
     is-spot-requires

@@ -1,20 +1,20 @@
 -- `inspect::settled::is_spot` meets its contract. Assumes nothing.
-use Rattle.property.proofs.Basics.{needs, _∙_}
+use Rattle.property.proofs.Basics.{needs, _∙_, true, false, eq-eqb, ne-eqb}
 use Rattle.graph.specs.Code.{edgeAt}
 use Rattle.network.specs.Network.{propertyOf}
-use Rattle.inspect.proofs.Checking.{spot-forward, spot-backward}
+use Rattle.inspect.proofs.Checking.{spot-on}
 use Rattle.inspect.proofs.settled.is_spot.Statement.{statement}
 use Rattle.inspect.proofs.settled.is_spot.Tie as tie
 
 returns : tie.Need-returns
 returns c =
     let a = c .before .before .before .before .before .before .before .before .before .before .args in
-    c .is-relaxable .ensures ∙ spot-forward (a .side) (propertyOf (a .r)) (a .n) (a .r) (a .forward .now) (a .backward .now) (edgeAt (a .tails .now) (a .heads .now) (a .weights .now) (a .j)) (c .before .if1 .taken)
+    c .is-relaxable .ensures ∙ spot-on (a .side) (propertyOf (a .r)) (a .n) (a .r) (a .forward .now) (a .backward .now) (edgeAt (a .tails .now) (a .heads .now) (a .weights .now) (a .j)) true (eq-eqb _ _ (c .before .if1 .taken))
 
 returns-2 : tie.Need-returns-2
 returns-2 c =
     let a = c .before .before .before .before .before .before .before .before .before .before .args in
-    c .is-relaxable2 .ensures ∙ spot-backward (a .side) (propertyOf (a .r)) (a .n) (a .r) (a .forward .now) (a .backward .now) (edgeAt (a .tails .now) (a .heads .now) (a .weights .now) (a .j)) (c .before .if1 .left)
+    c .is-relaxable2 .ensures ∙ spot-on (a .side) (propertyOf (a .r)) (a .n) (a .r) (a .forward .now) (a .backward .now) (edgeAt (a .tails .now) (a .heads .now) (a .weights .now) (a .j)) false (ne-eqb _ _ (c .before .if1 .left))
 
 pub is-spot-spec : {M : Type 1} → statement M
 is-spot-spec =
