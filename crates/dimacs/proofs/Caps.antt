@@ -23,8 +23,8 @@ unfolding scan
 scan-capped c [] v = let e : min (min v c) c ≡ min v c = omega arith in ap (λ (x : ℕ). (x, [])) e
 scan-capped c (b ∷ s) v = by-test (isDigit b)
     (λ e.
-        let w : min (min v c * 10 + (b - 48)) c ≡ min (v * 10 + (b - 48)) c = omega arith in
-        rw e (sym (scan-capped c s (min v c * 10 + (b - 48))) ∙ ap (λ (x : ℕ). capped c (scan x s)) w ∙ scan-capped c s (v * 10 + (b - 48))))
+    let w : min (min v c * 10 + (b - 48)) c ≡ min (v * 10 + (b - 48)) c = omega arith in
+    rw e (sym (scan-capped c s (min v c * 10 + (b - 48))) ∙ ap (λ (x : ℕ). capped c (scan x s)) w ∙ scan-capped c s (v * 10 + (b - 48))))
     (λ e. let w : min (min v c) c ≡ min v c = omega arith in rw e (ap (λ (x : ℕ). (x, b ∷ s)) w))
 
 -- ---- lines
@@ -50,11 +50,11 @@ module _ (c : ℕ) where
   unfolding net.act
   arc-capped l n m es t h w k = either-same (net.takes n m es (edge (min t (c - 1)) (min h (c - 1)) (min w c))) (net.takes n m es (edge t h w))
       (λ p.
-          let s = edge-facts n (edge (min t (c - 1)) (min h (c - 1)) (min w c)) (takes-facts n m es (edge (min t (c - 1)) (min h (c - 1)) (min w c)) p .1) in
-          same (omega (arith, s .tail-below)) (omega (arith, s .head-below)) (omega (arith, s .weight-most)))
+      let s = edge-facts n (edge (min t (c - 1)) (min h (c - 1)) (min w c)) (takes-facts n m es (edge (min t (c - 1)) (min h (c - 1)) (min w c)) p .1) in
+      same (omega (arith, s .tail-below)) (omega (arith, s .head-below)) (omega (arith, s .weight-most)))
       (λ q.
-          let s = edge-facts n (edge t h w) (takes-facts n m es (edge t h w) q .1) in
-          same (omega (arith, s .tail-below)) (omega (arith, s .head-below)) (omega (arith, s .weight-most)))
+      let s = edge-facts n (edge t h w) (takes-facts n m es (edge t h w) q .1) in
+      same (omega (arith, s .tail-below)) (omega (arith, s .head-below)) (omega (arith, s .weight-most)))
       (λ p q. rw (p, q))
     where
       same : min t (c - 1) ≡ t → min h (c - 1) ≡ h → min w c ≡ w

@@ -170,10 +170,10 @@ unfolding acts act opens complete bind
 network-goes-on xs s h = ⊎-elim
     (λ q. rw q record { items = problem 1 0 ∷ []; end = within 1 0 []; reached = refl; completed = refl })
     (λ o.
-        let t = o .taken in
-        let l : length (into tableOrder [] (t .arcs)) ≡ length (t .arcs) = length-sorted tableOrder (t .arcs) in
-        let f : length (t .arcs) ≤ o .m = omega (arith, t .few (omega arith)) in
-        rw (t .state) (fill (o .m - length (t .arcs)) (o .n) (o .m) (into tableOrder [] (t .arcs)) (o .opens) (omega arith)))
+    let t = o .taken in
+    let l : length (into tableOrder [] (t .arcs)) ≡ length (t .arcs) = length-sorted tableOrder (t .arcs) in
+    let f : length (t .arcs) ≤ o .m = omega (arith, t .few (omega arith)) in
+    rw (t .state) (fill (o .m - length (t .arcs)) (o .n) (o .m) (into tableOrder [] (t .arcs)) (o .opens) (omega arith)))
     (opened xs s h)
 
 -- ---- the items of a good text, and no others, lead to a complete state

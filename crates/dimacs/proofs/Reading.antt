@@ -259,12 +259,12 @@ module _ {A S : Type 0} {spell : A → List ℕ} {parse : List ℕ → Option A}
   )
   reading-stops (l ∷ ls) r k s j h = by-option (step parse act complete s l)
       (λ e.
-          let q : _≡_ {A = Read S} (bad (suc k)) (bad j) = sym (reading-none parse act complete l ls r k s e) ∙ h in
-          let w : suc k ≡ j = cc in
-          (0, omega arith, record { inside = omega arith; state = s; reached = refl; dead = λ z. rw e }))
+      let q : _≡_ {A = Read S} (bad (suc k)) (bad j) = sym (reading-none parse act complete l ls r k s e) ∙ h in
+      let w : suc k ≡ j = cc in
+      (0, omega arith, record { inside = omega arith; state = s; reached = refl; dead = λ z. rw e }))
       (λ t e.
-          let (i, p, d) = reading-stops ls r (suc k) t j (sym (reading-some parse act complete l ls r k s t e) ∙ h) in
-          (suc i, omega arith, record { inside = omega (arith, d .inside); state = d .state; reached = rw e (d .reached); dead = λ q. rw e (d .dead (omega arith)) }))
+      let (i, p, d) = reading-stops ls r (suc k) t j (sym (reading-some parse act complete l ls r k s t e) ∙ h) in
+      (suc i, omega arith, record { inside = omega (arith, d .inside); state = d .state; reached = rw e (d .reached); dead = λ q. rw e (d .dead (omega arith)) }))
 
   plains-spelled : (as′ : List A) → Plains (map spell as′)
   plains-spelled [] = tt

@@ -127,9 +127,9 @@ module _ (n : ℕ) where
   sources-go-on pos xs s h = ⊎-elim
       (λ q. rw q record { items = header 0 ∷ []; end = within 0 []; reached = refl; completed = refl })
       (λ o.
-          let t = o .taken in
-          let f : length (t .sources) ≤ o .k = omega (arith, t .few (omega arith)) in
-          rw (t .state) (fill (o .k - length (t .sources)) (o .k) (t .sources) pos (omega arith)))
+      let t = o .taken in
+      let f : length (t .sources) ≤ o .k = omega (arith, t .few (omega arith)) in
+      rw (t .state) (fill (o .k - length (t .sources)) (o .k) (t .sources) pos (omega arith)))
       (opened xs s h)
 
   -- ---- the items of a good file, and no others, lead to a complete state

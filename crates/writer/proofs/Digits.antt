@@ -23,12 +23,12 @@ pad-in zero v h =
     rw (digits-small v (omega arith), e)
 pad-in (suc j) v h = by-test (ltb v 10)
     (λ b.
-        let l : v < 10 = ltb-true v 10 b in
-        let e : v % 10 ≡ v = omega arith in
-        rw (digits-small v l, e))
+    let l : v < 10 = ltb-true v 10 b in
+    let e : v % 10 ≡ v = omega arith in
+    rw (digits-small v l, e))
     (λ b.
-        let l : 10 ≤ v = ltb-false v 10 b in
-        rw (width-big v l, digits-big v l) (ap (λ (x : List ℕ). x ++ ((48 + v % 10) ∷ [])) (pad-in j (v / 10) (omega arith))))
+    let l : 10 ≤ v = ltb-false v 10 b in
+    rw (width-big v l, digits-big v l) (ap (λ (x : List ℕ). x ++ ((48 + v % 10) ∷ [])) (pad-in j (v / 10) (omega arith))))
 
 pub digits-pad : (v : ℕ) → digits v ≡ pad (length (digits v)) v
 digits-pad v = pad-in v v (omega arith)

@@ -1,18 +1,14 @@
 -- The reply of a writing and the buffer after it, in the order of the refusals. Assumes nothing.
-use Rattle.property.proofs.Basics.{_≡_, sym, ap, _∙_, List, ℕ, _≤_, _<_, zero-add, length, ltb, lt-ltb, le-ltb}
-use Rattle.graph.specs.declared.Judged.{Judged}
-use Rattle.graph.specs.declared.Judged.the-variants.{Refused}
-use Rattle.graph.specs.Refusal.{Verdict, accept, refuse, _▷_, refuseIf, replied, choose, over}
+use Rattle.property.proofs.Basics.{_≡_, sym, ap, _∙_, List, ℕ, _≤_, zero-add, length, ltb}
+use Rattle.graph.specs.Refusal.{Verdict, accept, _▷_, refuseIf, over}
 use Rattle.graph.specs.Limits.{maxEdges}
 use Rattle.graph.specs.Table.{Columns, edgesOf, size, shortTable, table}
-use Rattle.graph.specs.Code.{told, Room, columns}
+use Rattle.graph.specs.Code.{Room, columns}
 use Rattle.graph.proofs.Verdicts.{then-accept, then-assoc}
 use Rattle.graph.proofs.Judging.{lengths-accept, table-accept}
 use Rattle.graph.proofs.Records.{room-less}
 use Rattle.dimacs.specs.Network.{written}
-use Rattle.dimacs.specs.Call.{writeCall}
-use Rattle.writer.specs.declared.WriteReply.the-variants as reply
-use Rattle.writer.specs.Code.{laid, Wrote, writing, writeOutcome}
+use Rattle.writer.specs.Code.{laid, Wrote}
 
 -- ---- writing
 
@@ -36,22 +32,10 @@ module _ (n : ℕ) (cs : Columns) (m : ℕ) (out : List ℕ) where
   text = written n (edgesOf cs m)
 
   -- the whole chain, by its value
-  chain : (v : Verdict) → judgedWrite n cs m ≡ v → (size n ▷ shortTable cs ▷ table n cs m ▷ refuseIf (ltb (length out) (length text)) 2 0) ≡ (v ▷ refuseIf (ltb (length out) (length text)) 2 0)
+  pub chain : (v : Verdict) → judgedWrite n cs m ≡ v → (size n ▷ shortTable cs ▷ table n cs m ▷ refuseIf (ltb (length out) (length text)) 2 0) ≡ (v ▷ refuseIf (ltb (length out) (length text)) 2 0)
   chain v e =
       let last = refuseIf (ltb (length out) (length text)) 2 0 in
       sym (then-assoc (size n) (shortTable cs ▷ table n cs m) last ∙ ap (λ (w : Verdict). size n ▷ w) (then-assoc (shortTable cs) (table n cs m) last)) ∙ rw e
-
-  pub write-refused : (j : Judged) (k i : ℕ) → told j ≡ judgedWrite n cs m → j ≡ Refused k i → writeOutcome (reply.Refused k i) out ≡ writeCall n cs m out
-  unfolding writeCall told _▷_ replied choose writing
-  write-refused j k i e q = rw (chain (refuse k i) (sym e ∙ ap told q))
-
-  pub write-short : judgedWrite n cs m ≡ accept → length out < length text → writeOutcome (reply.Refused 2 0) out ≡ writeCall n cs m out
-  unfolding writeCall _▷_ refuseIf replied choose writing
-  write-short e l = rw (chain accept e, lt-ltb (length out) (length text) l)
-
-  pub write-accepted : (k : ℕ) (new : List ℕ) → judgedWrite n cs m ≡ accept → length text ≤ length out → k ≡ length text → new ≡ over text out → writeOutcome (reply.Length k) new ≡ writeCall n cs m out
-  unfolding writeCall _▷_ refuseIf replied choose writing
-  write-accepted k new e l p q = rw (chain accept e, le-ltb (length out) (length text) l, p, q)
 
 pub wrote-over : {text out new : List ℕ} {r : ℕ} → Wrote text 0 out r new → new ≡ over text out
 unfolding laid

@@ -1,9 +1,9 @@
 -- `plate_track::plate_track_row` meets its contract. Assumes nothing.
-use Rattle.property.proofs.Basics.{needs, arith, ap, _∙_, [], _∷_, ℕ, _*_}
+use Rattle.property.proofs.Basics.{needs, arith, ap, _∙_, ℕ, _*_}
 use Rattle.network.specs.Query.{rowAt}
 use Rattle.inspect.proofs.LookupLaws.{Shown, lookup-accept}
 use Rattle.spelling.specs.Code.{oneWord}
-use Rattle.spelling.proofs.Telling.{setAll-over, refused-tells, accepted-tells}
+use Rattle.spelling.proofs.Telling.{refused-tells, stored-tells}
 use Rattle.plate_track.specs.Code.{alone}
 use Rattle.plate_track.proofs.Spelling.{spelled-short, spelled-told}
 use Rattle.plate_track.proofs.Rows.{start-refused, start-shown}
@@ -23,10 +23,9 @@ shown c =
 returns-2 : tie.Need-returns-2
 returns-2 c =
     let o = c .before .before .before in
-    let s = begin o in
     spelled-told oneWord _ _ _ _ (o .before .if1 .left)
     (ap alone (start-refused _ _ _ _ _ _ _ (o .row-number .ensures) _ _ (c .before .r .given .1)))
-    (refused-tells oneWord (s .args .reply .now) (o .before .if1 .left) _ _)
+    (refused-tells oneWord _ (o .before .if1 .left) _ _)
 
 row-start-requires : tie.Need-row-start-requires
 row-start-requires c κs =
@@ -37,12 +36,11 @@ returns-3 : tie.Need-returns-3
 returns-3 c =
     let d = c .before .before in
     let o = d .before .before in
-    let s = begin o in
-    let a = s .args in
+    let a = begin o .args in
     let e = c .row-start .ensures ∙ ap (λ (i : ℕ). rowAt i (a .property) * a .n) (c .before .index-of .ensures) in
     spelled-told oneWord _ _ _ _ (o .before .if1 .left)
     (ap alone (start-shown _ _ _ _ _ _ _ (o .row-number .ensures) _ (d .enum-told .given .1) e))
-    (accepted-tells oneWord (a .reply .now) (o .before .if1 .left) (c .row-start .result) (setAll-over (c .row-start .result ∷ []) (a .reply .now) (omega arith)))
+    (stored-tells oneWord _ (o .before .if1 .left) _ (omega arith))
 
 pub plate-track-row-spec : {M : Type 1} → statement M
 plate-track-row-spec =

@@ -5,11 +5,6 @@ use Rattle.graph.proofs.Lists.{take-replicate}
 use Rattle.listing.proofs.lines.settle_row.Statement.{statement}
 use Rattle.listing.proofs.lines.settle_row.Tie as tie
 
-slice-aggregate-query : tie.Need-slice-aggregate-query
-slice-aggregate-query c =
-    let s = c .before .before .before .before .before .before .before .before .before .before .before .before .before in
-    sym (length-take-le (s .args .n) (replicate maxVertices 0) (s .pre .0))
-
 returns : tie.Need-returns
 returns c =
     let q = c .before .before .before in
@@ -26,7 +21,7 @@ settle-row-spec =
     (λ c. search needs)
     (λ c. search needs)
     (λ c. search needs)
-    slice-aggregate-query
+    (λ c. sym (length-take-le _ (replicate maxVertices 0) (c .before .before .before .before .before .before .before .before .before .before .before .before .before .pre .0)))
     (λ c κs. search needs)
     (λ c. search needs)
     returns)

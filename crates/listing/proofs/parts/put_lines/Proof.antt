@@ -19,12 +19,6 @@ most s = let h = s .pre .1 .bounded in rows-most (s .args .prepared .choice .cou
 rows-fit : (s : tie.Start) (xs : List ℕ) → (RowLists (s .args .forward .now) (s .args .backward .now) → rowWords ≤ length xs) → length (take (cells s) xs) ≡ cells s
 rows-fit s xs h = length-take-le (cells s) xs (omega (arith, most s, h (s .pre .1 .bounded .rows)))
 
-slice-aggregate-put-source : tie.Need-slice-aggregate-put-source
-slice-aggregate-put-source c =
-    let s = c .before .before .before .before .before .before .before .before .before .before in
-    let h = s .pre .1 .bounded in
-    sym (length-take-le (s .args .prepared .choice .count) (s .args .prepared .choice .vertices) (omega (arith, h .landmarks, h .places)))
-
 returns : tie.Need-returns
 returns c =
     let p = c .before .before in
@@ -43,7 +37,7 @@ put-lines-spec =
     (λ c. search needs)
     (λ c. omega (arith, most (c .before .before .before .before .before .before .before .before .before)))
     (λ c. let h = c .before .before .before .before .before .before .before .before .before .pre .1 .bounded in omega (arith, h .landmarks, h .places))
-    slice-aggregate-put-source
+    (λ c. let h = c .before .before .before .before .before .before .before .before .before .before .pre .1 .bounded in sym (length-take-le _ _ (omega (arith, h .landmarks, h .places))))
     (λ c. sym (rows-fit (c .before .before .before .before .before .before .before .before .before .before .before) _ (λ r. r .forward)))
     (λ c. sym (rows-fit (c .before .before .before .before .before .before .before .before .before .before .before .before) _ (λ r. r .backward)))
     (λ c. search needs)

@@ -34,22 +34,6 @@ ahead f = let s = begin (f .before .before .before .before) in omega (arith, mos
 back : (f : tie.After-fill2) → cells (f .before .before .before .before .before .before .before .before) ≤ length (f .fill2 .last .0)
 back f = let s = begin (f .before .before .before .before .before .before .before .before) in omega (arith, most (f .before .before .before .before .before .before .before .before), f .fill2 .kept .0, s .pre .1 .backward)
 
-slice-aggregate-open : tie.Need-slice-aggregate-open
-slice-aggregate-open c =
-    let k = c .before .before .before .before .before .before .before .before .before .before .before in
-    let h = few k in
-    sym (length-take-le (held k) (k .choose-landmarks .result .choice .vertices) (omega (arith, h .0, h .1)))
-
-slice-aggregate-open-2 : tie.Need-slice-aggregate-open-2
-slice-aggregate-open-2 c =
-    let f = c .before .before .before .before .before .before .before .before in
-    sym (length-take-le (cells (f .before .before .before .before)) (f .fill .last .0) (ahead f))
-
-slice-aggregate-open-3 : tie.Need-slice-aggregate-open-3
-slice-aggregate-open-3 c =
-    let f = c .before .before .before .before .before in
-    sym (length-take-le (cells (f .before .before .before .before .before .before .before .before)) (f .fill2 .last .0) (back f))
-
 returns : tie.Need-returns
 returns c =
     let o = c .before .before .before .before in
@@ -80,11 +64,11 @@ open-network-spec =
     (λ c κs. search needs)
     (λ c κs. search needs)
     (λ c. let h = few (c .before .before .before .before .before .before .before .before .before .before) in omega (arith, h .0, h .1))
-    slice-aggregate-open
+    (λ c. let h = few (c .before .before .before .before .before .before .before .before .before .before .before) in sym (length-take-le _ _ (omega (arith, h .0, h .1))))
     (λ c. ahead (c .before .before .before .before .before .before .before))
-    slice-aggregate-open-2
+    (λ c. sym (length-take-le _ _ (ahead (c .before .before .before .before .before .before .before .before))))
     (λ c. back (c .before .before .before .before))
-    slice-aggregate-open-3
+    (λ c. sym (length-take-le _ _ (back (c .before .before .before .before .before))))
     (λ c κs. search needs)
     (λ c. search needs)
     (λ c. search needs)

@@ -1,15 +1,16 @@
 -- `writer::network_text::write_network` meets its contract: judged, measured, and written from the start of the buffer. Assumes nothing.
-use Rattle.property.proofs.Basics.{needs, arith, _≡_, ap, List, _++_, ℕ, _+_, length, length-append}
+use Rattle.property.proofs.Basics.{needs, arith, _≡_, sym, ap, _∙_, List, _++_, ℕ, _+_, length, length-append, lt-ltb, le-ltb}
 use Rattle.graph.proofs.Judging.{fine-accept}
-use Rattle.graph.specs.Refusal.{accept}
+use Rattle.graph.specs.Refusal.{accept, _▷_, refuseIf, replied, choose}
 use Rattle.graph.specs.Edge.{edges}
 use Rattle.graph.specs.Table.{Columns}
-use Rattle.graph.specs.Code.{columns}
+use Rattle.graph.specs.Code.{told, columns}
 use Rattle.dimacs.specs.Network.{written}
-use Rattle.writer.specs.Code.{arcsOf, Fits}
+use Rattle.dimacs.specs.Call.{writeCall}
+use Rattle.writer.specs.Code.{arcsOf, Fits, writing}
 use Rattle.writer.proofs.Laid.{first-fits, second-fits, both-wrote}
 use Rattle.writer.proofs.Text.{problemLine, written-lines}
-use Rattle.writer.proofs.Writing.{judgedWrite, Writable, write-accept, write-refused, write-short, write-accepted, wrote-over}
+use Rattle.writer.proofs.Writing.{judgedWrite, Writable, write-accept, chain, wrote-over}
 use Rattle.writer.proofs.network_text.write_network.Statement.{statement}
 use Rattle.writer.proofs.network_text.write_network.Tie as tie
 
@@ -50,10 +51,11 @@ room : (c : tie.Else1) → let s = begin (c .before .before .before .before .bef
 room c = record { room = omega (arith, whole (c .before)) }
 
 returns : tie.Need-returns
+unfolding writeCall told _▷_ replied choose writing
 returns c =
     let j = c .before .before .before in
     let a = begin j .args in
-    write-refused (a .n) (table (begin j)) (a .count) (a .text .now) _ _ _ (j .judge-write .ensures) (c .before .judged .given .1)
+    rw (chain (a .n) (table (begin j)) (a .count) (a .text .now) _ (sym (j .judge-write .ensures) ∙ ap told (c .before .judged .given .1)))
 
 add-length : tie.Need-add-length
 add-length c =
@@ -61,10 +63,11 @@ add-length c =
     omega (arith, w .count, c .before .problem-width .ensures .1, c .arcs-width .ensures .1)
 
 returns-2 : tie.Need-returns-2
+unfolding writeCall _▷_ refuseIf replied choose writing
 returns-2 c =
     let e = c .before .before .before in
     let s = begin (e .before .before) in
-    write-short (s .args .n) (table s) (s .args .count) (s .args .text .now) (fine e) (omega (arith, whole (c .before)))
+    rw (chain (s .args .n) (table s) (s .args .count) (s .args .text .now) _ (fine e), lt-ltb (length (s .args .text .now)) (length (text s)) (omega (arith, whole (c .before))))
 
 put-arcs-requires : tie.Need-put-arcs-requires
 put-arcs-requires c κs =
@@ -73,6 +76,7 @@ put-arcs-requires c κs =
     (writable e .room, second-fits _ _ (lines e) (room (p .before .before)) (p .put-problem .ensures))
 
 returns-3 : tie.Need-returns-3
+unfolding writeCall _▷_ refuseIf replied choose writing
 returns-3 c =
     let b = c .before .before in
     let p = b .before .before .before .before in
@@ -80,8 +84,12 @@ returns-3 c =
     let e = i .before .before .before in
     let s = begin (e .before .before) in
     let w = whole (i .before) in
-    write-accepted (s .args .n) (table s) (s .args .count) (s .args .text .now) _ _ (fine e) (omega (arith, w)) w
-    (wrote-over (both-wrote _ _ (lines e) (room i) (p .put-problem .ensures) (b .put-arcs .ensures)))
+    rw (
+      chain (s .args .n) (table s) (s .args .count) (s .args .text .now) _ (fine e),
+      le-ltb (length (s .args .text .now)) (length (text s)) (omega (arith, w)),
+      w,
+      wrote-over (both-wrote _ _ (lines e) (room i) (p .put-problem .ensures) (b .put-arcs .ensures)),
+    )
 
 pub write-network-spec : {M : Type 1} → statement M
 write-network-spec =
