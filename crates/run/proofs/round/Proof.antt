@@ -5,21 +5,9 @@ use Rattle.property.proofs.Instances.{property-rest}
 use Rattle.run.proofs.round.Statement.{statement}
 use Rattle.run.proofs.round.Tie as tie
 
-returns : tie.Need-returns
-returns c = rw (c .before .before .before .before .before .match .keys1) (c .before .before .round-of .ensures)
-
-returns-2 : tie.Need-returns-2
-returns-2 c = rw (c .before .before .before .before .before .match .keys2) (c .before .before .round-of2 .ensures)
-
-returns-3 : tie.Need-returns-3
-returns-3 c = rw (c .before .before .before .before .before .match .keys3) (c .before .before .round-of3 .ensures)
-
-returns-4 : tie.Need-returns-4
-returns-4 c = rw (c .before .before .before .before .before .match .keys4) (c .before .before .round-of4 .ensures)
-
-returns-5 : tie.Need-returns-5
+returns : tie.Need-returns-5
 unfolding property
-returns-5 c = rw (property-rest _ (c .before .before .before .before .before .match .rest)) (c .before .before .round-of5 .ensures)
+returns c = rw (property-rest _ (c .before .before .before .before .before .match .rest)) (c .before .before .round-of5 .ensures)
 
 pub round-spec : {M : Type 1} → statement M
 round-spec =
@@ -31,12 +19,12 @@ round-spec =
     (λ c κs. search needs)
     (λ c κs. search needs)
     (λ c. search needs)
-    returns
+    (λ c. rw (c .before .before .before .before .before .match .keys1) (c .before .before .round-of .ensures))
     (λ c. search needs)
-    returns-2
+    (λ c. rw (c .before .before .before .before .before .match .keys2) (c .before .before .round-of2 .ensures))
     (λ c. search needs)
-    returns-3
+    (λ c. rw (c .before .before .before .before .before .match .keys3) (c .before .before .round-of3 .ensures))
     (λ c. search needs)
-    returns-4
+    (λ c. rw (c .before .before .before .before .before .match .keys4) (c .before .before .round-of4 .ensures))
     (λ c. search needs)
-    returns-5)
+    returns)
