@@ -1,6 +1,6 @@
 -- Batches: from best words of the old edges, the prepared row keeps the invariant of runs on the new edges, so its words are best once
 -- nothing waits; and a vertex that is not affected has no worse a word than before. Assumes nothing.
-use Rattle.property.proofs.Basics.{_≡_, refl, sym, _∙_, _⊎_, inl, inr, Bool, true, false, _&&_, _||_, cond, true≢false, List, List·Memᴰ, ℕ, _≤_, _<_, decLt, arith, List·getD-eq-default, eqb, eq-eqb}
+use Rattle.property.proofs.Basics.{_≡_, refl, sym, _∙_, inl, inr, Bool, true, false, _&&_, _||_, cond, true≢false, List, List·Memᴰ, ℕ, _≤_, _<_, decLt, arith, List·getD-eq-default, eqb, eq-eqb}
 use Rattle.property.specs.Property.{Property}
 use Rattle.property.specs.Laws.{Laws}
 use Rattle.frontier.specs.Waiting.{anyOf}

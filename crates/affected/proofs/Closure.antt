@@ -2,7 +2,7 @@
 -- are in it. Assumes nothing.
 --
 --   Closed P es fs s ws ms   == each edge that would mark its head finds it marked
-use Rattle.property.proofs.Basics.{_≡_, refl, sym, ap, _∙_, _≢_, Bool, true, false, not, _||_, cond, List, [], _∷_, foldl, List·Memᴰ, List·Memᴰ·head, List·Memᴰ·tail, ℕ, zero, suc, ℕ-discrete, set, getD-set-other, eqb, eqb-true, eqb-false, ne-eqb, not-true}
+use Rattle.property.proofs.Basics.{_≡_, refl, sym, ap, _∙_, _≢_, Bool, true, false, not, _||_, cond, List, [], _∷_, foldl, List·Memᴰ, List·Memᴰ·head, List·Memᴰ·tail, ℕ, zero, suc, ℕ-discrete, set, getD-set-other, eqb, eqb-false, ne-eqb, not-true}
 use Rattle.property.specs.Property.{Property}
 use Rattle.graph.specs.Edge.{Edge}
 use Rattle.graph.proofs.Tests.{both, and-true, or-right}

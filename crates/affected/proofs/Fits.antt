@@ -1,5 +1,5 @@
 -- The rounds of a batch start from words of 32 bits, whatever words the row held. Assumes nothing.
-use Rattle.property.proofs.Basics.{_≡_, cond, List, ℕ, _≤_, _<_}
+use Rattle.property.proofs.Basics.{cond, List, ℕ, _≤_}
 use Rattle.property.specs.Property.{M, Property}
 use Rattle.property.specs.Laws.{Laws}
 use Rattle.graph.specs.Edge.{Edge}

@@ -1,7 +1,7 @@
 -- Sweeps come to rest, and where they rest the marks are exactly the closure. Assumes nothing.
 --
 --   Swept xs ms ls   == ls, the marks after edges xs were gone over from ms, are those before and closed, or they are more
-use Rattle.property.proofs.Basics.{_≡_, refl, sym, ap, _∙_, _↔_, _⊎_, inl, inr, ⊎-elim, _≢_, Bool, true, false, cond, true≢false, false≢true, List, [], _∷_, foldl, List·Memᴰ, List·Memᴰ·head, List·Memᴰ·tail, List·Memᴰ·cases-cons, List·Memᴰ·not-nil, ℕ, zero, suc, _+_, _≤_, _<_, arith, length, set, replicate, length-set, length-replicate, ext-getD, eqb-true, not-false}
+use Rattle.property.proofs.Basics.{_≡_, refl, sym, ap, _∙_, _↔_, _⊎_, inl, inr, ⊎-elim, _≢_, Bool, true, false, cond, true≢false, false≢true, List, [], _∷_, foldl, List·Memᴰ, List·Memᴰ·head, List·Memᴰ·tail, List·Memᴰ·cases-cons, List·Memᴰ·not-nil, ℕ, zero, suc, _+_, _≤_, _<_, arith, length, set, replicate, length-set, length-replicate, ext-getD, not-false}
 use mathlib.Core.List.{List·Memᴰ·eq-of-singleton}
 use lib.Seq.{set-getD}
 use Rattle.property.specs.Property.{Property}

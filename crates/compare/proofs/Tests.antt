@@ -1,10 +1,6 @@
 -- Tests put together by `&&`, beyond those of the crate graph. Assumes nothing.
 use Rattle.property.proofs.Basics.{_≡_, refl, Bool, true, false, _&&_}
 
-pub and-off : (a b : Bool) → b ≡ false → (a && b) ≡ false
-and-off true b h = h
-and-off false b h = refl
-
 pub and-swap : (a b c : Bool) → (a && (b && c)) ≡ (b && (a && c))
 and-swap true true c = refl
 and-swap true false c = refl

@@ -1,5 +1,5 @@
 -- Copies and fills of lists of words: turns of their loops, and what a copy to the front of a list brings. Assumes nothing.
-use Rattle.property.proofs.Basics.{_≡_, ap, _∙_, List, append-nil, ℕ, _+_, _<_, _≤_, zero-add, add-one, arith, length, set, getD, take, replicate, replicate-append-replicate, drop-of-length-le, paste, take-suc-set, take-all, length-take-le}
+use Rattle.property.proofs.Basics.{_≡_, ap, _∙_, List, ℕ, _+_, _<_, _≤_, zero-add, add-one, arith, length, set, getD, take, replicate, replicate-append-replicate, paste, take-suc-set, take-all, length-take-le}
 use lib.Seq.{paste-suc}
 use Rattle.graph.specs.Refusal.{over}
 
@@ -21,6 +21,3 @@ paste-front m new old l = rw (zero-add, length-take-le m new l)
 
 pub paste-over : (d s : List ℕ) (k : ℕ) → length s ≡ k → paste d 0 s k ≡ over s d
 paste-over d s k e = paste-front k s d (omega arith) ∙ ap (λ (l : List ℕ). over l d) (take-all k s (omega arith))
-
-pub paste-whole : (d s : List ℕ) (k : ℕ) → length d ≡ k → length s ≡ k → paste d 0 s k ≡ s
-paste-whole d s k e f = paste-over d s k f ∙ rw (drop-of-length-le d {i = length s} (omega arith)) (append-nil s)

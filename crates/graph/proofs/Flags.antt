@@ -1,13 +1,7 @@
--- The flags of `&&` and `||` in code: what is known of one where the arms meet. Assumes nothing.
-use Rattle.property.proofs.Basics.{_≡_, refl, Bool, true, false, _&&_, _||_}
+-- The flags of `||` in code: what is known of one where the arms meet. Assumes nothing.
+use Rattle.property.proofs.Basics.{_≡_, refl, Bool, true, false, _||_}
 
 module _ (a b : Bool) where
-  pub and-taken : a ≡ true → b ≡ (a && b)
-  and-taken e = rw e
-
-  pub and-left : a ≡ false → a ≡ (a && b)
-  and-left e = rw e
-
   pub or-taken : a ≡ true → a ≡ (a || b)
   or-taken e = rw e
 

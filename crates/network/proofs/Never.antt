@@ -4,7 +4,7 @@
 --   openNumber k          == k is 1 to 4
 --   batchNumber k         == k is 1, or 6 to 12
 --   queryNumber k         == k is 1, 2, 5 or 6
-use Rattle.property.proofs.Basics.{_≡_, refl, sym, _∙_, Bool, true, false, _&&_, _||_, true≢false, subst, List, [], _∷_, map, List·Memᴰ, ℕ, suc, _+_, _*_, _≤_, _<_, decLt, arith, length, getD, drop, List·getD-eq-default, length-take, length-drop, getD-take, getD-drop, leb, eqb}
+use Rattle.property.proofs.Basics.{_≡_, refl, sym, _∙_, Bool, true, false, _&&_, _||_, true≢false, subst, List, [], _∷_, map, List·Memᴰ, ℕ, zero, suc, _*_, _≤_, length, getD, take, drop, getD-drop, leb, eqb}
 use mathlib.Core.List.{Memᴰ·of-map}
 use Rattle.property.specs.Property.{M, property}
 use Rattle.property.proofs.Instances.{property-laws}
@@ -16,7 +16,6 @@ use Rattle.graph.specs.Sorted as order
 use Rattle.graph.proofs.Tests.{or-false}
 use Rattle.graph.proofs.Verdicts.{accept-then, accept-if, then-same, then-last, verdict-replied}
 use Rattle.graph.proofs.Order.{within}
-use Rattle.graph.proofs.Lists.{getD-within}
 use Rattle.run.specs.Run.{word}
 use Rattle.run.specs.Start.{Landmark}
 use Rattle.theory.proofs.Fits.{Told}
@@ -58,16 +57,15 @@ batch-judged n ls w b g = (steps n ls w b g) .applied .judged
 abbrev pub FitList : List ℕ → Type 0
 FitList xs = (i : ℕ) → getD xs i 0 ≤ M
 
--- .. and so does each that is read of a row of it, no route included
-row-fits : (p n r : ℕ) (xs : List ℕ) → FitList xs → (t : ℕ) → word (property p) (row n r xs) t ≤ M
-row-fits p n r xs h t = pick (decLt t (length (row n r xs)))
-  where
-    pick : Dec (t < length (row n r xs)) → word (property p) (row n r xs) t ≤ M
-    pick (no d) = rw (List·getD-eq-default (row n r xs) (property p .none) {n = t} (omega arith)) (property-laws p .none-fits)
-    pick (yes l) =
-        let z : (t < n) × (r * n + t < length xs) = let e = length-take n (drop (r * n) xs) in let g = length-drop (r * n) xs in (omega arith, omega arith) in
-        rw (getD-take n (drop (r * n) xs) t (property p .none) (z .0), getD-drop (r * n) xs t (property p .none), getD-within xs (r * n + t) (property p .none) 0 (z .1))
-        (h (r * n + t))
+-- .. and so does each that is read of a part of it, past its end too
+take-fits : (n : ℕ) (xs : List ℕ) (t d : ℕ) → d ≤ M → FitList xs → getD (take n xs) t d ≤ M
+take-fits zero xs t d h k = h
+take-fits (suc n) [] t d h k = h
+take-fits (suc n) (x ∷ xs) zero d h k = k 0
+take-fits (suc n) (x ∷ xs) (suc t) d h k = take-fits n xs t d h (λ i. k (suc i))
+
+pub row-fits : (p n r : ℕ) (xs : List ℕ) → FitList xs → (t : ℕ) → word (property p) (row n r xs) t ≤ M
+row-fits p n r xs h t = take-fits n (drop (r * n) xs) t _ (property-laws p .none-fits) (λ i. rw (getD-drop (r * n) xs i 0) (h _))
 
 -- A query on whatever words of 32 bits the row lists hold is turned back by the numbers before the run alone: nothing waits after n rounds.
 pub query-verdict : (n : ℕ) (ls : List ℕ) (w : Network) (q : Query) (out : Words) → FitList (w .memory .rows .forward) → FitList (w .memory .rows .backward)

@@ -1,13 +1,12 @@
 -- What a batch reports as affected is how many vertices the closure names, and what it reports as stores is what its runs store, row by row.
 -- Assumes nothing.
-use Rattle.property.proofs.Basics.{_≡_, refl, sym, ap, _∙_, subst, _↔_, _⊎_, inl, inr, Bool, true, false, not, _&&_, _||_, cond, true≢false, false≢true, List, [], _∷_, map, List·Memᴰ, ℕ, suc, _+_, _<_, add-zero, zero-add, arith, length, getD, eqb, eqb-true, eq-eqb, not-true}
+use Rattle.property.proofs.Basics.{_≡_, refl, sym, _∙_, subst, _↔_, _⊎_, inl, inr, Bool, true, false, _&&_, _||_, cond, false≢true, List, [], _∷_, map, List·Memᴰ, ℕ, suc, _+_, _<_, add-zero, zero-add, arith, length, getD, eqb, eqb-true, eq-eqb}
 use Rattle.property.specs.Property.{Property}
 use Rattle.frontier.specs.Waiting.{anyOf, countOf}
-use Rattle.graph.specs.Edge.{Edge, exists, among, range}
-use Rattle.property.proofs.Tests.{is-false}
+use Rattle.graph.specs.Edge.{Edge, exists, range}
 use Rattle.graph.proofs.Tests.{and-true, both, neither, or-right}
 use Rattle.graph.proofs.Lists.{length-table, table-at}
-use Rattle.graph.proofs.Edges.{true-exists, exists-true, among-mem, mem-among}
+use Rattle.graph.proofs.Edges.{true-exists, exists-true}
 use Rattle.run.specs.Run.{word}
 use Rattle.graph.proofs.Order.{Within}
 use Rattle.theory.proofs.Rounds.{settle-all}

@@ -1,14 +1,14 @@
 -- The claims of specs/Steady.antt. Assumes nothing.
-use Rattle.property.proofs.Basics.{_≡_, refl, sym, ap, _∙_, Bool, true, false, not, _&&_, _||_, cond, true≢false, false≢true, List, [], _∷_, _++_, map, List·Memᴰ, List·Memᴰ·head, List·Memᴰ·tail, ℕ, zero, suc, _+_, _*_, _%_, _≤_, _<_, zero-mul, suc-mul, mul-le-mul-right, arith, length, getD, take, drop, length-drop, take-append-drop, length-take-le, take-add, drop-drop, ext-getD, ltb, eqb, eq-eqb, ltb-false}
+use Rattle.property.proofs.Basics.{_≡_, refl, sym, ap, _∙_, Bool, false, not, _&&_, _||_, cond, true≢false, false≢true, List, [], _∷_, _++_, map, List·Memᴰ, List·Memᴰ·head, List·Memᴰ·tail, ℕ, zero, suc, _+_, _*_, _%_, _≤_, _<_, zero-mul, suc-mul, mul-le-mul-right, arith, length, getD, take, drop, length-drop, take-append-drop, length-take-le, take-add, drop-drop, ext-getD, ltb, eqb, ltb-false}
 use Rattle.property.specs.Property.{Property, properties}
 use Rattle.property.proofs.Tests.{is-false}
 use Rattle.property.proofs.Instances.{property-laws}
 use Rattle.frontier.specs.Waiting.{anyOf, countOf}
 use Rattle.frontier.proofs.Laws.{count-none, none-any}
 use Rattle.graph.specs.Refusal.{accept, _▷_, refuseIf, accepted, replied, over}
-use Rattle.graph.specs.Edge.{Edge, reverse, range, exists, same, among}
+use Rattle.graph.specs.Edge.{Edge, reverse, range, exists}
 use Rattle.graph.specs.Table.{size, shortTable, table}
-use Rattle.graph.proofs.Tests.{and-true, both, neither, or-false}
+use Rattle.graph.proofs.Tests.{both, neither, or-false}
 use Rattle.graph.proofs.Lists.{length-table, table-at, range-below}
 use Rattle.graph.proofs.Edges.{exists-true, mem-among}
 use Rattle.graph.proofs.Verdicts.{accept-then, if-accept, accept-if, outcome-accepted}

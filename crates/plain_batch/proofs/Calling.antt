@@ -1,5 +1,5 @@
 -- A batch as a call: numbers 1 to 4, then its changes, then number 13, and what is lent. Assumes nothing.
-use Rattle.property.proofs.Basics.{_≡_, refl, sym, ap, _∙_, List, [], _∷_, ℕ, zero, suc, _+_, _≤_, _<_, min, arith, length, take, drop, paste, take-at, length-take-le, lt-ltb, le-ltb}
+use Rattle.property.proofs.Basics.{_≡_, refl, sym, ap, _∙_, List, [], _∷_, ℕ, zero, suc, _+_, _≤_, _<_, length, take, drop, paste, take-at, length-take-le, lt-ltb, le-ltb}
 use Rattle.graph.specs.Limits.{maxBatch}
 use Rattle.graph.specs.Refusal.{Verdict, accept, refuse, _▷_, refuseIf, replied, choose}
 use Rattle.graph.specs.Edge.{Edge, edges}

@@ -5,7 +5,7 @@
 --   Deep k i st           == after k rounds and the visits below i of one more: each vertex that waits has such a chain, of more than k + 1
 --                            vertices, or of more than k where its visit is still to come
 --   Going k i st          == the same while i is handled, which has its chain of more than k
-use Rattle.property.proofs.Basics.{_≡_, refl, sym, ap, _∙_, _⊎_, inl, inr, ⊎-elim, _≢_, Bool, true, false, true≢false, false≢true, List, [], _∷_, foldl, List·Memᴰ, List·Memᴰ·head, List·Memᴰ·tail, ℕ, zero, suc, _+_, _≤_, _<_, ℕ-discrete, decLt, arith, getD, set, length, replicate, List·getD-eq-default, length-set, length-replicate, getD-set-same, getD-set-other, set-out}
+use Rattle.property.proofs.Basics.{_≡_, refl, sym, _∙_, _⊎_, inl, inr, ⊎-elim, _≢_, Bool, true, false, true≢false, false≢true, List, [], _∷_, foldl, List·Memᴰ, List·Memᴰ·head, List·Memᴰ·tail, ℕ, zero, suc, _+_, _≤_, _<_, ℕ-discrete, decLt, arith, getD, set, length, replicate, List·getD-eq-default, length-set, length-replicate, getD-set-same, getD-set-other, set-out}
 use Rattle.property.specs.Property.{M, Property}
 use Rattle.property.specs.Laws.{Laws}
 use Rattle.property.proofs.Instances.{property-laws}
@@ -16,7 +16,7 @@ use Rattle.graph.specs.Edge.{Edge, leaving, range}
 use Rattle.graph.proofs.Lists.{at-set, replicate-at, getD-within}
 use Rattle.graph.proofs.Edges.{leaving-in}
 use Rattle.graph.proofs.Order.{Within}
-use Rattle.run.specs.Run.{State, oneTaken, oneRound, counted, word, waits, relaxable, storeIf, relax, clear, handle, visitIf, visit, pass, round, settle}
+use Rattle.run.specs.Run.{State, oneRound, counted, word, waits, relaxable, storeIf, relax, clear, handle, visitIf, visit, pass, round, settle}
 use Rattle.theory.specs.Rest.{FitWords, NothingWaits, NothingWaitsOn, AllRounds}
 use Rattle.theory.proofs.Settle.{store-betters, pass-keeps, settle-idle, settle-more}
 use Rattle.theory.proofs.Rounds.{settle-all}

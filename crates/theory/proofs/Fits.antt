@@ -4,7 +4,7 @@
 use Rattle.property.proofs.Basics.{_≡_, refl, _∙_, ⊎-elim, Bool, true, false, cond, List, [], _∷_, List·Memᴰ, List·Memᴰ·head, List·Memᴰ·tail, ℕ, _≤_, _<_, decLt, arith, getD, set, length, replicate, length-set, length-replicate, set-out, eqb}
 use Rattle.property.specs.Property.{M, Property}
 use Rattle.property.specs.Laws.{Laws, Joins}
-use Rattle.graph.specs.Edge.{Edge, range}
+use Rattle.graph.specs.Edge.{Edge}
 use Rattle.graph.specs.Route.{Best}
 use Rattle.graph.proofs.Lists.{at-set, getD-within, replicate-at, length-table, table-at}
 use Rattle.graph.proofs.Order.{Within}

@@ -23,7 +23,6 @@ use Rattle.network.specs.Batch.{batchCall, batchFaults}
 use Rattle.network.specs.Settled.{settled, settledCall}
 use Rattle.network.specs.Choice.{choiceCall}
 use Rattle.network.specs.Lookup.{lookupNumber}
-use Rattle.network.specs.Caller.{openedNetwork}
 use Rattle.worked.specs.Starred.{graphA, takes, adds}
 
 -- ---- numbers 1 to 6 of every call, in their order

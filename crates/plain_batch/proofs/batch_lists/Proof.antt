@@ -1,6 +1,5 @@
 -- `plain_batch::batch_lists` meets its contract. Assumes nothing.
 use Rattle.property.proofs.Basics.{needs, arith, _≡_, sym, ap, _∙_, length}
-use Rattle.graph.specs.Limits.{maxEdges}
 use Rattle.graph.specs.Refusal.{accept}
 use Rattle.graph.specs.Edge.{edges}
 use Rattle.graph.specs.Code.{told}

@@ -1,7 +1,6 @@
 -- `query::run_query` meets its contract. Assumes nothing.
-use Rattle.property.proofs.Basics.{needs, arith, _≡_, sym, ap, _∙_, List, length, take, take-at, length-take-le}
+use Rattle.property.proofs.Basics.{needs, arith, _≡_, sym, ap, _∙_, length, take, take-at, length-take-le}
 use Rattle.property.specs.Property.{property}
-use Rattle.run.specs.Code.{state, noCounts}
 use Rattle.query.specs.Code.{runFrom}
 use Rattle.graph.proofs.Copies.{paste-over}
 use Rattle.query.proofs.AskingRun.{run-ended}

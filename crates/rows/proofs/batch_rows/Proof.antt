@@ -1,5 +1,5 @@
 -- `rows::batch_rows` meets its contract. Assumes nothing.
-use Rattle.property.proofs.Basics.{needs, arith, refl, _∙_, _+_, _-_, _*_, _≤_, length, List}
+use Rattle.property.proofs.Basics.{needs, arith, refl, _+_, _-_, _*_, _≤_, length, List}
 use Rattle.graph.specs.Edge.{Edge}
 use Rattle.network.specs.Network.{rowCount}
 use Rattle.calls.proofs.Flat.{row-size}
