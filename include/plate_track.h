@@ -128,7 +128,7 @@ enum { PLATE_TRACK_WRITE_LENGTH };
 enum { PLATE_TRACK_READ_SOURCES_COUNT };
 
 /* Bytes of stack that each call takes at most, at the greatest sizes; measured (tests/stack). Where the C library is bound lazily, the first call
- * that reaches one of its functions takes some 3 KiB more, once, for the dynamic linker. */
+ * that reaches one of its functions takes up to 4 KiB more, once, for the dynamic linker. */
 enum {
     PLATE_TRACK_STACK_OPEN = 12 * 1024,
     PLATE_TRACK_STACK_QUERY = 12 * 1024,

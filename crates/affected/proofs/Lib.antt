@@ -1,3 +1,4 @@
+pub mod Net
 pub mod Closure
 pub mod Sweeps
 pub mod Examples

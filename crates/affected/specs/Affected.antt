@@ -2,9 +2,10 @@
 --
 -- es is the list of edges before the batch, fs the list after it, s the landmark of the row, ws its words.
 --
---   absent fs e             == e is not in a list, by its three words
+--   absent fs e             == e is not in the list fs, by its three words
 --   removed P fs e          == e, an edge of es, is "removed": not in the new list. Whatever the property, as document 01 has it
 --   added P es e            == e, an edge of fs, is "added": not in the old list
+--   NetEffect               == these tests say so of any list of edges
 --   Held P s ws e           == e is tight, and its head is not the landmark and has a route
 --   Affected P es fs s ws t == t is affected: the head of a removed held edge, and so on along held edges that stay
 --   held P s ws e           == the same as Held, as a test
@@ -37,6 +38,9 @@ removed P fs e = absent fs e
 
 abbrev pub added : Property → List Edge → Edge → Bool
 added P es e = absent es e
+
+abbrev pub NetEffect : Type 0
+NetEffect = (P : Property) (es : List Edge) (e : Edge) → ((removed P es e ≡ true) ↔ (List·Memᴰ e es → ⊥)) × ((added P es e ≡ true) ↔ (List·Memᴰ e es → ⊥))
 
 -- ---- the closure, as document 01 names it
 

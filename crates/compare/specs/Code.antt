@@ -5,7 +5,8 @@
 --   Inside n xs             == the tails and heads of a list of changes are vertices below n
 --   Lists es fs g f         == the edges f i, of i below g, list those of es that are absent from fs: each that has a weight is such an edge, and
 --                              each such edge is there
---   Net es fs xs            == a list of changes has what a batch changed: the edges of es that it removed, and those of fs that it added
+--   Net es fs xs            == a list of changes has what a batch changed: the edges of es that are absent from fs (removed), and those of fs that are absent
+--                              from es (added)
 --   Passed ts hs ws m t h j == the first j edges, of m, precede the pair of t and h
 --   Tables n m ts hs ws ..  == two tables that keep the rules of n vertices
 use mathlib.Core.Path.{_≡_}

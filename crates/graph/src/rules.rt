@@ -35,7 +35,7 @@ pub fn is_weight(w: u32) -> bool
 pub fn is_edge(n: u32, t: u32, h: u32, w: u32) -> bool
     ensures { λ r. ⌜ r ≡ isEdge n (edge t h w) ⌝ }
 {
-    (t < n) & ((h < n) & ((t != h) & ((0 < w) & (w <= MAX_WEIGHT))))
+    (t < n) & ((h < n) & ((t != h) & is_weight(w)))
 }
 
 // Table order: by tail, then head.
@@ -71,8 +71,7 @@ fn follows(n: u32, tails: &[u32], heads: &[u32], weights: &[u32], k: usize) -> b
     let j = k - 1;
     let u = tails[k];
     let g = heads[k];
-    ((tails[j] < u) | ((tails[j] == u) & (heads[j] < g)))
-        & ((u < n) & ((g < n) & ((u != g) & ((0 < weights[k]) & (weights[k] <= MAX_WEIGHT)))))
+    in_order(tails[j], heads[j], 0, u, g, 0) & is_edge(n, u, g, weights[k])
 }
 
 // The table's rules: number 4 at the first record below the count that breaks them.
@@ -100,7 +99,7 @@ fn judge_rules(n: u32, tails: &[u32], heads: &[u32], weights: &[u32], count: usi
 fn is_next(n: u32, t: u32, h: u32, u: u32, g: u32, w: u32) -> bool
     ensures { λ r. ⌜ r ≡ ((ltb g n && (not (eqb u g) && isWeight w)) && precedes (edge t h 0) (edge u g w)) ⌝ }
 {
-    ((g < n) & ((u != g) & ((0 < w) & (w <= MAX_WEIGHT)))) & ((t < u) | ((t == u) & (h < g)))
+    ((g < n) & ((u != g) & is_weight(w))) & in_order(t, h, 0, u, g, w)
 }
 
 // Whether all records keep the rules. It goes over all of them and never stops early. Tails never fall, so the bound of the last is that of all.

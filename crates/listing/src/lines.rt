@@ -13,8 +13,8 @@ ghost use Rattle.writer.specs.Code.{Fits, Wrote};
 ghost use Rattle.listing.specs.Listing.{graph, landmarksOf, linesOf, refusedLine, header};
 ghost use Rattle.listing.specs.Code.{maxFirst, LinesFit, settledRow, Rows, rowsLine, rowsLines};
 
-// A row for each property.
-const ROW_WORDS: usize = property::PROPERTIES * graph::VERTEX_WORDS;
+// A row of settled words for each property.
+const SETTLED_WORDS: usize = property::PROPERTIES * graph::VERTEX_WORDS;
 
 // The settled words of a query with an empty schedule.
 fn settle_row(
@@ -118,7 +118,7 @@ pub fn put_source(
     ensures { λ r. ⌜ r ≤ length (now (out .exit)) ⌝ }
 {
     let size = n as usize;
-    let mut rows = [0u32; ROW_WORDS];
+    let mut rows = [0u32; SETTLED_WORDS];
     let mut p = 0;
     while p < property::PROPERTIES {
         let from = p * size;

@@ -5,7 +5,6 @@ use graph::Judged;
 use graph::words;
 use items::Edited;
 ghost use mathlib.Core.Path.{_≡_};
-ghost use lib.ListN.{length};
 ghost use Rattle.graph.specs.Edge.{edges};
 ghost use Rattle.graph.specs.Code.{told, Room};
 ghost use Rattle.network.specs.Batch.{batchCall, batchFaults};
