@@ -21,14 +21,14 @@ pub enum Edited {
     Refused(u32, usize),
 }
 
-// Whether a weight suits its change: an insert's is 1 to `MAX_WEIGHT`, a delete's is 0.
+// Whether a weight suits its change: a delete's is 0, any other's 1 to `MAX_WEIGHT`.
 fn is_suited(kind: u32, w: u32) -> bool
-    ensures { λ r. ⌜ r ≡ cond (eqb kind 1) (isWeight w) (eqb w 0) ⌝ }
+    ensures { λ r. ⌜ r ≡ cond (eqb kind 2) (eqb w 0) (isWeight w) ⌝ }
 {
-    if kind == 1 {
-        rules::is_weight(w)
-    } else {
+    if kind == 2 {
         w == 0
+    } else {
+        rules::is_weight(w)
     }
 }
 
@@ -39,7 +39,7 @@ fn judge_words(n: u32, kind: u32, t: u32, h: u32, w: u32, place: usize) -> Judge
     if t >= n || h >= n {
         return Judged::Refused(6, place);
     }
-    if kind != 1 && kind != 2 {
+    if kind != 1 && kind != 2 && kind != 3 {
         return Judged::Refused(7, place);
     }
     if t == h {
@@ -98,6 +98,31 @@ fn delete_item(
     Edited::Count(count - 1)
 }
 
+// An update whose own words are good looks for the edge of its pair, and goes no further unless it is found: number 11, or the edge with the weight
+// `w`.
+fn update_item(
+    n: u32,
+    t: u32,
+    h: u32,
+    w: u32,
+    tails: &mut [u32],
+    heads: &mut [u32],
+    weights: &mut [u32],
+    count: usize,
+    place: usize,
+) -> Edited
+    requires { ⌜ Tabled n count (now tails) (now heads) (now weights) ⌝ }
+    requires { ⌜ words n place (change 3 t h w) ≡ accept ⌝ }
+    ensures { λ r. ⌜ verdict r ≡ against place (edges (now (tails .entry)) (now (heads .entry)) (now (weights .entry)) count) (change 3 t h w) ⌝ }
+    ensures { λ r. ⌜ Leaves n r (now (tails .exit)) (now (heads .exit)) (now (weights .exit)) (edit (edges (now (tails .entry)) (now (heads .entry)) (now (weights .entry)) count) (change 3 t h w)) ⌝ }
+{
+    let Found::At(i) = edit::find(n, t, h, tails, heads, weights, count) else {
+        return Edited::Refused(11, place);
+    };
+    weights[i] = w;
+    Edited::Count(count)
+}
+
 // One change of a batch.
 fn apply_item(
     n: u32,
@@ -121,6 +146,9 @@ fn apply_item(
     }
     if kind == 1 {
         return insert_item(n, t, h, w, tails, heads, weights, count, place);
+    }
+    if kind == 3 {
+        return update_item(n, t, h, w, tails, heads, weights, count, place);
     }
     delete_item(n, t, h, tails, heads, weights, count, place)
 }

@@ -59,11 +59,12 @@ fn mark_head(
     }
 }
 
-// Whether a pair has an edge: its weight `w` is 0 where it has none.
-fn has_edge(w: u32) -> bool
-    ensures { λ r. ⌜ r ≡ ltb 0 w ⌝ }
+// Whether an edge of weight `w` is lost to the property where its pair has the weight `other`, 0 for none: there is such an edge, and nothing or
+// a worse weight in its place.
+fn is_lost(p: u32, w: u32, other: u32) -> bool
+    ensures { λ r. ⌜ r ≡ gone (property p) w other ⌝ }
 {
-    0 < w
+    0 < w && (other == 0 || property::worse(p, other, w))
 }
 
 // Change `k` marks the head that its removed edge held up.
@@ -85,19 +86,19 @@ fn mark_change(
     let t = arc::head(net[at]);
     let w = arc::weight(net[at]);
     let h = arc::head(net[at + 1]);
-    if has_edge(w) {
+    if is_lost(p, w, arc::weight(net[at + 1])) {
         mark_head(p, n, s, t, h, w, words, marks, todo);
     }
 }
 
 // The tail of change `k` waits where it added an edge.
-fn wake_change(k: usize, net: &[u32], waiting: &mut Words)
+fn wake_change(p: u32, k: usize, net: &[u32], waiting: &mut Words)
     requires { ⌜ (2 * k + 1 < length (now net)) × Inside maxVertices (now net) ⌝ }
     ensures { λ _. ⌜ waitingOf (now (waiting .exit)) ≡ cond (ltb 0 (after (now (net .entry)) k .weight)) (set (waitingOf (now (waiting .entry))) (after (now (net .entry)) k .tail) true) (waitingOf (now (waiting .entry))) ⌝ }
 {
     let at = 2 * k;
     let t = arc::head(net[at]) as usize;
-    if has_edge(arc::weight(net[at + 1])) {
+    if is_lost(p, arc::weight(net[at + 1]), arc::weight(net[at])) {
         frontier::insert(waiting, t);
     }
 }
@@ -121,7 +122,7 @@ fn take_changes(
     let mut k = 0;
     while k < size {
         mark_change(p, n, s, k, net, words, marks, todo);
-        wake_change(k, net, waiting);
+        wake_change(p, k, net, waiting);
         k += 1;
     }
 }

@@ -94,3 +94,16 @@ pub fn join(p: u32, a: u32, b: u32) -> u32
         _ => lesser(a, b),
     }
 }
+
+// Whether the weight `a` is worse than the weight `b`.
+pub fn worse(p: u32, a: u32, b: u32) -> bool
+    ensures { λ r. ⌜ r ≡ property p .worse a b ⌝ }
+{
+    match p {
+        1 => b < a,
+        2 => false,
+        3 => a < b,
+        4 => b < a,
+        _ => false,
+    }
+}
