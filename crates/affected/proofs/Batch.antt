@@ -1,22 +1,24 @@
 -- Batches: from best words of the old edges, the prepared row keeps the invariant of runs on the new edges, so its words are best once
 -- nothing waits; and a vertex that is not affected has no worse a word than before. Assumes nothing.
-use Rattle.property.proofs.Basics.{_≡_, refl, sym, _∙_, inl, inr, Bool, true, false, _&&_, _||_, cond, true≢false, List, List·Memᴰ, ℕ, _≤_, _<_, decLt, arith, List·getD-eq-default, eqb, eq-eqb}
+use Rattle.property.proofs.Basics.{_≡_, refl, sym, _∙_, inl, inr, _≢_, Bool, true, false, _&&_, _||_, cond, true≢false, List, List·Memᴰ, ℕ, _≤_, _<_, decLt, arith, List·getD-eq-default, eqb, eq-eqb}
 use Rattle.property.specs.Property.{Property}
 use Rattle.property.specs.Laws.{Laws}
 use Rattle.frontier.specs.Waiting.{anyOf}
-use Rattle.graph.specs.Edge.{Edge, exists, among}
+use Rattle.graph.specs.Edge.{Edge, exists}
 use Rattle.graph.specs.Route.{Best}
 use Rattle.graph.proofs.Tests.{and-true}
 use Rattle.graph.proofs.Lists.{length-table, table-at}
-use Rattle.graph.proofs.Edges.{true-exists, among-mem}
+use Rattle.graph.proofs.Edges.{true-exists}
 use Rattle.graph.proofs.Order.{Within}
-use Rattle.run.specs.Run.{State, word, waits, relaxable, settle}
-use Rattle.affected.specs.Affected.{added, Affected, marked, affected}
+use Rattle.run.specs.Run.{State, word, waits, relaxable, settle, tight}
+use Rattle.affected.specs.Affected.{Affected, marked, affected}
+use Rattle.affected.specs.Net.{added}
 use Rattle.affected.specs.Prepared.{cleared, reopened, prepared}
+use Rattle.affected.proofs.Net.{removed-stands, added-stands}
 use Rattle.affected.proofs.Sweeps.{unaffected-unmarked, landmark-safe, affected-closed}
 use Rattle.theory.proofs.Settle.{Backed, Sound, Inv, settle-good, settle-rises}
 use Rattle.theory.proofs.Value.{none-quiet, settled-best, best-settled}
-use Rattle.theory.proofs.Tight.{source-word, still-sound}
+use Rattle.theory.proofs.Tight.{Stands, source-word, settled-stands, still-sound}
 
 -- es are the edges before the batch and fs those after it, s is the landmark of the row and ws its words
 module _ {P : Property} (L : Laws P) (es fs : List Edge) (s n : ℕ) (old : Within n es) (new : Within n fs) (source : s < n)
@@ -46,14 +48,18 @@ module _ {P : Property} (L : Laws P) (es fs : List Edge) (s n : ℕ) (old : With
   unfolding prepared cleared
   prepared-beyond t h = List·getD-eq-default (ready .words) none (rw (length-table (λ k. cond (out k) none (word P ws k)) 0 n) h)
 
-  -- an affected vertex has none, and any other a word that stays attained, since the affected are closed
+  -- an affected vertex has none, and any other a word that stays backed, since the affected are closed
   prepared-sound : Sound P fs s (ready .words)
   prepared-sound t = pick (decLt t n) (out t) refl
     where
+      closed : (e : Edge) → List·Memᴰ e es → tight P ws e ≡ true → e .head ≢ s → word P ws (e .head) ≢ none → out (e .head) ≡ false
+          → Stands P fs e × (out (e .tail) ≡ false)
+      closed e m t d w q = let z = affected-closed P es fs s ws n old e m t d w q in (removed-stands L fs e (z .0), z .1)
+
       pick : Dec (t < n) → (b : Bool) → out t ≡ b → Backed P fs s t (word P (ready .words) t)
       pick (no d) b q = inr (prepared-beyond t (omega arith))
       pick (yes h) true q = inr (prepared-out t h q)
-      pick (yes h) false q = rw (prepared-other t h q) (still-sound L es s n old ws best fs out (affected-closed P es fs s ws n old) t q)
+      pick (yes h) false q = rw (prepared-other t h q) (still-sound L es s n old ws best fs out closed t q)
 
   -- ---- who waits
 
@@ -63,17 +69,17 @@ module _ {P : Property} (L : Laws P) (es fs : List Edge) (s n : ℕ) (old : With
       ∙ true-exists (λ x. eqb (x .tail) (e .tail) && (out (x .head) || added P es x)) m (and-true (eq-eqb (e .tail) (e .tail) refl) h)
 
   -- A new edge that could better its head has a waiting tail. If its head is affected or the edge is added, its tail was set waiting.
-  -- Otherwise it was there before, and its head has the word that it had: if its tail has too, best words were settled; if its tail is
-  -- affected, it has none, which leads on to none.
+  -- Otherwise one no worse was there before, and its head has the word that it had: if its tail has too, best words were settled; if its
+  -- tail is affected, it has none, which leads on to none.
   prepared-pending : (e : Edge) → List·Memᴰ e fs → relaxable P (ready .words) e ≡ true → waits ready (e .tail) ≡ true
-  prepared-pending e m c = pick (out (e .head)) refl (among es e) refl (out (e .tail)) refl
+  prepared-pending e m c = pick (out (e .head)) refl (added P es e) refl (out (e .tail)) refl
     where
-      pick : (a : Bool) → out (e .head) ≡ a → (b : Bool) → among es e ≡ b → (t : Bool) → out (e .tail) ≡ t → waits ready (e .tail) ≡ true
+      pick : (a : Bool) → out (e .head) ≡ a → (b : Bool) → added P es e ≡ b → (t : Bool) → out (e .tail) ≡ t → waits ready (e .tail) ≡ true
       pick true p b q t r = prepared-waits e m (rw p)
-      pick false p false q t r = prepared-waits e m (rw (p, q))
-      pick false p true q true r = absurd (true≢false (sym c ∙ none-quiet L fs s n new (ready .words) prepared-sound e m (prepared-out _ (new .tails e m) r)))
-      pick false p true q false r = absurd (true≢false (sym c
-          ∙ rw (relaxable, prepared-other _ (new .tails e m) r, prepared-other _ (new .heads e m) p) (best-settled L es s n old ws best e (among-mem es e q))))
+      pick false p true q t r = prepared-waits e m (rw (p, q))
+      pick false p false q true r = absurd (true≢false (sym c ∙ none-quiet L fs s n new (ready .words) prepared-sound e m (prepared-out _ (new .tails e m) r)))
+      pick false p false q false r = absurd (true≢false (sym c
+          ∙ rw (relaxable, prepared-other _ (new .tails e m) r, prepared-other _ (new .heads e m) p) (settled-stands L es ws (best-settled L es s n old ws best) e (added-stands L es e q))))
 
   -- ---- the rounds
 

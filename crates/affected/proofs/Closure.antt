@@ -7,7 +7,8 @@ use Rattle.property.specs.Property.{Property}
 use Rattle.graph.specs.Edge.{Edge}
 use Rattle.graph.proofs.Tests.{both, and-true, or-right}
 use Rattle.run.specs.Run.{word, tight}
-use Rattle.affected.specs.Affected.{removed, Held, Affected, Named, at-removed, onward, held, marked, touches, mark, sweep, sweeps}
+use Rattle.affected.specs.Net.{removed}
+use Rattle.affected.specs.Affected.{Held, Affected, Named, at-removed, onward, held, marked, touches, mark, sweep, sweeps}
 
 -- ---- the test and the record
 

@@ -1,10 +1,11 @@
--- Affected vertices of small networks, computed: document 01, "Near the edges, and a small deck". Assumes nothing.
+-- Affected vertices of small networks, computed: document 01, "Near the edges, and a small deck"; document 02, One. Assumes nothing.
 use Rattle.property.proofs.Basics.{_≡_, refl, Bool, true, false, List, [], _∷_, map, ℕ}
 use Rattle.property.specs.Property.{M, sssp, sswp, ssr}
-use Rattle.graph.specs.Edge.{Edge, edge, reverse, exists}
-use Rattle.graph.specs.Table.{insert, delete}
+use Rattle.graph.specs.Edge.{Edge, edge, reverse}
+use Rattle.graph.specs.Table.{insert, delete, update}
 use Rattle.graph.specs.Sorted as order
 use Rattle.run.specs.Run.{tight}
+use Rattle.affected.specs.Net.{counterpart}
 use Rattle.affected.specs.Affected.{mark, sweep, sweeps, affected}
 
 nobody : List Bool
@@ -26,32 +27,51 @@ widths = M ∷ 4 ∷ 4 ∷ 9 ∷ []
 
 -- 1 lost the edge that gives its time, and 2 has its own from 1
 take-time : affected sssp graphA less 0 time 4 ≡ false ∷ true ∷ true ∷ false ∷ []
-unfolding affected sweeps sweep mark exists order.delete graphA less time
+unfolding affected sweeps sweep mark counterpart order.delete graphA less time
 take-time = refl
 
 -- the ring 1→2→1 of equal words cannot uphold itself
 take-widths : affected sswp graphA less 0 widths 4 ≡ false ∷ true ∷ true ∷ false ∷ []
-unfolding affected sweeps sweep mark exists order.delete graphA less widths
+unfolding affected sweeps sweep mark counterpart order.delete graphA less widths
 take-widths = refl
 
 -- the backward row: nobody has a way to 0, and the edge that goes was into 0 as that row sees it
 take-backward : affected sssp (map reverse graphA) (map reverse less) 0 (0 ∷ M ∷ M ∷ M ∷ []) 4 ≡ nobody
-unfolding affected sweeps sweep mark exists order.delete graphA less nobody
+unfolding affected sweeps sweep mark counterpart order.delete graphA less nobody
 take-backward = refl
 
 -- taken and added back: the new table has the same three words, so nothing is removed
 back : affected sssp graphA (insert (edge 0 1 4) less) 0 time 4 ≡ nobody
-unfolding affected sweeps sweep mark exists order.insert order.delete graphA less time nobody
+unfolding affected sweeps sweep mark counterpart order.insert order.delete graphA less time nobody
 back = refl
 
--- added back with another weight: the edge that was there is removed
-reweighed : affected sssp graphA (insert (edge 0 1 3) less) 0 time 4 ≡ false ∷ true ∷ true ∷ false ∷ []
-unfolding affected sweeps sweep mark exists order.insert order.delete graphA less time
-reweighed = refl
+-- added back with a weight that is worse for time, as an update does it too: the edge that was there is removed ..
+worsened : affected sssp graphA (insert (edge 0 1 5) less) 0 time 4 ≡ false ∷ true ∷ true ∷ false ∷ []
+unfolding affected sweeps sweep mark counterpart order.insert order.delete graphA less time
+worsened = refl
+
+updated : affected sssp graphA (update (edge 0 1 5) graphA) 0 time 4 ≡ false ∷ true ∷ true ∷ false ∷ []
+unfolding affected sweeps sweep mark counterpart order.update graphA time
+updated = refl
+
+-- .. with one that is better it is not, ..
+bettered : affected sssp graphA (update (edge 0 1 3) graphA) 0 time 4 ≡ nobody
+unfolding affected sweeps sweep mark counterpart order.update graphA time nobody
+bettered = refl
+
+-- .. but it is for headroom then, ..
+narrowed : affected sswp graphA (update (edge 0 1 3) graphA) 0 widths 4 ≡ false ∷ true ∷ true ∷ false ∷ []
+unfolding affected sweeps sweep mark counterpart order.update graphA widths
+narrowed = refl
+
+-- .. and a bettered edge passes on by its old weight: 1→2 of 2 becomes 1, 0→1 goes, and the time 3 of 2 is affected
+passed-on : affected sssp (edge 0 1 1 ∷ edge 1 2 2 ∷ []) (edge 1 2 1 ∷ []) 0 (0 ∷ 1 ∷ 3 ∷ []) 3 ≡ false ∷ true ∷ true ∷ []
+unfolding affected sweeps sweep mark counterpart
+passed-on = refl
 
 -- an edge that is removed without being tight affects nobody
 slack : affected sssp graphA (delete (edge 3 2 0) graphA) 0 time 4 ≡ nobody
-unfolding affected sweeps sweep mark exists order.delete graphA time nobody
+unfolding affected sweeps sweep mark counterpart order.delete graphA time nobody
 slack = refl
 
 -- ---- heads that are never affected
@@ -65,7 +85,7 @@ apart-tight = refl
 
 -- .. and its removal still affects nobody
 apart-taken : affected sssp apart [] 0 (0 ∷ M ∷ M ∷ []) 3 ≡ false ∷ false ∷ false ∷ []
-unfolding affected sweeps sweep mark exists apart
+unfolding affected sweeps sweep mark counterpart apart
 apart-taken = refl
 
 ring : List Edge
@@ -77,7 +97,7 @@ ring-tight = refl
 
 -- .. affects nobody: the landmark has its word from itself
 ring-taken : affected ssr ring (delete (edge 1 0 0) ring) 0 (1 ∷ 1 ∷ []) 2 ≡ false ∷ false ∷ []
-unfolding affected sweeps sweep mark exists order.delete ring
+unfolding affected sweeps sweep mark counterpart order.delete ring
 ring-taken = refl
 
 -- ---- two tight edges into a head
@@ -87,5 +107,5 @@ diamond = edge 0 1 1 ∷ edge 0 2 1 ∷ edge 1 3 1 ∷ edge 2 3 1 ∷ []
 
 -- 3 is affected by the removal of 1→3, though 1 is not and 2→3 stays
 diamond-taken : affected sssp diamond (delete (edge 1 3 0) diamond) 0 (0 ∷ 1 ∷ 1 ∷ 2 ∷ []) 4 ≡ false ∷ false ∷ false ∷ true ∷ []
-unfolding affected sweeps sweep mark exists order.delete diamond
+unfolding affected sweeps sweep mark counterpart order.delete diamond
 diamond-taken = refl

@@ -1,21 +1,24 @@
 -- Sweeps come to rest, and where they rest the marks are exactly the closure. Assumes nothing.
 --
 --   Swept xs ms ls   == ls, the marks after edges xs were gone over from ms, are those before and closed, or they are more
-use Rattle.property.proofs.Basics.{_≡_, refl, sym, ap, _∙_, _↔_, _⊎_, inl, inr, ⊎-elim, _≢_, Bool, true, false, cond, true≢false, false≢true, List, [], _∷_, foldl, List·Memᴰ, List·Memᴰ·head, List·Memᴰ·tail, List·Memᴰ·cases-cons, List·Memᴰ·not-nil, ℕ, zero, suc, _+_, _≤_, _<_, arith, length, set, replicate, length-set, length-replicate, ext-getD, not-false}
+use Rattle.property.proofs.Basics.{_≡_, refl, sym, ap, _∙_, _↔_, _⊎_, inl, inr, ⊎-elim, _≢_, Bool, true, false, not, cond, true≢false, false≢true, List, [], _∷_, foldl, map, List·Memᴰ, List·Memᴰ·head, List·Memᴰ·tail, List·Memᴰ·cases-cons, List·Memᴰ·not-nil, ℕ, zero, suc, _+_, _≤_, _<_, arith, length, set, replicate, length-set, length-replicate, ext-getD}
 use mathlib.Core.List.{List·Memᴰ·eq-of-singleton}
 use lib.Seq.{set-getD}
 use Rattle.property.specs.Property.{Property}
-use Rattle.property.proofs.Tests.{is-false}
+use Rattle.property.specs.Laws.{Laws}
+use Rattle.property.proofs.Tests.{is-false, by-test}
 use Rattle.frontier.specs.Waiting.{countOf}
 use Rattle.frontier.proofs.Counts.{count-le}
 use Rattle.frontier.proofs.Laws.{count-insert}
-use Rattle.graph.specs.Edge.{Edge}
-use Rattle.graph.proofs.Tests.{same-test}
+use Rattle.graph.specs.Edge.{Edge, reverse, among}
+use Rattle.graph.proofs.Tests.{same-test, or-right}
 use Rattle.graph.proofs.Lists.{fold-keeps, replicate-at}
 use Rattle.graph.proofs.Edges.{among-mem}
 use Rattle.graph.proofs.Order.{Within}
 use Rattle.run.specs.Run.{word, tight}
-use Rattle.affected.specs.Affected.{removed, Held, Affected, Named, at-removed, onward, marked, touches, mark, sweep, sweeps, affected, AffectedExact}
+use Rattle.affected.specs.Net.{removed}
+use Rattle.affected.specs.Affected.{Held, Affected, Named, at-removed, onward, marked, touches, mark, sweep, sweeps, affected, AffectedExact, Fewer, FewerAffected}
+use Rattle.affected.proofs.Net.{Single, rules-single, single-reverse, kept-stays}
 use Rattle.affected.proofs.Closure.{Closed, sweeps-named, closed-marked, landmark-unaffected}
 
 module _ (P : Property) (es fs : List Edge) (s : ℕ) (ws : List ℕ) where
@@ -149,22 +152,22 @@ module _ (P : Property) (es fs : List Edge) (s : ℕ) (ws : List ℕ) (n : ℕ) 
     pub named-affected : {t : ℕ} → Affected P es fs s ws t → marked marks t ≡ true
     named-affected a = all-marked (inside .heads) a
 
-    -- Seen from a head that is not marked: a held edge into it stays, and its tail is not marked either. A removed one would have
+    -- Seen from a head that is not marked: a held edge into it is not removed, and its tail is not marked either. A removed one would have
     -- marked the head, and so would a marked tail.
     pub held-closed : (e : Edge) → List·Memᴰ e es → Held P s ws e → marked marks (e .head) ≡ false
-        → List·Memᴰ e fs × (marked marks (e .tail) ≡ false)
+        → (removed P fs e ≡ false) × (marked marks (e .tail) ≡ false)
     held-closed e m h q = pick (removed P fs e) refl
       where
         clash : Affected P es fs s ws (e .head) → ⊥
         clash a = true≢false (sym (named-affected a) ∙ q)
 
-        pick : (b : Bool) → removed P fs e ≡ b → List·Memᴰ e fs × (marked marks (e .tail) ≡ false)
+        pick : (b : Bool) → removed P fs e ≡ b → (removed P fs e ≡ false) × (marked marks (e .tail) ≡ false)
         pick true r = absurd (clash (at-removed m r h))
-        pick false r = (among-mem fs e (not-false _ r), unaffected-unmarked (e .tail) (λ a. clash (onward a m r h)))
+        pick false r = (r, unaffected-unmarked (e .tail) (λ a. clash (onward a m r h)))
 
     -- the same, part by part
     pub affected-closed : (e : Edge) → List·Memᴰ e es → tight P ws e ≡ true → e .head ≢ s → word P ws (e .head) ≢ P .none
-        → marked marks (e .head) ≡ false → List·Memᴰ e fs × (marked marks (e .tail) ≡ false)
+        → marked marks (e .head) ≡ false → (removed P fs e ≡ false) × (marked marks (e .tail) ≡ false)
     affected-closed e m t d w q = held-closed e m (record { tight = t; elsewhere = d; routed = w }) q
 
 -- The computed marks are the inductive closure. Each sweep marks only what the closure names. After n sweeps a further one would
@@ -172,3 +175,14 @@ module _ (P : Property) (es fs : List Edge) (s : ℕ) (ws : List ℕ) (n : ℕ) 
 -- that it names.
 pub affected-exact : AffectedExact
 affected-exact P es fs s ws n heads t = (affected-named P es fs s ws n t, all-marked P es fs s ws n heads)
+
+-- ---- they are no more than document 01 alone had
+
+-- An edge that is removed for the property is not in the new table by its three words, since such a one is not lost.
+fewer : {P : Property} → Laws P → (es fs : List Edge) → Single fs → Fewer P es fs
+fewer {P} L es fs h s ws out closed t (at-removed {e = e} m r k) = closed e m k (by-test (among fs e)
+    (λ q. absurd (true≢false (sym r ∙ kept-stays fs h P L e (among-mem fs e q)))) (λ q. rw q))
+fewer L es fs h s ws out closed t (onward {e = e} a m r k) = closed e m k (or-right (not (among fs e)) (fewer L es fs h s ws out closed (e .tail) a))
+
+pub fewer-affected : FewerAffected
+fewer-affected P L n es fs h = let z = rules-single n fs h in (fewer L es fs z, fewer L (map reverse es) (map reverse fs) (single-reverse fs z))

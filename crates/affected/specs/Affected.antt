@@ -1,13 +1,9 @@
--- Affected vertices of a row ("suspects"): document 01, "Batch". Assumes nothing.
+-- Affected vertices of a row ("suspects"): document 01, "Batch"; document 02, One. Assumes nothing.
 --
 -- es is the list of edges before the batch, fs the list after it, s the landmark of the row, ws its words.
 --
---   absent fs e             == e is not in the list fs, by its three words
---   removed P fs e          == e, an edge of es, is "removed": not in the new list. Whatever the property, as document 01 has it
---   added P es e            == e, an edge of fs, is "added": not in the old list
---   NetEffect               == these tests say so of any list of edges
 --   Held P s ws e           == e is tight, and its head is not the landmark and has a route
---   Affected P es fs s ws t == t is affected: the head of a removed held edge, and so on along held edges that stay
+--   Affected P es fs s ws t == t is affected: the head of a removed held edge, and so on along held edges that are not removed
 --   held P s ws e           == the same as Held, as a test
 --   marked ms t             == t is marked
 --   touches .. ms e         == e marks its head: held, and removed or its tail is marked
@@ -17,30 +13,23 @@
 --   AffectedExact           == the marks are the closure, for any words: proved as affected-exact
 --   Named P es fs s ws ms   == each mark of ms is of an affected vertex
 --   mark .. ms e            == the marks after one edge: its head is marked where it touches
+--   Fewer P es fs           == the affected vertices are among those of document 01 alone, for which an edge is removed where the new list has not its
+--                              three words: each set has them that has the heads of such held edges, and of held ones from its own members
+--   FewerAffected           == so for the rows of both sides, where the new table keeps the rules: proved as fewer-affected
 use mathlib.Core.Path.{_≡_}
 use mathlib.Core.Logic.{_≢_, _↔_}
 use mathlib.Core.Bool.{Bool, true, false, not, _&&_, _||_, cond}
-use mathlib.Core.List.{List, foldl, List·Memᴰ}
+use mathlib.Core.List.{List, foldl, map, List·Memᴰ}
 use Prim.Native.Nat.{ℕ, zero, suc, _<_}
 use lib.ListN.{getD, set, replicate}
 use lib.Dec.{eqb}
 use Rattle.property.specs.Property.{Property}
-use Rattle.graph.specs.Edge.{Edge, among}
+use Rattle.property.specs.Laws.{Laws}
+use Rattle.graph.specs.Refusal.{accept}
+use Rattle.graph.specs.Edge.{Edge, reverse, among}
+use Rattle.graph.specs.Table.{rules}
 use Rattle.run.specs.Run.{word, tight}
-
--- ---- the net effect of a batch
-
-abbrev pub absent : List Edge → Edge → Bool
-absent fs e = not (among fs e)
-
-abbrev pub removed : Property → List Edge → Edge → Bool
-removed P fs e = absent fs e
-
-abbrev pub added : Property → List Edge → Edge → Bool
-added P es e = absent es e
-
-abbrev pub NetEffect : Type 0
-NetEffect = (P : Property) (es : List Edge) (e : Edge) → ((removed P es e ≡ true) ↔ (List·Memᴰ e es → ⊥)) × ((added P es e ≡ true) ↔ (List·Memᴰ e es → ⊥))
+use Rattle.affected.specs.Net.{removed}
 
 -- ---- the closure, as document 01 names it
 
@@ -88,3 +77,13 @@ AffectedExact = (P : Property) (es fs : List Edge) (s : ℕ) (ws : List ℕ) (n 
 
 abbrev pub Named : Property → List Edge → List Edge → ℕ → List ℕ → List Bool → Type 0
 Named P es fs s ws ms = (t : ℕ) → marked ms t ≡ true → Affected P es fs s ws t
+
+-- ---- that they are no more than document 01 alone had
+
+abbrev pub Fewer : Property → List Edge → List Edge → Type 0
+Fewer P es fs = (s : ℕ) (ws : List ℕ) (out : ℕ → Bool)
+    → ((e : Edge) → List·Memᴰ e es → Held P s ws e → (not (among fs e) || out (e .tail)) ≡ true → out (e .head) ≡ true)
+    → (t : ℕ) → Affected P es fs s ws t → out t ≡ true
+
+abbrev pub FewerAffected : Type 0
+FewerAffected = (P : Property) → Laws P → (n : ℕ) (es fs : List Edge) → rules n fs ≡ accept → Fewer P es fs × Fewer P (map reverse es) (map reverse fs)

@@ -1,4 +1,4 @@
--- Where a row's rounds start after a batch: document 01, "Batch". Assumes nothing.
+-- Where a row's rounds start after a batch: document 01, "Batch"; document 02, One. Assumes nothing.
 --
 --   cleared P ms ws n      == the row's words, with no route for the affected vertices
 --   reopened P es fs ms n  == who waits: the tails of all new edges into affected vertices, and of all added edges
@@ -10,7 +10,8 @@ use lib.Dec.{eqb}
 use Rattle.property.specs.Property.{Property}
 use Rattle.graph.specs.Edge.{Edge, exists, range}
 use Rattle.run.specs.Run.{State, noTally, word}
-use Rattle.affected.specs.Affected.{added, marked, affected}
+use Rattle.affected.specs.Net.{added}
+use Rattle.affected.specs.Affected.{marked, affected}
 
 unfoldable pub cleared : Property → List Bool → List ℕ → ℕ → List ℕ
 cleared P ms ws n = map (λ t. cond (marked ms t) (P .none) (word P ws t)) (range 0 n)

@@ -38,7 +38,7 @@ true-exists f (List·Memᴰ·tail {x = o} {xs = es} m) q = or-right (f o) (true-
 
 -- ---- membership by the three words
 
-same-eq : (e f : Edge) → same e f ≡ true → e ≡ f
+pub same-eq : (e f : Edge) → same e f ≡ true → e ≡ f
 same-eq e f h =
     let a = both (eqb (e .tail) (f .tail)) _ h in
     let b = both (eqb (e .head) (f .head)) (eqb (e .weight) (f .weight)) (a .1) in

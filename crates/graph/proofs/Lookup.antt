@@ -1,17 +1,17 @@
 -- Look-up in the lists of a table, by the words that stand at the place that the order gives. Assumes nothing.
-use Rattle.property.proofs.Basics.{_≡_, refl, sym, ap, _∙_, Bool, true, false, cond, List, [], _∷_, ℕ, suc, _+_, _-_, _/_, _<_, _≤_, arith, length, getD}
+use Rattle.property.proofs.Basics.{_≡_, refl, sym, ap, _∙_, Bool, true, false, cond, List, [], _∷_, ℕ, suc, _+_, _-_, _/_, _<_, _≤_, arith, length, getD, set}
 use Rattle.property.proofs.Tests.{is-false}
 use Rattle.graph.specs.declared.Found.{Found}
 use Rattle.graph.specs.declared.Found.the-variants.{At, Absent}
 use Rattle.graph.specs.Refusal.{accept}
 use Rattle.graph.specs.Edge.{Edge, edge, alike, precedes, present, edges}
-use Rattle.graph.specs.Table.{isEdge, tableOrder, rules}
+use Rattle.graph.specs.Table.{isEdge, tableOrder, rules, update}
 use Rattle.graph.specs.Sorted.{seek}
 use Rattle.graph.specs.Code.{Room, edgeAt, position, find}
 use Rattle.graph.proofs.Sorted.{sorted-upto, sorted-onward}
-use Rattle.graph.proofs.Seek.{found-has, absent-has, find-here, find-none}
+use Rattle.graph.proofs.Seek.{found-has, absent-has, found-same, update-found, find-here, find-none}
 use Rattle.graph.proofs.Order.{table-ordered, alike-pair, pair-alike, rules-accept}
-use Rattle.graph.proofs.Records.{edges-length, edges-at}
+use Rattle.graph.proofs.Records.{edges-length, edges-at, edges-set}
 
 seek-pair : (i t h v w : ℕ) (es : List Edge) → seek tableOrder i (edge t h v) es ≡ seek tableOrder i (edge t h w) es
 unfolding seek
@@ -62,3 +62,13 @@ module _ (ts hs ws : List ℕ) (m : ℕ) (r : Room m ts hs ws) (n : ℕ) (a : ru
   find-other ne = find-none table-ordered (edge 0 0 0) (isEdge n) (edge t h 0) (edges ts hs ws m) (rules-accept n _ a)
       (λ l. let k : i < m = (let z = edges-length ts hs ws m r in omega arith) in
       rw (there k) (is-false _ (λ q. let z = alike-pair (edge t h 0) (edgeAt ts hs ws i) q in ne k (sym (z .0)) (sym (z .1)))))
+
+-- ---- update, by the weight stored where the pair was found
+
+pub weight-set : (ts hs ws : List ℕ) (m : ℕ) → Room m ts hs ws → (t h w i : ℕ) → i < m → find (edge t h 0) (edges ts hs ws m) ≡ At i
+    → edges ts hs (set ws i w) m ≡ update (edge t h w) (edges ts hs ws m)
+weight-set ts hs ws m r t h w i l f =
+    let e = found-same tableOrder (edge 0 0 0) (edge t h 0) (edges ts hs ws m) i f in
+    let z = alike-pair (edge t h 0) (edgeAt ts hs ws i) (rw (edges-at ts hs ws m r i l) at e) in
+    edges-set ts hs ws m r i w l
+    ∙ rw (← (z .0), ← (z .1)) (update-found tableOrder (edge t h w) (edges ts hs ws m) i (find-pair t h w (edges ts hs ws m) ∙ f))

@@ -46,6 +46,7 @@ table-ordered = record {
   trichotomy = λ e f h k. is-true (precedes f e) (λ l. true≢false (sym (level e f (not-less e f h) (not-less f e l)) ∙ k));
   reflexive = λ e. pair-alike e e refl refl;
   symmetric = λ e f. same-test (alike e f) (alike f e) (turn e f, turn f e);
+  level = λ e f g h. let z = alike-pair e f h in (rw (z .0, z .1), rw (z .0, z .1));
 }
   where
     through : (e f g : Edge) → Less e f → Less f g → Less e g

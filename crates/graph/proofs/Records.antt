@@ -1,6 +1,6 @@
--- The edges below a count of three lists: their number, each of them, what is left from an index on, one more, one less.
--- Assumes nothing.
-use Rattle.property.proofs.Basics.{_≡_, refl, ap, _∙_, List, [], _∷_, _++_, map, List·Memᴰ, ℕ, zero, suc, _+_, _-_, _<_, _≤_, add-one, arith, length, getD, take, drop, drop-of-length-le, length-take-le, drop-cons, getD-take}
+-- The edges below a count of three lists: their number, each of them, what is left from an index on, one more, one less, another
+-- weight. Assumes nothing.
+use Rattle.property.proofs.Basics.{_≡_, refl, ap, _∙_, List, [], _∷_, _++_, map, List·Memᴰ, ℕ, zero, suc, _+_, _-_, _<_, _≤_, add-one, arith, length, getD, set, take, drop, drop-of-length-le, length-take-le, drop-cons, getD-take, take-set-lt}
 use Rattle.graph.specs.Edge.{Edge, edge, zip, edges}
 use Rattle.graph.specs.Code.{Room, edgeAt, insertAt, deleteAt}
 use Rattle.graph.proofs.Lists.{getD-mem}
@@ -47,6 +47,17 @@ zip-delete zero m (x ∷ ts) (y ∷ hs) (z ∷ ws) a b c = refl
 zip-delete (suc i) zero (x ∷ ts) (y ∷ hs) (z ∷ ws) a b c = absurd (omega arith)
 zip-delete (suc i) (suc m) (x ∷ ts) (y ∷ hs) (z ∷ ws) a b c =
     ap (λ (l : List Edge). edge x y z ∷ l) (zip-delete i m ts hs ws (omega arith) (omega arith) (omega arith))
+
+zip-set : (i w m : ℕ) (ts hs ws : List ℕ) → length ts ≡ m → length hs ≡ m → length ws ≡ m
+    → zip ts hs (set ws i w) ≡ set (zip ts hs ws) i (edge (getD ts i 0) (getD hs i 0) w)
+unfolding zip
+zip-set i w m [] hs ws a b c = refl
+zip-set i w m (x ∷ ts) [] ws a b c = absurd (omega arith)
+zip-set i w m (x ∷ ts) (y ∷ hs) [] a b c = absurd (omega arith)
+zip-set zero w m (x ∷ ts) (y ∷ hs) (z ∷ ws) a b c = refl
+zip-set (suc i) w zero (x ∷ ts) (y ∷ hs) (z ∷ ws) a b c = absurd (omega arith)
+zip-set (suc i) w (suc m) (x ∷ ts) (y ∷ hs) (z ∷ ws) a b c =
+    ap (λ (l : List Edge). edge x y z ∷ l) (zip-set i w m ts hs ws (omega arith) (omega arith) (omega arith))
 
 -- ---- edges below a count
 
@@ -95,6 +106,12 @@ module _ (ts hs ws : List ℕ) (m : ℕ) (r : Room m ts hs ws) where
   unfolding edges
   edges-delete i ts' hs' ws' x y z =
       rw (x, y, z) (zip-delete i m (take m ts) (take m hs) (take m ws) (length-take-le m ts (r .tails)) (length-take-le m hs (r .heads)) (length-take-le m ws (r .weights)))
+
+  -- a weight stored at an index
+  pub edges-set : (i w : ℕ) → i < m → edges ts hs (set ws i w) m ≡ set (edges ts hs ws m) i (edge (getD ts i 0) (getD hs i 0) w)
+  unfolding edges
+  edges-set i w l = rw (take-set-lt m ws i w l, ← (getD-take m ts i 0 l), ← (getD-take m hs i 0 l))
+      (zip-set i w m (take m ts) (take m hs) (take m ws) (length-take-le m ts (r .tails)) (length-take-le m hs (r .heads)) (length-take-le m ws (r .weights)))
 
 -- ---- stores and columns
 

@@ -4,7 +4,8 @@
 --   edge t h w       == the edge from t to h of weight w
 --   reverse e        == e the other way round; backward rows go by reversed edges
 --   same e f         == the same three words
---   alike e f        == both can't stand in one table: the same tail and head
+--   samePair e f     == the same tail and head
+--   alike e f        == both can't stand in one table: they are of one pair
 --   precedes e f     == table order: "by tail, then head"
 --   keep f es        == the edges of es that pass the test f, in order
 --   exists f xs      == some element of xs passes the test f
@@ -32,8 +33,11 @@ edge t h w = record { tail = t; head = h; weight = w }
 abbrev pub reverse : Edge → Edge
 reverse e = edge (e .head) (e .tail) (e .weight)
 
+abbrev pub samePair : Edge → Edge → Bool
+samePair e f = eqb (e .tail) (f .tail) && eqb (e .head) (f .head)
+
 abbrev pub alike : Edge → Edge → Bool
-alike e f = eqb (e .tail) (f .tail) && eqb (e .head) (f .head)
+alike e f = samePair e f
 
 abbrev pub same : Edge → Edge → Bool
 same e f = eqb (e .tail) (f .tail) && (eqb (e .head) (f .head) && eqb (e .weight) (f .weight))

@@ -10,3 +10,4 @@ pub mod Routed
 pub mod Arc
 pub mod Index
 pub mod Parted
+pub mod Moved

@@ -1,5 +1,5 @@
--- The edge table: its lent lists, its rules, how one edge is put in or struck, and refusals 1, 2 and 4 of every call that takes
--- a table: document 01, "Network", "The network as it is now" and "Turned back". Assumes nothing.
+-- The edge table: its lent lists, its rules, how one edge is put in, struck or given another weight, and refusals 1, 2 and 4 of every call that takes
+-- a table: document 01, "Network", "The network as it is now" and "Turned back"; document 02, One. Assumes nothing.
 --
 --   Columns           == the three lent lists of a table: tails, heads, weights
 --   edgesOf cs m      == the edges of a table: the records below the count m
@@ -14,6 +14,7 @@
 --   table n cs m      == number 4: a count over 2,048, at 0; or the first record that breaks the rules
 --   insert e es       == es with e put in, in table order
 --   delete e es       == es with the edge alike e struck
+--   update e es       == es with e in the place of the edge alike e: that edge has the weight of e now
 use mathlib.Core.Bool.{Bool, not, _&&_, _||_}
 use mathlib.Core.List.{List}
 use Prim.Native.Nat.{ℕ}
@@ -61,10 +62,13 @@ shortTable cs = refuseIf (ltb (length (cs .tails)) maxEdges || (ltb (length (cs 
 abbrev pub table : ℕ → Columns → ℕ → Verdict
 table n cs m = refuseIf (ltb maxEdges m) 4 0 ▷ rules n (edgesOf cs m)
 
--- ---- one edge more, one edge less
+-- ---- one edge more, one edge less, another weight
 
 abbrev pub insert : Edge → List Edge → List Edge
 insert e es = order.insert tableOrder e es
 
 abbrev pub delete : Edge → List Edge → List Edge
 delete e es = order.delete tableOrder e es
+
+abbrev pub update : Edge → List Edge → List Edge
+update e es = order.update tableOrder e es

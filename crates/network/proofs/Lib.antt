@@ -12,3 +12,4 @@ pub mod Held
 pub mod Stays
 pub mod Steady
 pub mod Routed
+pub mod Drift

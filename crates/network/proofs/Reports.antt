@@ -10,7 +10,8 @@ use Rattle.graph.proofs.Edges.{true-exists, exists-true}
 use Rattle.run.specs.Run.{word}
 use Rattle.graph.proofs.Order.{Within}
 use Rattle.theory.proofs.Rounds.{settle-all}
-use Rattle.affected.specs.Affected.{added, Affected, marked, affected}
+use Rattle.affected.specs.Net.{added}
+use Rattle.affected.specs.Affected.{Affected, marked, affected}
 use Rattle.affected.specs.Prepared.{cleared, reopened, prepared}
 use Rattle.affected.proofs.Sweeps.{affected-length, unaffected-unmarked, affected-exact}
 use Rattle.network.specs.Network.{row, propertyOf, landmarkOf, unsettled, storesOf}

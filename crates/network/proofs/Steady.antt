@@ -1,6 +1,7 @@
 -- The claims of specs/Steady.antt. Assumes nothing.
-use Rattle.property.proofs.Basics.{_≡_, refl, sym, ap, _∙_, Bool, false, not, _&&_, _||_, cond, true≢false, false≢true, List, [], _∷_, _++_, map, List·Memᴰ, List·Memᴰ·head, List·Memᴰ·tail, ℕ, zero, suc, _+_, _*_, _%_, _≤_, _<_, zero-mul, suc-mul, mul-le-mul-right, arith, length, getD, take, drop, length-drop, take-append-drop, length-take-le, take-add, drop-drop, ext-getD, ltb, eqb, ltb-false}
+use Rattle.property.proofs.Basics.{_≡_, refl, sym, ap, _∙_, Bool, false, _&&_, _||_, cond, true≢false, false≢true, List, [], _∷_, _++_, map, List·Memᴰ, List·Memᴰ·head, List·Memᴰ·tail, ℕ, zero, suc, _+_, _*_, _%_, _≤_, _<_, zero-mul, suc-mul, mul-le-mul-right, arith, length, getD, take, drop, length-drop, take-append-drop, length-take-le, take-add, drop-drop, ext-getD, ltb, eqb, ltb-false}
 use Rattle.property.specs.Property.{Property, properties}
+use Rattle.property.specs.Laws.{Laws}
 use Rattle.property.proofs.Tests.{is-false}
 use Rattle.property.proofs.Instances.{property-laws}
 use Rattle.frontier.specs.Waiting.{anyOf, countOf}
@@ -10,15 +11,18 @@ use Rattle.graph.specs.Edge.{Edge, reverse, range, exists}
 use Rattle.graph.specs.Table.{size, shortTable, table}
 use Rattle.graph.proofs.Tests.{both, neither, or-false}
 use Rattle.graph.proofs.Lists.{length-table, table-at, range-below}
-use Rattle.graph.proofs.Edges.{exists-true, mem-among}
+use Rattle.graph.proofs.Edges.{exists-true}
 use Rattle.graph.proofs.Verdicts.{accept-then, if-accept, accept-if, outcome-accepted}
+use Rattle.graph.proofs.Judging.{table-accept}
 use Rattle.graph.proofs.Order.{Within}
 use Rattle.run.specs.Run.{State, word, settle}
 use Rattle.theory.proofs.Settle.{Settled, settle-idle}
 use Rattle.theory.proofs.Value.{best-settled}
 use Rattle.theory.proofs.Reverse.{within-reverse}
-use Rattle.affected.specs.Affected.{absent, added, Affected, at-removed, onward, marked, affected}
+use Rattle.affected.specs.Net.{added}
+use Rattle.affected.specs.Affected.{Affected, at-removed, onward, marked, affected}
 use Rattle.affected.specs.Prepared.{cleared, reopened, prepared}
+use Rattle.affected.proofs.Net.{Single, rules-single, single-reverse, kept-stays}
 use Rattle.affected.proofs.Sweeps.{unaffected-unmarked}
 use Rattle.network.specs.Network.{Rows, Network, edgesIn, rowCount, shortRows, landmarks, faults, row, propertyOf, landmarkOf, rowsOf, flat, unsettled, storesOf}
 use Rattle.network.specs.Change.{items}
@@ -34,19 +38,16 @@ use Rattle.network.proofs.Never.{open-judged}
 
 -- ---- nothing is removed, and nothing added
 
-unmoved : {es : List Edge} {e : Edge} → List·Memᴰ e es → absent es e ≡ false
-unmoved m = ap not (mem-among m)
-
 -- where no edge is removed, no vertex is affected: a chain of held edges would have to begin at a removed one
-none-affected : (P : Property) (es : List Edge) (s : ℕ) (ws : List ℕ) {t : ℕ} → Affected P es es s ws t → ⊥
-none-affected P es s ws (at-removed m r h) = true≢false (sym r ∙ unmoved m)
-none-affected P es s ws (onward a m r h) = none-affected P es s ws a
+none-affected : {P : Property} → Laws P → (es : List Edge) → Single es → (s : ℕ) (ws : List ℕ) {t : ℕ} → Affected P es es s ws t → ⊥
+none-affected {P} L es z s ws (at-removed {e = e} m r h) = true≢false (sym r ∙ kept-stays es z P L e m)
+none-affected L es z s ws (onward a m r h) = none-affected L es z s ws a
 
 -- ---- one row whose words are ws
 
-module _ (P : Property) (es : List Edge) (s : ℕ) (ws : List ℕ) (n : ℕ) where
+module _ {P : Property} (L : Laws P) (es : List Edge) (single : Single es) (s : ℕ) (ws : List ℕ) (n : ℕ) where
   unmarked : (t : ℕ) → marked (affected P es es s ws n) t ≡ false
-  unmarked t = unaffected-unmarked P es es s ws n t (none-affected P es s ws)
+  unmarked t = unaffected-unmarked P es es s ws n t (none-affected L es single s ws)
 
   none-counted : countOf (affected P es es s ws n) ≡ 0
   none-counted = count-none (affected P es es s ws n) unmarked
@@ -59,7 +60,7 @@ module _ (P : Property) (es : List Edge) (s : ℕ) (ws : List ℕ) (n : ℕ) whe
   asleep t = is-false (wakes t) (λ h.
       let (e, m, q) = exists-true (λ e. eqb (e .tail) t && (marked (affected P es es s ws n) (e .head) || added P es e)) es h in
       let z = (both (eqb (e .tail) t) (marked (affected P es es s ws n) (e .head) || added P es e) q) .1 in
-      false≢true (sym (or-false (unmarked (e .head)) (unmoved m)) ∙ z))
+      false≢true (sym (or-false (unmarked (e .head)) (kept-stays es single P L e m)) ∙ z))
 
   asleep-at : (t : ℕ) → getD (map wakes (range 0 n)) t false ≡ false
   asleep-at t = is-false _ (λ h. false≢true (sym (asleep-in (map wakes (range 0 n)) (λ b m. all (range 0 n) b m) t) ∙ h))
@@ -116,16 +117,19 @@ pub row-long : (n k r : ℕ) (xs : List ℕ) → k * n ≤ length xs → r < k �
 row-long n k r xs h q = length-take-le n (drop (r * n) xs) (let z = length-drop (r * n) xs in let a = suc-mul r n in let b = mul-le-mul-right n q in omega arith)
 
 -- nothing is removed and nothing added, so the runs start, and end, with the words that are there
-module _ (n : ℕ) (ls : List ℕ) (es : List Edge) (xs : List ℕ) (long : rowCount ls * n ≤ length xs) where
+module _ (n : ℕ) (ls : List ℕ) (es : List Edge) (single : Single es) (xs : List ℕ) (long : rowCount ls * n ≤ length xs) where
+  laws : (r : ℕ) → Laws (propertyOf r)
+  laws r = property-laws (suc (r % properties))
+
   abbrev ready : ℕ → State
   ready r = prepared (propertyOf r) es es (landmarkOf ls r) (row n r xs) n
 
   row-still : (r : ℕ) → batchRow n ls es es xs r ≡ ready r
-  row-still r = still (propertyOf r) es (landmarkOf ls r) (row n r xs) n n
+  row-still r = still (laws r) es single (landmarkOf ls r) (row n r xs) n n
 
   rows-rest : unsettled (batchRows n ls es es xs) ≡ false
   rows-rest = unsettled-map (batchRow n ls es es xs) (rowsOf ls)
-      (λ r m. ap (λ st. anyOf (st .waiting)) (row-still r) ∙ none-waits (propertyOf r) es (landmarkOf ls r) (row n r xs) n)
+      (λ r m. ap (λ st. anyOf (st .waiting)) (row-still r) ∙ none-waits (laws r) es single (landmarkOf ls r) (row n r xs) n)
 
   rows-kept : over (flat (batchRows n ls es es xs)) xs ≡ xs
   rows-kept = ap (λ l. over l xs) (flat-rows n (batchRow n ls es es xs) xs 0 (rowCount ls) words) ∙ ap (λ j. over (take (rowCount ls * n) (drop j xs)) xs) (zero-mul n)
@@ -133,7 +137,7 @@ module _ (n : ℕ) (ls : List ℕ) (es : List Edge) (xs : List ℕ) (long : rowC
     where
       words : (r : ℕ) → r < 0 + rowCount ls → (batchRow n ls es es xs r) .words ≡ row n r xs
       words r h = ap (λ st. st .words) (row-still r)
-          ∙ none-cleared (propertyOf r) es (landmarkOf ls r) (row n r xs) n (row-long n (rowCount ls) r xs long (omega arith))
+          ∙ none-cleared (laws r) es single (landmarkOf ls r) (row n r xs) n (row-long n (rowCount ls) r xs long (omega arith))
 
   no-stores : (rs : List ℕ) → storesOf (map (batchRow n ls es es xs) rs) ≡ 0
   unfolding storesOf prepared
@@ -143,7 +147,7 @@ module _ (n : ℕ) (ls : List ℕ) (es : List Edge) (xs : List ℕ) (long : rowC
   no-affected : (rs : List ℕ) → affectedOver n ls es es xs rs ≡ 0
   unfolding affectedOver
   no-affected [] = refl
-  no-affected (r ∷ rs) = let a = none-counted (propertyOf r) es (landmarkOf ls r) (row n r xs) n in let b = no-affected rs in omega arith
+  no-affected (r ∷ rs) = let a = none-counted (laws r) es single (landmarkOf ls r) (row n r xs) n in let b = no-affected rs in omega arith
 
 -- ---- the empty batch
 
@@ -160,28 +164,34 @@ empty-batch n ls w h = (ap (λ o. o .reply) whole, ap (λ o. o .memory .rows) wh
     longs : (rowCount ls * n ≤ length (w .memory .rows .forward)) × (rowCount ls * n ≤ length (w .memory .rows .backward))
     longs = long-rows n ls (w .memory .rows) (parts .2)
 
+    ahead : Single (edgesIn w)
+    ahead = rules-single n (edgesIn w) (table-accept n (w .memory .table) (w .count) (parts .4) .1)
+
+    back : Single (map reverse (edgesIn w))
+    back = single-reverse (edgesIn w) ahead
+
     count : length (edgesIn w) ≡ w .count
     count = table-count (w .memory .table) (w .count) (parts .1) ((table-sound n (w .memory .table) (w .count) (parts .4)) .0)
 
     verdict : batchVerdict n ls w [] ≡ accept
     verdict = ap (λ v. v ▷ refuseIf (unsettled (newForward n ls w (edgesIn w)) || unsettled (newBackward n ls w (edgesIn w))) 13 0) h
-        ∙ accept-if 13 0 (or-false (rows-rest n ls (edgesIn w) (w .memory .rows .forward) (longs .0)) (rows-rest n ls (map reverse (edgesIn w)) (w .memory .rows .backward) (longs .1)))
+        ∙ accept-if 13 0 (or-false (rows-rest n ls (edgesIn w) ahead (w .memory .rows .forward) (longs .0)) (rows-rest n ls (map reverse (edgesIn w)) back (w .memory .rows .backward) (longs .1)))
 
     told : report n ls w (edgesIn w) ≡ record { count = w .count; affected = 0; stores = 0 }
     told = λ i. record { count = count i; affected = a i; stores = s i }
       where
         a : report n ls w (edgesIn w) .affected ≡ 0
-        a = let x = no-affected n ls (edgesIn w) (w .memory .rows .forward) (longs .0) (rowsOf ls) in let y = no-affected n ls (map reverse (edgesIn w)) (w .memory .rows .backward) (longs .1) (rowsOf ls) in omega arith
+        a = let x = no-affected n ls (edgesIn w) ahead (w .memory .rows .forward) (longs .0) (rowsOf ls) in let y = no-affected n ls (map reverse (edgesIn w)) back (w .memory .rows .backward) (longs .1) (rowsOf ls) in omega arith
 
         s : report n ls w (edgesIn w) .stores ≡ 0
-        s = let x = no-stores n ls (edgesIn w) (w .memory .rows .forward) (longs .0) (rowsOf ls) in let y = no-stores n ls (map reverse (edgesIn w)) (w .memory .rows .backward) (longs .1) (rowsOf ls) in omega arith
+        s = let x = no-stores n ls (edgesIn w) ahead (w .memory .rows .forward) (longs .0) (rowsOf ls) in let y = no-stores n ls (map reverse (edgesIn w)) back (w .memory .rows .backward) (longs .1) (rowsOf ls) in omega arith
 
     lists : batchMemory n ls w (edgesIn w) ≡ record { table = rewritten (edgesIn w) (w .memory .table); rows = w .memory .rows }
     lists = λ i. record {
       table = rewritten (edgesIn w) (w .memory .table);
       rows = record {
-        forward = rows-kept n ls (edgesIn w) (w .memory .rows .forward) (longs .0) i;
-        backward = rows-kept n ls (map reverse (edgesIn w)) (w .memory .rows .backward) (longs .1) i;
+        forward = rows-kept n ls (edgesIn w) ahead (w .memory .rows .forward) (longs .0) i;
+        backward = rows-kept n ls (map reverse (edgesIn w)) back (w .memory .rows .backward) (longs .1) i;
       };
     }
 

@@ -1,9 +1,12 @@
--- The changes of a batch: document 01, "Batch" and numbers 6 to 12. Assumes nothing.
+-- The changes of a batch: document 01, "Batch" and numbers 6 to 12; document 02, One. Assumes nothing.
 --
---   Change              == a change record: kind (1 add, 2 take), tail, head, weight; an add inserts, a take deletes
+--   Change              == a change record: kind (1 add, 2 take, 3 retune), tail, head, weight; an add inserts, a take deletes, a retune updates
 --   named c             == the edge that a change names
 --   inserts c           == c is of kind 1
---   edit es c           == the edges after a change: an insert puts in its edge, a delete strikes the one it names
+--   deletes c           == c is of kind 2
+--   updates c           == c is of kind 3
+--   edit es c           == the edges after a change: an insert puts in its edge, an update sets the weight of the one it names, a delete strikes
+--                          that one
 --   edits es cs         == the edges after changes, in order
 --   words n i c         == numbers 6 to 9 of the change c, at place i: those of its own words
 --   against i es c      == numbers 10 to 12: those against the edges es
@@ -17,7 +20,7 @@ use lib.Dec.{ltb, eqb}
 use Rattle.graph.specs.Limits.{maxEdges}
 use Rattle.graph.specs.Refusal.{Verdict, accept, _▷_, refuseIf}
 use Rattle.graph.specs.Edge.{Edge, edge, present}
-use Rattle.graph.specs.Table.{isWeight, insert, delete}
+use Rattle.graph.specs.Table.{isWeight, insert, delete, update}
 
 pub record Change : Type 0 where
   pub kind : ℕ
@@ -31,8 +34,14 @@ named c = edge (c .tail) (c .head) (c .weight)
 abbrev pub inserts : Change → Bool
 inserts c = eqb (c .kind) 1
 
+abbrev pub deletes : Change → Bool
+deletes c = eqb (c .kind) 2
+
+abbrev pub updates : Change → Bool
+updates c = eqb (c .kind) 3
+
 unfoldable pub edit : List Edge → Change → List Edge
-edit es c = cond (inserts c) (insert (named c) es) (delete (named c) es)
+edit es c = cond (inserts c) (insert (named c) es) (cond (updates c) (update (named c) es) (delete (named c) es))
 
 abbrev pub edits : List Edge → List Change → List Edge
 edits es cs = foldl edit es cs
@@ -40,9 +49,9 @@ edits es cs = foldl edit es cs
 unfoldable pub words : ℕ → ℕ → Change → Verdict
 words n i c =
     refuseIf (not (ltb (c .tail) n && ltb (c .head) n)) 6 i
-    ▷ refuseIf (not (inserts c || eqb (c .kind) 2)) 7 i
+    ▷ refuseIf (not (inserts c || (deletes c || updates c))) 7 i
     ▷ refuseIf (eqb (c .tail) (c .head)) 8 i
-    ▷ refuseIf (not (cond (inserts c) (isWeight (c .weight)) (eqb (c .weight) 0))) 9 i
+    ▷ refuseIf (not (cond (deletes c) (eqb (c .weight) 0) (isWeight (c .weight)))) 9 i
 
 unfoldable pub against : ℕ → List Edge → Change → Verdict
 against i es c =

@@ -39,7 +39,8 @@ use Rattle.graph.specs.Edge.{Edge, reverse}
 use Rattle.graph.specs.Route.{Best}
 use Rattle.run.specs.Run.{State, Tally, noTally, word, waits, relaxable, pass}
 use Rattle.run.specs.Rounds.{Rounds}
-use Rattle.affected.specs.Affected.{added, Affected}
+use Rattle.affected.specs.Net.{added}
+use Rattle.affected.specs.Affected.{Affected}
 use Rattle.network.specs.Network.{Network, edgesIn, faults, rowCount, row, propertyOf, landmarkOf, rowsOf}
 use Rattle.network.specs.Open.{openCall}
 use Rattle.network.specs.Query.{Query, Words, queryCall}

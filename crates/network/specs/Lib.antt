@@ -12,3 +12,4 @@ pub mod History
 pub mod Steady
 pub mod Routed
 pub mod Never
+pub mod Drift

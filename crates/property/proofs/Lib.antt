@@ -1,3 +1,4 @@
 pub mod Basics
 pub mod Tests
 pub mod Instances
+pub mod Drift

@@ -3,9 +3,16 @@
 --   tests               == what `ltb`, `leb` and `eqb` say where they are true and where they are false, and back
 --   is-true, is-false   == a test that can't come out one way comes out the other
 --   by-test             == by the two ways that a test can come out
-use Rattle.property.proofs.Basics.{_≡_, refl, Bool, true, false, arith, ltb-true, ltb-false, lt-ltb, le-ltb, leb-true, leb-false, le-leb, lt-leb, eqb-true, eqb-false, eq-eqb, ne-eqb}
+--   always-false, never-true == the same for a test that is always false
+use Rattle.property.proofs.Basics.{_≡_, refl, Bool, true, false, false≢true, _≤_, arith, ltb-true, ltb-false, lt-ltb, le-ltb, leb-true, leb-false, le-leb, lt-leb, eqb-true, eqb-false, eq-eqb, ne-eqb}
 
-pub ruleset tests = (ltb-true, ltb-false, lt-ltb, le-ltb, leb-true, leb-false, le-leb, lt-leb, eqb-true, eqb-false, eq-eqb, ne-eqb, arith)
+pub always-false : 0 ≤ 0 → false ≡ false
+always-false h = refl
+
+pub never-true : false ≡ true → 1 ≤ 0
+never-true h = absurd (false≢true h)
+
+pub ruleset tests = (always-false, never-true, ltb-true, ltb-false, lt-ltb, le-ltb, leb-true, leb-false, le-leb, lt-leb, eqb-true, eqb-false, eq-eqb, ne-eqb, arith)
 
 pub is-true : (t : Bool) → (t ≡ false → ⊥) → t ≡ true
 is-true true h = refl

@@ -3,7 +3,7 @@
 -- "a is no worse than b" is written `better b a ≡ false`. Words are at most M.
 --
 --   Laws P    == better is a strict total order; going along keeps it and never betters; no route leads on to no route,
---                and is no better than any word
+--                and is no better than any word; a weight that is not worse leads to no worse a value, and one that is worse shows
 --   Joins P   == edges may be gone along in either order, and joining is going along from the value joined
 use mathlib.Core.Path.{_≡_}
 use mathlib.Core.Bool.{false, true}
@@ -22,6 +22,9 @@ pub record Laws (P : Property) : Type 0 where
   pub start-fits : P .start ≤ M
   pub none-fits : P .none ≤ M
   pub none-worst : (a : ℕ) → a ≤ M → P .better (P .none) a ≡ false
+  pub worse-irreflexive : (w : ℕ) → P .worse w w ≡ false
+  pub worse-along : (v a b : ℕ) → P .worse a b ≡ false → P .better (P .along v b) (P .along v a) ≡ false
+  pub worse-shows : (a b : ℕ) → a ≤ M → b ≤ M → P .worse a b ≡ true → P .better (P .along (P .start) b) (P .along (P .start) a) ≡ true
 
 pub record Joins (P : Property) : Type 0 where
   pub along-swaps : (a v w : ℕ) → P .along (P .along a v) w ≡ P .along (P .along a w) v

@@ -1,2 +1,3 @@
 pub mod Property
 pub mod Laws
+pub mod Drift

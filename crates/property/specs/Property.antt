@@ -2,7 +2,8 @@
 --
 --   M               == 4,294,967,295: the greatest word of 32 bits
 --   plus a b        == the sum of two words; M where it is above 4,294,967,294
---   Property        == a row of the table: value at the source, no-route word, along an edge, better, and how values join
+--   Property        == a row of the table: value at the source, no-route word, along an edge, better, how values join,
+--                      and which weights are worse
 --   sssp            == time: sums of weights, less is better
 --   bfs             == handovers: edges counted, less is better
 --   sswp            == headroom: the least weight, greater is better
@@ -11,7 +12,7 @@
 --   properties      == how many there are
 --   property p      == the property of number p, from 1
 --   isProperty p    == p is the number of a property
-use mathlib.Core.Bool.{Bool, _&&_}
+use mathlib.Core.Bool.{Bool, false, _&&_}
 use Prim.Native.Nat.{ℕ, zero, suc, _+_, min, max}
 use lib.Dec.{ltb, leb}
 
@@ -32,21 +33,24 @@ pub record Property : Type 0 where
   pub better : ℕ → ℕ → Bool
   -- "joining": the value to a vertex with the value on from it
   pub join : ℕ → ℕ → ℕ
+  -- `worse a b`: the weight a is worse than the weight b: document 02, One, "more is worse for time and worst stretch, less is worse for
+  -- headroom, neither for handovers and reach"
+  pub worse : ℕ → ℕ → Bool
 
 abbrev pub sssp : Property
-sssp = record { start = 0; none = M; along = λ v w. plus v w; better = λ a b. ltb a b; join = λ a b. plus a b }
+sssp = record { start = 0; none = M; along = λ v w. plus v w; better = λ a b. ltb a b; join = λ a b. plus a b; worse = λ a b. ltb b a }
 
 abbrev pub bfs : Property
-bfs = record { start = 0; none = M; along = λ v w. plus v 1; better = λ a b. ltb a b; join = λ a b. plus a b }
+bfs = record { start = 0; none = M; along = λ v w. plus v 1; better = λ a b. ltb a b; join = λ a b. plus a b; worse = λ a b. false }
 
 abbrev pub sswp : Property
-sswp = record { start = M; none = 0; along = λ v w. min v w; better = λ a b. ltb b a; join = λ a b. min a b }
+sswp = record { start = M; none = 0; along = λ v w. min v w; better = λ a b. ltb b a; join = λ a b. min a b; worse = λ a b. ltb a b }
 
 abbrev pub ssnp : Property
-ssnp = record { start = 0; none = M; along = λ v w. max v w; better = λ a b. ltb a b; join = λ a b. max a b }
+ssnp = record { start = 0; none = M; along = λ v w. max v w; better = λ a b. ltb a b; join = λ a b. max a b; worse = λ a b. ltb b a }
 
 abbrev pub ssr : Property
-ssr = record { start = 1; none = 0; along = λ v w. v; better = λ a b. ltb b a; join = λ a b. min a b }
+ssr = record { start = 1; none = 0; along = λ v w. v; better = λ a b. ltb b a; join = λ a b. min a b; worse = λ a b. false }
 
 abbrev pub properties : ℕ
 properties = 5

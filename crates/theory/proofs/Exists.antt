@@ -13,20 +13,20 @@ use Rattle.theory.proofs.Value.{Way, Attained, way-fits, way-after}
 abbrev Top : Property → List Edge → ℕ → ℕ → ℕ → Type 0
 Top P es s v t = ((u : ℕ) × Way P es s v t u × ((w : ℕ) → Way P es s v t w → P .better w u ≡ false)) ⊎ ((w : ℕ) → Way P es s v t w → ⊥)
 
-abbrev Through : Property → Edge → List Edge → ℕ → ℕ → ℕ → ℕ → Type 0
+abbrev pub Through : Property → Edge → List Edge → ℕ → ℕ → ℕ → ℕ → Type 0
 Through P o es s v t u =
     (x : ℕ) × Way P es s v (o .tail) x × ((y : ℕ) × Way P es (o .head) (P .along x (o .weight)) t y × (P .better u y ≡ false))
 
 -- ---- ways, put together
 
-route-map : {P : Property} {es fs : List Edge} {s t u : ℕ} → ((e : Edge) → List·Memᴰ e es → List·Memᴰ e fs) → Route P es s t u → Route P fs s t u
+pub route-map : {P : Property} {es fs : List Edge} {s t u : ℕ} → ((e : Edge) → List·Memᴰ e es → List·Memᴰ e fs) → Route P es s t u → Route P fs s t u
 route-map f here = here
 route-map f (step {e = e} r m) = step (route-map f r) (f e m)
 
 module _ {P : Property} (L : Laws P) where
   open Property P using (along, better)
 
-  way-join : {es : List Edge} {s v h a t u : ℕ} → Way P es s v h a → Way P es h a t u → Way P es s v t u
+  pub way-join : {es : List Edge} {s v h a t u : ℕ} → Way P es s v h a → Way P es h a t u → Way P es s v t u
   way-join r here = r
   way-join r (step q m) = step (way-join r q) m
 
@@ -44,7 +44,7 @@ module _ {P : Property} (L : Laws P) where
     weight : o .weight ≤ M
     weight = weights o (List·Memᴰ·head refl)
 
-    abbrev Once : ℕ → ℕ → Type 0
+    abbrev pub Once : ℕ → ℕ → Type 0
     Once t u = Way P es s v t u ⊎ Through P o es s v t u
 
     -- A way along o ∷ es is one along es, or there is one no worse that uses o once. Where it comes to o for a second time, leave out
@@ -61,7 +61,7 @@ module _ {P : Property} (L : Laws P) where
         back : better y x ≡ false
         back = L .transitive _ _ _ (L .along-no-better x (o .weight) x-fits) (way-after L weights′ (L .along-fits _ _ x-fits weight) q)
 
-    once : {t u : ℕ} → Way P (o ∷ es) s v t u → Once t u
+    pub once : {t u : ℕ} → Way P (o ∷ es) s v t u → Once t u
     once here = inl here
     once (step {e = e} {v = w} r m) = once-more e w (once r) (List·Memᴰ·cases-cons m)
 

@@ -10,3 +10,4 @@ pub mod Query
 pub mod Fits
 pub mod Hops
 pub mod Routed
+pub mod Drift

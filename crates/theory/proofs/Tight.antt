@@ -5,17 +5,30 @@
 --   tights                 == the tight edges
 --   Crossing u             == an edge from a vertex that tight edges reach to one that they do not, no worse than u at its end
 --   Stray e                == the head of e has a walk, but none of tight edges
-use Rattle.property.proofs.Basics.{_≡_, refl, sym, ap, _∙_, _⊎_, inl, inr, ⊎-elim, _≢_, Bool, true, false, List, [], _∷_, List·Memᴰ, List·Memᴰ·head, List·Memᴰ·tail, List·Memᴰ·cases-cons, List·Memᴰ·not-nil, ℕ, ℕ-discrete, eqb-true, eq-eqb}
+--   Upheld t               == a route to t along the new edges is no worse than the word of t
+--   Stands P fs e          == fs has an edge of the ends of e that is no worse, from whatever value
+use Rattle.property.proofs.Basics.{_≡_, refl, sym, ap, subst, _∙_, _⊎_, inl, inr, ⊎-elim, _≢_, Bool, true, false, List, [], _∷_, List·Memᴰ, List·Memᴰ·head, List·Memᴰ·tail, List·Memᴰ·cases-cons, List·Memᴰ·not-nil, ℕ, ℕ-discrete, eqb-true, eq-eqb}
 use Rattle.property.specs.Property.{Property}
 use Rattle.property.specs.Laws.{Laws}
 use Rattle.graph.specs.Edge.{Edge, keep}
 use Rattle.graph.specs.Route.{Route, here, step, Best}
 use Rattle.graph.proofs.Edges.{keep-in, in-keep}
 use Rattle.graph.proofs.Order.{Within}
-use Rattle.run.specs.Run.{word, tight}
+use Rattle.run.specs.Run.{word, relaxable, tight}
 use Rattle.theory.proofs.Walk.{Walk, stay, go, walk?, walk-map, walk-of, route-of}
-use Rattle.theory.proofs.Settle.{Backed, route-backed}
+use Rattle.theory.proofs.Settle.{Settled, Backed}
 use Rattle.theory.proofs.Value.{Attained, value-fits, value-after}
+
+-- ---- edges that have one no worse in their place
+
+abbrev pub Stands : Property → List Edge → Edge → Type 0
+Stands P fs e = (f : Edge) × List·Memᴰ f fs × (e .tail ≡ f .tail) × (e .head ≡ f .head)
+    × ((v : ℕ) → P .better (P .along v (e .weight)) (P .along v (f .weight)) ≡ false)
+
+-- settled words are settled for an edge that has one no worse among theirs
+pub settled-stands : {P : Property} → Laws P → (es : List Edge) (ws : List ℕ) → Settled P es ws → (e : Edge) → Stands P es e → relaxable P ws e ≡ false
+settled-stands {P} L es ws settled e (f, m, p, q, h) =
+    rw (relaxable, p, q) (L .transitive _ _ _ (settled f m) (h (word P ws (f .tail))))
 
 -- ---- the best of those that have a property
 
@@ -111,30 +124,40 @@ module _ {P : Property} (L : Laws P) (es : List Edge) (s n : ℕ) (inside : With
 
   -- ---- other edges: words that stay attained
 
-  -- fs is the list of edges after a batch, and `out` any set of vertices that is closed: it has the head of each tight edge that is removed or
-  -- whose tail it has, unless that head is the source or has no route
+  -- fs is the list of edges after a batch, and `out` any set of vertices that is closed: it has the head of each tight edge that does not stand in
+  -- fs or whose tail it has, unless that head is the source or has no route
   module _ (fs : List Edge) (out : ℕ → Bool)
       (closed : (e : Edge) → List·Memᴰ e es → tight P ws e ≡ true → e .head ≢ s → word P ws (e .head) ≢ none → out (e .head) ≡ false
-      → List·Memᴰ e fs × (out (e .tail) ≡ false)) where
-    upheld : {t : ℕ} → Walk tights s t → word P ws t ≢ none → out t ≡ false → Route P fs s t (word P ws t)
-    upheld stay d q = rw source-word here
+      → Stands P fs e × (out (e .tail) ≡ false)) where
+    abbrev Upheld : ℕ → Type 0
+    Upheld t = (u : ℕ) × Route P fs s t u × (better (word P ws t) u ≡ false)
+
+    upheld-on : (e : Edge) → Stands P fs e → along (word P ws (e .tail)) (e .weight) ≡ word P ws (e .head) → Upheld (e .tail) → Upheld (e .head)
+    upheld-on e (f, m, p, q, h) z (u, r, j) = (
+      along u (f .weight),
+      subst (λ x. Route P fs s x (along u (f .weight))) (sym q) (step (subst (λ x. Route P fs s x u) p r) m),
+      subst (λ x. better x (along u (f .weight)) ≡ false) z (L .transitive _ _ _ (h u) (L .along-monotone _ _ _ j)),
+    )
+
+    upheld : {t : ℕ} → Walk tights s t → word P ws t ≢ none → out t ≡ false → Upheld t
+    upheld stay d q = (start, here, rw source-word (L .irreflexive start))
     upheld (go {e = e} w m) d q = pick (λ a b. upheld w a b) (ℕ-discrete (e .head) s)
       where
-        pick : (word P ws (e .tail) ≢ none → out (e .tail) ≡ false → Route P fs s (e .tail) (word P ws (e .tail))) → Dec (e .head ≡ s)
-            → Route P fs s (e .head) (word P ws (e .head))
-        pick below (yes p) = rw (p, source-word) here
+        pick : (word P ws (e .tail) ≢ none → out (e .tail) ≡ false → Upheld (e .tail)) → Dec (e .head ≡ s) → Upheld (e .head)
+        pick below (yes p) = rw p (start, here, rw source-word (L .irreflexive start))
         pick below (no k) =
             let (mo, t) = keep-in (tight P ws) es e m in
-            let (mf, q′) = closed e mo t k d q in
+            let (st, q′) = closed e mo t k d q in
             let z : along (word P ws (e .tail)) (e .weight) ≡ word P ws (e .head) = eqb-true _ _ t in
-            rw (← z) (step (below (λ c. d (sym z ∙ ap (λ x. along x (e .weight)) c ∙ L .along-none _ (inside .weights e mo))) q′) mf)
+            upheld-on e st z (below (λ c. d (sym z ∙ ap (λ x. along x (e .weight)) c ∙ L .along-none _ (inside .weights e mo))) q′)
 
     -- A word outside the set is none, or the value of a route. Then tight edges reach its vertex. Back along them to the source, each head is
-    -- outside the set, so its edge is not removed and its tail is outside too. So they are a route of the new edges, and of the same value.
+    -- outside the set, so its edge stands and its tail is outside too. So the edges in their places are a route of the new edges, of a
+    -- value that is no worse.
     pub still-sound : (t : ℕ) → out t ≡ false → Backed P fs s t (word P ws t)
     still-sound t q = pick (ℕ-discrete (word P ws t) none) ((best t) .attained)
       where
         pick : Dec (word P ws t ≡ none) → Attained P es s t (word P ws t) → Backed P fs s t (word P ws t)
         pick (yes p) a = inr p
-        pick (no d) (inl r) = route-backed L (upheld (tight-walk (walk-of r)) d q) (value-fits L es s n inside r)
+        pick (no d) (inl r) = let (u, z, h) = upheld (tight-walk (walk-of r)) d q in inl (u, z, h, value-fits L es s n inside r)
         pick (no d) (inr c) = inr (c .1)

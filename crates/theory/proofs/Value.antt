@@ -18,7 +18,7 @@ use Rattle.theory.proofs.Walk.{Walk, walk?, walk-of, route-of}
 use Rattle.theory.proofs.Settle.{Settled, Backed, Sound, Inv, settled-complete, backed-fits, route-backed, settled, settle-good}
 
 abbrev pub from : Property → ℕ → Property
-from P v = record { start = v; none = P .none; along = P .along; better = P .better; join = P .join }
+from P v = record { start = v; none = P .none; along = P .along; better = P .better; join = P .join; worse = P .worse }
 
 abbrev pub Way : Property → List Edge → ℕ → ℕ → ℕ → ℕ → Type 0
 Way P es s v t u = Route (from P v) es s t u

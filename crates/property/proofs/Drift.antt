@@ -1,0 +1,71 @@
+-- The five properties are steady, and all but SSSP are even. Assumes nothing.
+use Rattle.property.proofs.Basics.{_≡_, refl, _≢_, ℕ, zero, suc, _+_, arith}
+use Rattle.property.specs.Property.{Property, sssp, bfs, sswp, ssnp, ssr, property}
+use Rattle.property.specs.Drift.{Near, slack, Steady, Even}
+use Rattle.property.proofs.Tests.{tests}
+
+-- ---- near values
+
+pub near-self : (k v : ℕ) → Near k v v
+near-self k v = (omega arith, omega arith)
+
+pub near-back : (k v w : ℕ) → Near k v w → Near k w v
+near-back k v w (h, j) = (j, h)
+
+pub near-on : (j k u v w : ℕ) → Near j u v → Near k v w → Near (j + k) u w
+near-on j k u v w (a, b) (c, d) = (omega arith, omega arith)
+
+-- ---- each property
+
+-- a sum that stops at M is no steeper than the sum
+sssp-steady : (d : ℕ) → Steady sssp d d
+sssp-steady d = omega tests
+
+bfs-even : (d : ℕ) → Even bfs d 0
+bfs-even d = omega tests
+
+sswp-even : (d : ℕ) → Even sswp d d
+sswp-even d = omega tests
+
+ssnp-even : (d : ℕ) → Even ssnp d d
+ssnp-even d = omega tests
+
+ssr-even : (d : ℕ) → Even ssr d 0
+ssr-even d = omega tests
+
+even-steady : {P : Property} {d k : ℕ} → Even P d k → Steady P d k
+even-steady {d = d} {k = k} E = record {
+  along-near = λ a b w h. E .along-even a b w w h (near-self d w);
+  weight-near = λ a v w h. E .along-even a a v w (near-self k a) h;
+  near-meets = E .near-meets;
+}
+
+-- ---- by number
+
+pub property-even : (p d : ℕ) → p ≢ 1 → Even (property p) d (slack p d)
+unfolding property slack
+property-even zero d h = ssr-even d
+property-even (suc zero) d h = absurd (h refl)
+property-even (suc (suc zero)) d h = bfs-even d
+property-even (suc (suc (suc zero))) d h = sswp-even d
+property-even (suc (suc (suc (suc zero)))) d h = ssnp-even d
+property-even (suc (suc (suc (suc (suc k))))) d h = ssr-even d
+
+pub property-steady : (p d : ℕ) → Steady (property p) d (slack p d)
+unfolding property slack
+property-steady zero d = even-steady (ssr-even d)
+property-steady (suc zero) d = sssp-steady d
+property-steady (suc (suc zero)) d = even-steady (bfs-even d)
+property-steady (suc (suc (suc zero))) d = even-steady (sswp-even d)
+property-steady (suc (suc (suc (suc zero)))) d = even-steady (ssnp-even d)
+property-steady (suc (suc (suc (suc (suc k))))) d = even-steady (ssr-even d)
+
+-- moves that add up let values move as far as all of them together
+pub slack-adds : (p d e : ℕ) → slack p (d + e) ≡ slack p d + slack p e
+unfolding slack
+slack-adds zero d e = refl
+slack-adds (suc zero) d e = refl
+slack-adds (suc (suc zero)) d e = refl
+slack-adds (suc (suc (suc zero))) d e = refl
+slack-adds (suc (suc (suc (suc zero)))) d e = refl
+slack-adds (suc (suc (suc (suc (suc k))))) d e = refl

@@ -1,0 +1,230 @@
+-- Where weights move, best values do not move further. Assumes nothing.
+--
+--   Moves k es fs          == fs is es after single moves, one after the other, of k in all
+--   Answered d es fs       == each edge of es has one of its pair in fs, of a weight at most d away
+--   Retuned d es fs        == es and fs have the same pairs, and any of their weights may have moved, each by at most d
+--   Close P k es s t v     == there is a route along es from s to t whose value is near v
+--   rest                   == the edges of es but the one whose weight moves
+use Rattle.property.proofs.Basics.{_≡_, refl, sym, ap, subst, _∙_, _⊎_, inl, inr, ⊎-elim, Bool, true, false, not, true≢false, List, _∷_, List·Memᴰ, List·Memᴰ·head, List·Memᴰ·tail, List·Memᴰ·cases-cons, List·Memᴰ·not-nil, ℕ, _+_, _≤_, max, arith, eqb, eqb-true, eq-eqb}
+use Rattle.property.specs.Property.{M, Property}
+use Rattle.property.specs.Laws.{Laws}
+use Rattle.property.specs.Drift.{Near, Meets, Steady, Even}
+use Rattle.property.proofs.Drift.{near-self, near-back, near-on}
+use Rattle.graph.specs.Edge.{Edge, same, samePair, keep}
+use Rattle.graph.specs.Route.{Route, here, step, Best}
+use Rattle.graph.specs.Moved.{Moved, Zone, ends, next}
+use Rattle.graph.proofs.Tests.{both, and-true}
+use Rattle.graph.proofs.Edges.{keep-in, in-keep, same-eq}
+use Rattle.theory.specs.Best.{Weighed}
+use Rattle.theory.proofs.Value.{Way, Attained}
+use Rattle.theory.proofs.Exists.{Through, route-map, way-join, once, best-some, best-same}
+
+pub data Moves : ℕ → List Edge → List Edge → Type 0 where
+  still : {es : List Edge} → Moves 0 es es
+  move : {d k : ℕ} {es fs gs : List Edge} → (m : Moved d es fs) → m .new .weight ≤ M → Moves k fs gs → Moves (d + k) es gs
+
+abbrev pub Answered : ℕ → List Edge → List Edge → Type 0
+Answered d es fs = (e : Edge) → List·Memᴰ e es → (f : Edge) × List·Memᴰ f fs × (samePair e f ≡ true) × Near d (e .weight) (f .weight)
+
+pub record Retuned (d : ℕ) (es fs : List Edge) : Type 0 where
+  pub forth : Answered d es fs
+  pub back : Answered d fs es
+
+-- ---- pairs, and moves the other way
+
+pair-ends : (e f : Edge) → samePair e f ≡ true → (e .tail ≡ f .tail) × (e .head ≡ f .head)
+pair-ends e f h = let z = both (eqb (e .tail) (f .tail)) (eqb (e .head) (f .head)) h in (eqb-true _ _ (z .0), eqb-true _ _ (z .1))
+
+pub pair-back : (e f : Edge) → samePair e f ≡ true → samePair f e ≡ true
+pair-back e f h = let (p, q) = pair-ends e f h in and-true (eq-eqb _ _ (sym p)) (eq-eqb _ _ (sym q))
+
+pair-self : (e : Edge) → samePair e e ≡ true
+pair-self e = and-true (eq-eqb (e .tail) (e .tail) refl) (eq-eqb (e .head) (e .head) refl)
+
+same-self : (e : Edge) → same e e ≡ true
+same-self e = and-true (eq-eqb (e .tail) (e .tail) refl) (and-true (eq-eqb (e .head) (e .head) refl) (eq-eqb (e .weight) (e .weight) refl))
+
+pub moved-back : {d : ℕ} {es fs : List Edge} → Moved d es fs → Moved d fs es
+moved-back {d = d} m = record {
+  old = m .new;
+  new = m .old;
+  pair = pair-back (m .old) (m .new) (m .pair);
+  near = near-back d _ _ (m .near);
+  gone = m .come;
+  come = m .gone;
+  kept = m .back;
+  back = m .kept;
+}
+
+answered : {d : ℕ} {es fs : List Edge} → Moved d es fs → Answered d es fs
+answered {d = d} m e k = ⊎-elim (λ p. rw p (m .new, m .come, m .pair, m .near)) (λ j. (e, j, pair-self e, near-self d (e .weight))) (m .kept e k)
+
+-- one moved weight is a retuning
+pub moved-retuned : {d : ℕ} {es fs : List Edge} → Moved d es fs → Retuned d es fs
+moved-retuned m = record { forth = answered m; back = answered (moved-back m) }
+
+-- ---- a route can neither appear nor go
+
+pub answered-route : {P : Property} {es fs : List Edge} {s t u : ℕ} (d : ℕ) → Answered d es fs → Route P es s t u → (w : ℕ) × Route P fs s t w
+answered-route {P = P} d a here = (P .start, here)
+answered-route {P = P} {fs = fs} {s = s} d a (step {e = e} r m) =
+    let (w, q) = answered-route d a r in
+    let (f, k, pair, near) = a e m in
+    let (p, h) = pair-ends e f pair in
+    (P .along w (f .weight), subst (λ z. Route P fs s z (P .along w (f .weight))) (sym h) (step (subst (λ z. Route P fs s z w) p q) k))
+
+-- ---- best values that each have a route near them on the other side
+
+abbrev Close : Property → ℕ → List Edge → ℕ → ℕ → ℕ → Type 0
+Close P k es s t v = (u : ℕ) × Route P es s t u × Near k v u
+
+near-best : {P : Property} {es fs : List Edge} {s t v w : ℕ} (k : ℕ) → Meets P k → Best P es s t v → Best P fs s t w
+    → (Route P es s t v → Close P k fs s t v) → (Route P fs s t w → Close P k es s t w) → Near k v w
+near-best {P} {es} {fs} {s} {t} {v} {w} k meets a b f g = pick (a .attained) (b .attained)
+  where
+    pick : Attained P es s t v → Attained P fs s t w → Near k v w
+    pick (inl r) (inl q) =
+        let (u, r′, j) = f r in
+        let (x, q′, i) = g q in
+        meets u v w x (near-back k v u j) (b .unbettered u r′) (near-back k w x i) (a .unbettered x q′)
+    pick (inl r) (inr c) = let (u, r′, j) = f r in absurd (c .0 u r′)
+    pick (inr c) (inl q) = let (x, q′, i) = g q in absurd (c .0 x q′)
+    pick (inr c) (inr e) = rw (c .1, e .1) (near-self k (P .none))
+
+-- ---- one weight
+
+module _ {P : Property} (L : Laws P) {d k : ℕ} (S : Steady P d k) where
+  open Property P using (start, along, better)
+
+  -- from near values the same edges lead to near ones
+  way-near : {es : List Edge} {s a t u : ℕ} (b : ℕ) → Near k a b → Way P es s a t u → (w : ℕ) × Way P es s b t w × Near k u w
+  way-near b h here = (b, here, h)
+  way-near b h (step {e = e} {v = v} r m) = let (w, q, j) = way-near b h r in (along w (e .weight), step q m, S .along-near v w (e .weight) j)
+
+  module _ {es fs : List Edge} (weights : Weighed es) (m : Moved d es fs) where
+    abbrev rest : List Edge
+    rest = keep (λ e. not (same e (m .old))) es
+
+    parted : (e : Edge) → List·Memᴰ e es → (e ≡ m .old) ⊎ List·Memᴰ e rest
+    parted e k = pick (same e (m .old)) refl
+      where
+        pick : (b : Bool) → same e (m .old) ≡ b → (e ≡ m .old) ⊎ List·Memᴰ e rest
+        pick true h = inl (same-eq e (m .old) h)
+        pick false h = inr (in-keep (λ x. not (same x (m .old))) k (ap not h))
+
+    first : (e : Edge) → List·Memᴰ e rest → List·Memᴰ e es
+    first e k = (keep-in (λ x. not (same x (m .old))) es e k) .0
+
+    later : (e : Edge) → List·Memᴰ e rest → List·Memᴰ e fs
+    later e k = ⊎-elim (λ p. absurd (other p)) (λ j. j) (m .kept e (first e k))
+      where
+        other : e ≡ m .old → ⊥
+        other p = true≢false (sym ((keep-in (λ x. not (same x (m .old))) es e k) .1) ∙ ap not (ap (λ x. same x (m .old)) p ∙ same-self (m .old)))
+
+    -- A best route uses the edge at most once, or there is one as good that does. Come to its tail as before; the moved weight leads from
+    -- there to a near value; and on from its head the same edges keep it near. A route that came to the edge twice would be moved
+    -- twice as far: so it is by what lies between two visits being left out that values move no further than the weight.
+    moved-route : {s t v : ℕ} → Best P es s t v → Route P es s t v → Close P k fs s t v
+    moved-route {s} {t} {v} best r =
+        pick (once L (m .old) rest weights′ s start (L .start-fits) (route-map (λ e k. ⊎-elim (λ p. List·Memᴰ·head p) (λ j. List·Memᴰ·tail j) (parted e k)) r))
+      where
+        weights′ : Weighed (m .old ∷ rest)
+        weights′ e k = ⊎-elim (λ p. rw p (weights (m .old) (m .gone))) (λ j. weights e (first e j)) (List·Memᴰ·cases-cons k)
+
+        pick : Way P rest s start t v ⊎ Through P (m .old) rest s start t v → Close P k fs s t v
+        pick (inl q) = (v, route-map later q, near-self k v)
+        pick (inr (x, r, (y, q, h))) =
+            let good : v ≡ y = L .antisymmetric v y h (best .unbettered y (way-join L (step (route-map first r) (m .gone)) (route-map first q))) in
+            let (w, q′, j) = way-near (along x (m .new .weight)) (S .weight-near x _ _ (m .near)) q in
+            let (p, o) = pair-ends (m .old) (m .new) (m .pair) in
+            let on : Route P fs s (m .old .head) (along x (m .new .weight)) =
+            subst (λ z. Route P fs s z (along x (m .new .weight))) (sym o) (step (subst (λ z. Route P fs s z x) p (route-map later r)) (m .come)) in
+            (w, way-join L on (route-map later q′), rw good j)
+
+  pub moved-near : {es fs : List Edge} {s t v w : ℕ} → Weighed es → Weighed fs → Moved d es fs → Best P es s t v → Best P fs s t w → Near k v w
+  moved-near f g m a b = near-best k (S .near-meets) a b (moved-route f m a) (moved-route g (moved-back m) b)
+
+-- ---- weights, one after the other
+
+moved-weighed : {d : ℕ} {es fs : List Edge} → Weighed es → (m : Moved d es fs) → m .new .weight ≤ M → Weighed fs
+moved-weighed f m h e k = ⊎-elim (λ p. rw p h) (λ j. f e j) (m .back e k)
+
+module _ {P : Property} (L : Laws P) (k : ℕ → ℕ) (S : (d : ℕ) → Steady P d (k d)) (adds : (d e : ℕ) → k (d + e) ≡ k d + k e) where
+  -- each move has best values of its own between it and the next
+  pub moves-near : {d : ℕ} {es fs : List Edge} {s t v w : ℕ} → Weighed es → Moves d es fs → Best P es s t v → Best P fs s t w → Near (k d) v w
+  moves-near f still a b = rw (best-same L a b) (near-self _ _)
+  moves-near {s = s} {t = t} {v = v} {w = w} f (move {d = c} {k = d} {fs = gs} m h ms) a b =
+      let g = moved-weighed f m h in
+      let (u, z) = best-some L gs g s t in
+      rw (adds c d) (near-on (k c) (k d) v u w (moved-near L (S c) f g m a z) (moves-near g ms z b))
+
+-- ---- any weights, where near values stay near along edges of near weights
+
+module _ {P : Property} {d k : ℕ} (E : Even P d k) where
+  answered-near : {es fs : List Edge} {s t v : ℕ} → Answered d es fs → Route P es s t v → Close P k fs s t v
+  answered-near a here = (P .start, here, near-self k (P .start))
+  answered-near {fs = fs} {s = s} a (step {e = e} {v = v} r m) =
+      let (w, q, j) = answered-near a r in
+      let (f, l, pair, near) = a e m in
+      let (p, h) = pair-ends e f pair in
+      let u : ℕ = P .along w (f .weight) in
+      (u, subst (λ z. Route P fs s z u) (sym h) (step (subst (λ z. Route P fs s z w) p q) l), E .along-even v w (e .weight) (f .weight) j near)
+
+  pub retuned-near : {es fs : List Edge} {s t v w : ℕ} → Retuned d es fs → Best P es s t v → Best P fs s t w → Near k v w
+  retuned-near m a b = near-best k (E .near-meets) a b (answered-near (m .forth)) (answered-near (m .back))
+
+-- ---- record by record
+
+pub moved-cons : {d : ℕ} {es fs : List Edge} (x : Edge) → Moved d es fs → Moved d (x ∷ es) (x ∷ fs)
+moved-cons x m = record {
+  old = m .old;
+  new = m .new;
+  pair = m .pair;
+  near = m .near;
+  gone = List·Memᴰ·tail (m .gone);
+  come = List·Memᴰ·tail (m .come);
+  kept = λ e k. ⊎-elim (λ p. inr (List·Memᴰ·head p)) (λ j. ⊎-elim inl (λ z. inr (List·Memᴰ·tail z)) (m .kept e j)) (List·Memᴰ·cases-cons k);
+  back = λ e k. ⊎-elim (λ p. inr (List·Memᴰ·head p)) (λ j. ⊎-elim inl (λ z. inr (List·Memᴰ·tail z)) (m .back e j)) (List·Memᴰ·cases-cons k);
+}
+
+moves-cons : {d : ℕ} {es fs : List Edge} (x : Edge) → Moves d es fs → Moves d (x ∷ es) (x ∷ fs)
+unfolding moved-cons
+moves-cons x still = still
+moves-cons x (move m h ms) = move (moved-cons x m) h (moves-cons x ms)
+
+pub moved-head : (d : ℕ) (e f : Edge) (es : List Edge) → samePair e f ≡ true → Near d (e .weight) (f .weight) → Moved d (e ∷ es) (f ∷ es)
+moved-head d e f es pair near = record {
+  old = e;
+  new = f;
+  pair = pair;
+  near = near;
+  gone = List·Memᴰ·head refl;
+  come = List·Memᴰ·head refl;
+  kept = λ x k. ⊎-elim inl (λ j. inr (List·Memᴰ·tail j)) (List·Memᴰ·cases-cons k);
+  back = λ x k. ⊎-elim inl (λ j. inr (List·Memᴰ·tail j)) (List·Memᴰ·cases-cons k);
+}
+
+-- the weights of a zone move one after the other ..
+pub zone-moves : {k d : ℕ} {es fs : List Edge} → Weighed fs → Zone k d es fs → Moves k es fs
+unfolding moved-head
+zone-moves f ends = still
+zone-moves f (next {e = e} {f = x} {es = es} c pair near z) =
+    move (moved-head c e x es pair near) (f x (List·Memᴰ·head refl)) (moves-cons x (zone-moves (λ y m. f y (List·Memᴰ·tail m)) z))
+
+wider : (c d v w : ℕ) → c ≤ d → Near c v w → Near d v w
+wider c d v w h (a, b) = (omega arith, omega arith)
+
+zone-answered : {k d : ℕ} {es fs : List Edge} → Zone k d es fs → Answered d es fs
+zone-answered ends e m = absurd (List·Memᴰ·not-nil m)
+zone-answered (next {d = d} {e = o} {f = x} c pair near z) e m = ⊎-elim
+    (λ p. rw p (x, List·Memᴰ·head refl, pair, wider c (max c d) (o .weight) (x .weight) (omega arith) near))
+    (λ j. let (y, k, q, h) = zone-answered z e j in (y, List·Memᴰ·tail k, q, wider d (max c d) (e .weight) (y .weight) (omega arith) h))
+    (List·Memᴰ·cases-cons m)
+
+zone-back : {k d : ℕ} {es fs : List Edge} → Zone k d es fs → Zone k d fs es
+zone-back ends = ends
+zone-back (next {e = e} {f = f} c pair near z) = next c (pair-back e f pair) (near-back c (e .weight) (f .weight) near) (zone-back z)
+
+-- .. and all at once
+pub zone-retuned : {k d : ℕ} {es fs : List Edge} → Zone k d es fs → Retuned d es fs
+zone-retuned z = record { forth = zone-answered z; back = zone-answered (zone-back z) }
