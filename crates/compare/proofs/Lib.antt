@@ -1,5 +1,3 @@
-pub mod Tests
-pub mod Among
 pub mod Listing
 pub mod Walking
 pub mod Reversed

@@ -1,27 +1,24 @@
 -- Backward rows: the list of changes with tails and heads changed over is that of the reversed edges. Assumes nothing.
-use Rattle.property.proofs.Basics.{_≡_, refl, sym, ap, _∙_, not, _||_, List, [], _∷_, map, ℕ, _+_, _*_, _/_, _≤_, _<_, ℕ-discrete, decLt, arith, length, getD, set, length-set, getD-set-same, getD-set-other, eqb}
+use Rattle.property.proofs.Basics.{_≡_, refl, sym, ap, _∙_, not, List, map, ℕ, _+_, _*_, _/_, _≤_, _<_, ℕ-discrete, decLt, arith, length, getD, set, length-set, getD-set-same, getD-set-other, eqb}
 use Rattle.graph.specs.Arc.{arcWeights, arc, arcHead, arcWeight}
 use Rattle.graph.proofs.Arcs.{head-arc, weight-arc}
-use Rattle.graph.specs.Edge.{Edge, reverse, same, exists, among}
+use Rattle.graph.specs.Edge.{Edge, reverse}
 use Rattle.graph.proofs.Edges.{mem-reverse, reverse-mem}
+use Rattle.affected.specs.Net.{counterpart}
+use Rattle.affected.proofs.Net.{net-reverse}
 use Rattle.compare.specs.Code.{before, after, pairs, Inside, Lists, Net}
-use Rattle.compare.proofs.Tests.{and-swap}
-
-among-reverse : (fs : List Edge) (e : Edge) → among (map reverse fs) (reverse e) ≡ among fs e
-unfolding exists
-among-reverse [] e = refl
-among-reverse (f ∷ fs) e =
-    rw (and-swap (eqb (e .head) (f .head)) (eqb (e .tail) (f .tail)) (eqb (e .weight) (f .weight))) (ap (λ b. same e f || b) (among-reverse fs e))
 
 -- the same edges, reversed
-pub lists-reverse : (es fs : List Edge) (g h : ℕ) (f k : ℕ → Edge) → h ≡ g → ((i : ℕ) → i < g → k i ≡ reverse (f i)) → Lists es fs g f → Lists (map reverse es) (map reverse fs) h k
-lists-reverse es fs g h f k q e l = rw q (record {
+pub lists-reverse : (es fs : List Edge) (g h : ℕ) (f k : ℕ → Edge) (o p : ℕ → ℕ) → h ≡ g → ((i : ℕ) → i < g → k i ≡ reverse (f i)) → ((i : ℕ) → i < g → p i ≡ o i) → Lists es fs g f o
+    → Lists (map reverse es) (map reverse fs) h k p
+lists-reverse es fs g h f k o p q e u l = rw q (record {
   among = λ i a w. let x = e i a in rw x (mem-reverse (l .among i a (rw x at w)));
-  lacks = λ i a w. let x = e i a in rw x (ap not (among-reverse fs (f i)) ∙ l .lacks i a (rw x at w));
+  other = λ i a w. let x = e i a in ap (counterpart (map reverse fs)) x ∙ net-reverse fs (f i) ∙ l .other i a (rw x at w) ∙ sym (u i a);
   all = λ x m r.
-      let z = l .all (reverse x) (reverse-mem es x m) (sym (ap not (among-reverse fs (reverse x))) ∙ r) in
+      let z = l .all (reverse x) (reverse-mem es x m) (ap (λ c. not (eqb c (x .weight))) (sym (net-reverse fs (reverse x))) ∙ r) in
       let y = e (z .0) (z .1) in
       (z .0, z .1, y ∙ ap reverse (z .2), rw y (z .3));
+  weighs = λ x m. l .weighs (reverse x) (reverse-mem es x m);
 })
 
 -- ---- tails and heads change over
@@ -83,7 +80,10 @@ module _ (xs ys : List ℕ) (t : Turned xs ys (pairs xs)) where
   pub turned-net : (es fs : List Edge) → Net es fs xs → Net (map reverse es) (map reverse fs) ys
   turned-net es fs d =
       let q : pairs ys ≡ pairs xs = ap (λ (l : ℕ). l / 2) (t .size) in
-      record { removed = lists-reverse es fs (pairs xs) _ _ _ q turned-before (d .removed); added = lists-reverse fs es (pairs xs) _ _ _ q turned-after (d .added) }
+      record {
+        removed = lists-reverse es fs (pairs xs) _ _ _ _ _ q turned-before (λ i l. ap (λ (x : Edge). x .weight) (turned-after i l)) (d .removed);
+        added = lists-reverse fs es (pairs xs) _ _ _ _ _ q turned-after (λ i l. ap (λ (x : Edge). x .weight) (turned-before i l)) (d .added);
+      }
 
   pub turned-inside : (n : ℕ) → Inside n xs → Inside n ys
   turned-inside n h k l = let z = t .size in pick (decLt (k / 2) (pairs xs)) (ℕ-discrete k (2 * (k / 2)))

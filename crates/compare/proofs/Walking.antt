@@ -1,7 +1,7 @@
 -- A walk along two tables lists what differs. Assumes nothing.
 --
---   Half es fs i g f A   == of the edges A a, of a below i, those that are absent from fs are listed: by the edges f k, of k below g, that have a
---                           weight
+--   Half fs i g f o A    == of the edges A a, of a below i, those that differ in fs are listed: by the edges f k, of k below g, that have a weight; and
+--                           o k is the weight that the pair has in fs
 --   Walk ..              == so far for both tables, and the edges that are gone past precede those that are not
 --
 -- Both tables are sorted by pair. At each step the edge that comes first is gone past: if it comes before the other table's edge at hand, it
@@ -11,20 +11,20 @@ use Rattle.property.proofs.Basics.{_≡_, refl, sym, ap, _∙_, _⊎_, ⊎-elim
 use Rattle.graph.specs.Limits.{maxWeight}
 use Rattle.graph.specs.Refusal.{accept}
 use Rattle.graph.specs.Arc.{arcWeights, arc, arcHead}
-use Rattle.graph.specs.Edge.{Edge, edge, edges, alike, precedes, among}
+use Rattle.graph.specs.Edge.{Edge, edge, edges, alike, precedes}
 use Rattle.graph.specs.Table.{rules}
 use Rattle.graph.specs.Code.{Room, edgeAt, position}
 use Rattle.graph.proofs.Tests.{both}
 use Rattle.graph.proofs.Sorted.{before-asym}
-use Rattle.graph.proofs.Order.{table-ordered}
+use Rattle.graph.proofs.Order.{table-ordered, pair-alike, rules-accept, sound-fit}
 use Rattle.graph.proofs.Arcs.{head-arc, weight-arc}
 use Rattle.graph.proofs.Lists.{mem-index}
-use Rattle.graph.proofs.Lookup.{find-same, find-other}
+use Rattle.graph.proofs.Lookup.{absent-present, find-other}
 use Rattle.graph.proofs.Own.{tails-below, heads-below, weights-range}
 use Rattle.graph.proofs.Records.{edges-length, edges-at, edges-mem}
-use Rattle.affected.specs.Affected.{absent}
-use Rattle.compare.specs.Code.{before, after, Inside, Lists, Net, Passed, Tables}
-use Rattle.compare.proofs.Among.{found-among, none-among}
+use Rattle.affected.specs.Net.{counterpart}
+use Rattle.affected.proofs.Net.{rules-single, counterpart-none}
+use Rattle.compare.specs.Code.{before, after, Inside, differs, Lists, Net, Passed, Tables}
 use Rattle.compare.proofs.Listing.{passed-none, passed-more, passed-next, passed-position}
 
 -- ---- which edge comes first
@@ -72,11 +72,11 @@ module _ (n m : ℕ) (ts hs ws : List ℕ) (r : Room m ts hs ws) (a : rules n (e
     place : j ≡ position (edge (getD ts i 0) (getD hs i 0) 0) (edges ts′ hs′ ws′ m′)
     place = passed-position n ts′ hs′ ws′ m′ (getD ts i 0) (getD hs i 0) j r′ a′ p (due-first i m ts hs j m′ ts′ hs′ d .1)
 
-    -- the edge stands nowhere in the other table
-    lone-absent : due j m′ ts′ hs′ i m ts hs ≡ false → absent (edges ts′ hs′ ws′ m′) (edgeAt ts hs ws i) ≡ true
-    lone-absent e =
+    -- the pair stands nowhere in the other table
+    lone-counterpart : due j m′ ts′ hs′ i m ts hs ≡ false → counterpart (edges ts′ hs′ ws′ m′) (edgeAt ts hs ws i) ≡ 0
+    lone-counterpart e =
         let f = find-other ts′ hs′ ws′ m′ r′ n a′ (getD ts i 0) (getD hs i 0) j place (λ l x y. apart l x y) in
-        sym (ap not (none-among n ts′ hs′ ws′ m′ r′ a′ (getD ts i 0) (getD hs i 0) (getD ws i 0) (sym f)))
+        counterpart-none (edges ts′ hs′ ws′ m′) (edgeAt ts hs ws i) (absent-present (getD ts i 0) (getD hs i 0) (getD ws i 0) (edges ts′ hs′ ws′ m′) (sym f))
       where
         apart : j < m′ → getD ts′ j 0 ≡ getD ts i 0 → getD hs′ j 0 ≡ getD hs i 0 → ⊥
         apart l x y =
@@ -85,12 +85,12 @@ module _ (n m : ℕ) (ts hs ws : List ℕ) (r : Room m ts hs ws) (a : rules n (e
             let o : alike (edge (getD ts i 0) (getD hs i 0) 0) (edge (getD ts′ j 0) (getD hs′ j 0) 0) ≡ true = rw (x, y, eq-eqb (getD ts i 0) (getD ts i 0) refl, eq-eqb (getD hs i 0) (getD hs i 0) refl) in
             true≢false (sym o ∙ q)
 
-    -- the weight decides
-    met-absent : due j m′ ts′ hs′ i m ts hs ≡ true → absent (edges ts′ hs′ ws′ m′) (edgeAt ts hs ws i) ≡ not (eqb (getD ws i 0) (getD ws′ j 0))
-    met-absent e =
-        let q = met-pair d e in
-        let f = find-same ts′ hs′ ws′ m′ r′ n a′ (getD ts i 0) (getD hs i 0) j place (due-first j m′ ts′ hs′ i m ts hs e .0) (q .0) (q .1) in
-        sym (ap not (found-among n ts′ hs′ ws′ m′ r′ a′ (getD ts i 0) (getD hs i 0) (getD ws i 0) j (sym f)))
+  -- the edge of the pair in the other table is the one at hand
+  met-counterpart : due i m ts hs j m′ ts′ hs′ ≡ true → due j m′ ts′ hs′ i m ts hs ≡ true → counterpart (edges ts′ hs′ ws′ m′) (edgeAt ts hs ws i) ≡ getD ws′ j 0
+  met-counterpart d e =
+      let q = met-pair d e in
+      rules-single n (edges ts′ hs′ ws′ m′) a′ .at (edgeAt ts hs ws i) (edgeAt ts′ hs′ ws′ j) (edges-mem ts′ hs′ ws′ m′ r′ j (due-first j m′ ts′ hs′ i m ts hs e .0))
+      (pair-alike (edgeAt ts hs ws i) (edgeAt ts′ hs′ ws′ j) (sym (q .0)) (sym (q .1)))
 
   -- what precedes the edge at hand after a step
   pub passed-step : (i < m → Passed ts′ hs′ ws′ m′ (getD ts i 0) (getD hs i 0) j) → (b c : Bool) → due i m ts hs j m′ ts′ hs′ ≡ b → due j m′ ts′ hs′ i m ts hs ≡ c
@@ -157,20 +157,22 @@ module _ (n m : ℕ) (ts hs ws : List ℕ) (m′ : ℕ) (ts′ hs′ ws′ : Lis
 
 -- ---- what is listed
 
-pub record Half (fs : List Edge) (i g : ℕ) (f A : ℕ → Edge) : Type 0 where
+pub record Half (fs : List Edge) (i g : ℕ) (f : ℕ → Edge) (o : ℕ → ℕ) (A : ℕ → Edge) : Type 0 where
   pub among : (k : ℕ) → k < g → 0 < f k .weight → (a : ℕ) × (a < i) × (A a ≡ f k)
-  pub lacks : (k : ℕ) → k < g → 0 < f k .weight → absent fs (f k) ≡ true
-  pub all : (a : ℕ) → a < i → absent fs (A a) ≡ true → (k : ℕ) × (k < g) × (f k ≡ A a)
+  pub other : (k : ℕ) → k < g → 0 < f k .weight → counterpart fs (f k) ≡ o k
+  pub all : (a : ℕ) → a < i → differs fs (A a) ≡ true → (k : ℕ) × (k < g) × (f k ≡ A a)
 
-pub half-none : (fs : List Edge) (f A : ℕ → Edge) → Half fs 0 0 f A
-half-none fs f A = record { among = λ k l. absurd (omega arith); lacks = λ k l. absurd (omega arith); all = λ a l. absurd (omega arith) }
+pub half-none : (fs : List Edge) (f : ℕ → Edge) (o : ℕ → ℕ) (A : ℕ → Edge) → Half fs 0 0 f o A
+half-none fs f o A = record { among = λ k l. absurd (omega arith); other = λ k l. absurd (omega arith); all = λ a l. absurd (omega arith) }
 
 -- what was listed stays, one change more is listed, and i′ edges are gone past
-module _ (fs : List Edge) (i i′ g : ℕ) (f h A : ℕ → Edge) (up : i ≤ i′) (s : (k : ℕ) → k < g → h k ≡ f k) (t : Half fs i g f A) where
-  half-more : (0 < h g .weight → ((a : ℕ) × (a < i′) × (A a ≡ h g)) × (absent fs (h g) ≡ true)) → ((a : ℕ) → i ≤ a → a < i′ → absent fs (A a) ≡ true → h g ≡ A a) → Half fs i′ (g + 1) h A
+module _ (fs : List Edge) (i i′ g : ℕ) (f h : ℕ → Edge) (o p : ℕ → ℕ) (A : ℕ → Edge) (up : i ≤ i′) (s : (k : ℕ) → k < g → h k ≡ f k) (u : (k : ℕ) → k < g → p k ≡ o k)
+    (t : Half fs i g f o A) where
+  half-more : (0 < h g .weight → ((a : ℕ) × (a < i′) × (A a ≡ h g)) × (counterpart fs (h g) ≡ p g)) → ((a : ℕ) → i ≤ a → a < i′ → differs fs (A a) ≡ true → h g ≡ A a)
+      → Half fs i′ (g + 1) h p A
   half-more z y = record {
     among = λ k l w. old k l w (decLt k g);
-    lacks = λ k l w. out k l w (decLt k g);
+    other = λ k l w. out k l w (decLt k g);
     all = λ a l r. every a l r (decLt a i);
   }
     where
@@ -181,42 +183,49 @@ module _ (fs : List Edge) (i i′ g : ℕ) (f h A : ℕ → Edge) (up : i ≤ i�
       old k l w (yes b) = let x = s k b in let q = t .among k b (rw x at w) in (q .0, (let o : q .0 < i = q .1 in omega arith), q .2 ∙ sym x)
       old k l w (no d) = let e = end k l d in rw e (z (rw e at w) .0)
 
-      out : (k : ℕ) → k < g + 1 → 0 < h k .weight → Dec (k < g) → absent fs (h k) ≡ true
-      out k l w (yes b) = let x = s k b in ap (absent fs) x ∙ t .lacks k b (rw x at w)
+      out : (k : ℕ) → k < g + 1 → 0 < h k .weight → Dec (k < g) → counterpart fs (h k) ≡ p k
+      out k l w (yes b) = let x = s k b in ap (counterpart fs) x ∙ t .other k b (rw x at w) ∙ sym (u k b)
       out k l w (no d) = let e = end k l d in rw e (z (rw e at w) .1)
 
-      every : (a : ℕ) → a < i′ → absent fs (A a) ≡ true → Dec (a < i) → (k : ℕ) × (k < g + 1) × (h k ≡ A a)
+      every : (a : ℕ) → a < i′ → differs fs (A a) ≡ true → Dec (a < i) → (k : ℕ) × (k < g + 1) × (h k ≡ A a)
       every a l r (yes b) = let q = t .all a b r in (q .0, (let o : q .0 < g = q .1 in omega arith), s (q .0) (q .1) ∙ q .2)
       every a l r (no d) = (g, omega arith, y a (omega arith) l r)
 
-  -- none is listed more, and those that are gone past are not absent
-  half-same : ((a : ℕ) → i ≤ a → a < i′ → absent fs (A a) ≡ false) → Half fs i′ g h A
+  -- none is listed more, and those that are gone past do not differ
+  half-same : ((a : ℕ) → i ≤ a → a < i′ → differs fs (A a) ≡ false) → Half fs i′ g h p A
   half-same y = record {
     among = λ k b w. let x = s k b in let q = t .among k b (rw x at w) in (q .0, (let o : q .0 < i = q .1 in omega arith), q .2 ∙ sym x);
-    lacks = λ k b w. let x = s k b in ap (absent fs) x ∙ t .lacks k b (rw x at w);
+    other = λ k b w. let x = s k b in ap (counterpart fs) x ∙ t .other k b (rw x at w) ∙ sym (u k b);
     all = λ a l r. every a l r (decLt a i);
   }
     where
-      every : (a : ℕ) → a < i′ → absent fs (A a) ≡ true → Dec (a < i) → (k : ℕ) × (k < g) × (h k ≡ A a)
+      every : (a : ℕ) → a < i′ → differs fs (A a) ≡ true → Dec (a < i) → (k : ℕ) × (k < g) × (h k ≡ A a)
       every a l r (yes b) = let q = t .all a b r in (q .0, q .1, s (q .0) (q .1) ∙ q .2)
       every a l r (no d) = absurd (true≢false (sym r ∙ y a (omega arith) l))
 
 -- one edge is gone past
-module _ (fs : List Edge) (i g : ℕ) (f h A : ℕ → Edge) (s : (k : ℕ) → k < g → h k ≡ f k) (t : Half fs i g f A) where
+module _ (fs : List Edge) (i g : ℕ) (f h : ℕ → Edge) (o p : ℕ → ℕ) (A : ℕ → Edge) (s : (k : ℕ) → k < g → h k ≡ f k) (u : (k : ℕ) → k < g → p k ≡ o k)
+    (t : Half fs i g f o A) where
   this : (a : ℕ) → i ≤ a → a < i + 1 → i ≡ a
   this a l b = omega arith
 
-  half-list : absent fs (A i) ≡ true → h g ≡ A i → Half fs (i + 1) (g + 1) h A
-  half-list r e = half-more fs i (i + 1) g f h A (omega arith) s t (λ w. ((i, omega arith, sym e), ap (absent fs) e ∙ r)) (λ a l b q. e ∙ ap A (this a l b))
+  half-list : counterpart fs (A i) ≡ p g → h g ≡ A i → Half fs (i + 1) (g + 1) h p A
+  half-list r e = half-more fs i (i + 1) g f h o p A (omega arith) s u t (λ w. ((i, omega arith, sym e), ap (counterpart fs) e ∙ r)) (λ a l b q. e ∙ ap A (this a l b))
 
-  half-skip : absent fs (A i) ≡ false → Half fs (i + 1) g h A
-  half-skip r = half-same fs i (i + 1) g f h A (omega arith) s t (λ a l b. ap (λ (x : ℕ). absent fs (A x)) (sym (this a l b)) ∙ r)
+  half-skip : differs fs (A i) ≡ false → Half fs (i + 1) g h p A
+  half-skip r = half-same fs i (i + 1) g f h o p A (omega arith) s u t (λ a l b. ap (λ (x : ℕ). differs fs (A x)) (sym (this a l b)) ∙ r)
 
   -- none is, and what is listed more has no weight
-  half-stay : h g .weight ≡ 0 → Half fs i (g + 1) h A
-  half-stay z = half-more fs i i g f h A (omega arith) s t (λ w. absurd (omega arith)) (λ a l b. absurd (omega arith))
+  half-stay : h g .weight ≡ 0 → Half fs i (g + 1) h p A
+  half-stay z = half-more fs i i g f h o p A (omega arith) s u t (λ w. absurd (omega arith)) (λ a l b. absurd (omega arith))
 
 -- ---- a change is stored
+
+abbrev weightBefore : List ℕ → ℕ → ℕ
+weightBefore xs k = before xs k .weight
+
+abbrev weightAfter : List ℕ → ℕ → ℕ
+weightAfter xs k = after xs k .weight
 
 abbrev pub stored : List ℕ → ℕ → ℕ → ℕ → ℕ → ℕ → List ℕ
 stored xs g t h o w = set (set xs (2 * g) (arc t o)) (2 * g + 1) (arc h w)
@@ -246,6 +255,18 @@ module _ (xs : List ℕ) (g t h o w : ℕ) (long : 2 * g + 1 < length xs) (small
   kept-after : (k : ℕ) → k < g → after here k ≡ after xs k
   kept-after k l = let x = kept-word (2 * k) (omega arith) in let y = kept-word (2 * k + 1) (omega arith) in rw (x, y)
 
+  kept-old : (k : ℕ) → k < g → weightBefore here k ≡ weightBefore xs k
+  kept-old k l = ap (λ (x : Edge). x .weight) (kept-before k l)
+
+  kept-new : (k : ℕ) → k < g → weightAfter here k ≡ weightAfter xs k
+  kept-new k l = ap (λ (x : Edge). x .weight) (kept-after k l)
+
+  stored-old : weightBefore here g ≡ o
+  stored-old = ap (λ (x : Edge). x .weight) stored-before
+
+  stored-new : weightAfter here g ≡ w
+  stored-new = ap (λ (x : Edge). x .weight) stored-after
+
   stored-inside : (n : ℕ) → t < n → h < n → ((k : ℕ) → k < 2 * g → arcHead (getD xs k 0) < n) → (k : ℕ) → k < 2 * (g + 1) → arcHead (getD here k 0) < n
   stored-inside n a b c k l = pick (decLt k (2 * g)) (ℕ-discrete k (2 * g))
     where
@@ -257,8 +278,8 @@ module _ (xs : List ℕ) (g t h o w : ℕ) (long : 2 * g + 1 < length xs) (small
 -- ---- the walk
 
 pub record Walk (n m : ℕ) (ts hs ws : List ℕ) (m′ : ℕ) (ts′ hs′ ws′ xs : List ℕ) (i j g : ℕ) : Type 0 where
-  pub old : Half (edges ts′ hs′ ws′ m′) i g (before xs) (edgeAt ts hs ws)
-  pub new : Half (edges ts hs ws m) j g (after xs) (edgeAt ts′ hs′ ws′)
+  pub old : Half (edges ts′ hs′ ws′ m′) i g (before xs) (weightAfter xs) (edgeAt ts hs ws)
+  pub new : Half (edges ts hs ws m) j g (after xs) (weightBefore xs) (edgeAt ts′ hs′ ws′)
   pub behind : i < m → Passed ts′ hs′ ws′ m′ (getD ts i 0) (getD hs i 0) j
   pub ahead : j < m′ → Passed ts hs ws m (getD ts′ j 0) (getD hs′ j 0) i
   pub inside : (k : ℕ) → k < 2 * g → arcHead (getD xs k 0) < n
@@ -269,8 +290,8 @@ pub record Walk (n m : ℕ) (ts hs ws : List ℕ) (m′ : ℕ) (ts′ hs′ ws�
 module _ (n m : ℕ) (ts hs ws : List ℕ) (m′ : ℕ) (ts′ hs′ ws′ : List ℕ) where
   pub walk-start : (xs : List ℕ) → Walk n m ts hs ws m′ ts′ hs′ ws′ xs 0 0 0
   walk-start xs = record {
-    old = half-none _ _ _;
-    new = half-none _ _ _;
+    old = half-none _ _ _ _;
+    new = half-none _ _ _ _;
     behind = λ l. passed-none ts′ hs′ ws′ m′ _ _;
     ahead = λ l. passed-none ts hs ws m _ _;
     inside = λ k l. absurd (omega arith);
@@ -287,7 +308,8 @@ module _ (n m : ℕ) (ts hs ws : List ℕ) (m′ : ℕ) (ts′ hs′ ws′ : Lis
     f = edgeAt ts′ hs′ ws′ j
 
     made : (b c : Bool) → due i m ts hs j m′ ts′ hs′ ≡ b → due j m′ ts′ hs′ i m ts hs ≡ c → (x y o w g′ : ℕ) → x < n → y < n → o < arcWeights → w < arcWeights → g′ ≤ g + 1 → g′ ≤ cond b (i + 1) i + cond c (j + 1) j
-        → Half (edges ts′ hs′ ws′ m′) (cond b (i + 1) i) g′ (before (stored xs g x y o w)) (edgeAt ts hs ws) → Half (edges ts hs ws m) (cond c (j + 1) j) g′ (after (stored xs g x y o w)) (edgeAt ts′ hs′ ws′)
+        → Half (edges ts′ hs′ ws′ m′) (cond b (i + 1) i) g′ (before (stored xs g x y o w)) (weightAfter (stored xs g x y o w)) (edgeAt ts hs ws)
+        → Half (edges ts hs ws m) (cond c (j + 1) j) g′ (after (stored xs g x y o w)) (weightBefore (stored xs g x y o w)) (edgeAt ts′ hs′ ws′)
         → Walk n m ts hs ws m′ ts′ hs′ ws′ (stored xs g x y o w) (cond b (i + 1) i) (cond c (j + 1) j) g′
     made b c d h x y o w g′ lx ly so sw lg fg old new = record {
       old = old;
@@ -334,23 +356,26 @@ module _ (n m : ℕ) (ts hs ws : List ℕ) (m′ : ℕ) (ts′ hs′ ws′ : Lis
         pair : (f .tail ≡ e .tail) × (f .head ≡ e .head)
         pair = met-pair n m ts hs ws (t .old .1) (t .old .2) m′ ts′ hs′ ws′ (t .new .1) (t .new .2) i j d h
 
-        gone : absent (edges ts′ hs′ ws′ m′) e ≡ not (eqb (e .weight) (f .weight))
-        gone = met-absent n m ts hs ws (t .old .1) (t .old .2) m′ ts′ hs′ ws′ (t .new .1) (t .new .2) i j (wk .behind li) d h
+        gone : counterpart (edges ts′ hs′ ws′ m′) e ≡ f .weight
+        gone = met-counterpart n m ts hs ws (t .old .1) (t .old .2) m′ ts′ hs′ ws′ (t .new .1) (t .new .2) i j d h
 
-        come : absent (edges ts hs ws m) f ≡ not (eqb (f .weight) (e .weight))
-        come = met-absent n m′ ts′ hs′ ws′ (t .new .1) (t .new .2) m ts hs ws (t .old .1) (t .old .2) j i (wk .ahead lj) h d
+        come : counterpart (edges ts hs ws m) f ≡ e .weight
+        come = met-counterpart n m′ ts′ hs′ ws′ (t .new .1) (t .new .2) m ts hs ws (t .old .1) (t .old .2) j i h d
+
+        -- equal weights do not differ
+        level : (fs : List Edge) (x : Edge) (w : ℕ) → counterpart fs x ≡ w → w ≡ x .weight → differs fs x ≡ false
+        level fs x w p q = ap not (eq-eqb _ _ (p ∙ q))
 
         pick : (q : Bool) → eqb (e .weight) (f .weight) ≡ q → Walk n m ts hs ws m′ ts′ hs′ ws′ (stored xs g (e .tail) (e .head) (e .weight) (f .weight)) (i + 1) (j + 1) (cond q g (g + 1))
         pick true k =
+            let z = eqb-true (e .weight) (f .weight) k in
             made true true d h (e .tail) (e .head) (e .weight) (f .weight) g lx ly sx sy (omega arith) (let z = wk .few in omega arith)
-            (half-skip _ i g (before xs) _ (edgeAt ts hs ws) (kept-before xs g (e .tail) (e .head) (e .weight) (f .weight) long sx sy) (wk .old) (gone ∙ ap not k))
-            (half-skip _ j g (after xs) _ (edgeAt ts′ hs′ ws′) (kept-after xs g (e .tail) (e .head) (e .weight) (f .weight) long sx sy) (wk .new)
-            (come ∙ ap not (eq-eqb (f .weight) (e .weight) (sym (eqb-true (e .weight) (f .weight) k)))))
+            (half-skip _ i g (before xs) _ (weightAfter xs) _ (edgeAt ts hs ws) (kept-before xs g (e .tail) (e .head) (e .weight) (f .weight) long sx sy) (kept-new xs g (e .tail) (e .head) (e .weight) (f .weight) long sx sy) (wk .old) (level _ e (f .weight) gone (sym z)))
+            (half-skip _ j g (after xs) _ (weightBefore xs) _ (edgeAt ts′ hs′ ws′) (kept-after xs g (e .tail) (e .head) (e .weight) (f .weight) long sx sy) (kept-old xs g (e .tail) (e .head) (e .weight) (f .weight) long sx sy) (wk .new) (level _ f (e .weight) come z))
         pick false k =
             made true true d h (e .tail) (e .head) (e .weight) (f .weight) (g + 1) lx ly sx sy (omega arith) (let z = wk .few in omega arith)
-            (half-list _ i g (before xs) _ (edgeAt ts hs ws) (kept-before xs g (e .tail) (e .head) (e .weight) (f .weight) long sx sy) (wk .old) (gone ∙ ap not k) (stored-before xs g (e .tail) (e .head) (e .weight) (f .weight) long sx sy))
-            (half-list _ j g (after xs) _ (edgeAt ts′ hs′ ws′) (kept-after xs g (e .tail) (e .head) (e .weight) (f .weight) long sx sy) (wk .new)
-            (come ∙ ap not (ne-eqb (f .weight) (e .weight) (λ p. eqb-false (e .weight) (f .weight) k (sym p))))
+            (half-list _ i g (before xs) _ (weightAfter xs) _ (edgeAt ts hs ws) (kept-before xs g (e .tail) (e .head) (e .weight) (f .weight) long sx sy) (kept-new xs g (e .tail) (e .head) (e .weight) (f .weight) long sx sy) (wk .old) (gone ∙ sym (stored-new xs g (e .tail) (e .head) (e .weight) (f .weight) long sx sy)) (stored-before xs g (e .tail) (e .head) (e .weight) (f .weight) long sx sy))
+            (half-list _ j g (after xs) _ (weightBefore xs) _ (edgeAt ts′ hs′ ws′) (kept-after xs g (e .tail) (e .head) (e .weight) (f .weight) long sx sy) (kept-old xs g (e .tail) (e .head) (e .weight) (f .weight) long sx sy) (wk .new) (come ∙ sym (stored-old xs g (e .tail) (e .head) (e .weight) (f .weight) long sx sy))
             (stored-after xs g (e .tail) (e .head) (e .weight) (f .weight) long sx sy ∙ (λ z. edge (sym (pair .0) z) (sym (pair .1) z) (f .weight))))
 
     -- an edge of the old table alone
@@ -364,10 +389,9 @@ module _ (n m : ℕ) (ts hs ws : List ℕ) (m′ : ℕ) (ts′ hs′ ws′ : Lis
         let k : eqb (e .weight) 0 ≡ false = ne-eqb (e .weight) 0 (λ p. omega arith) in
         rw k
         (made true false d h (e .tail) (e .head) (e .weight) 0 (g + 1) lx ly (omega arith) (omega arith) (omega arith) (let z = wk .few in omega arith)
-        (half-list _ i g (before xs) _ (edgeAt ts hs ws) (kept-before xs g (e .tail) (e .head) (e .weight) 0 long (omega arith) (omega arith)) (wk .old)
-        (lone-absent n m ts hs ws (t .old .1) (t .old .2) m′ ts′ hs′ ws′ (t .new .1) (t .new .2) i j (wk .behind li) d h) (stored-before xs g (e .tail) (e .head) (e .weight) 0 long (omega arith) (omega arith)))
-        (half-stay _ j g (after xs) _ (edgeAt ts′ hs′ ws′) (kept-after xs g (e .tail) (e .head) (e .weight) 0 long (omega arith) (omega arith)) (wk .new)
-        (ap (λ (x : Edge). x .weight) (stored-after xs g (e .tail) (e .head) (e .weight) 0 long (omega arith) (omega arith)))))
+        (half-list _ i g (before xs) _ (weightAfter xs) _ (edgeAt ts hs ws) (kept-before xs g (e .tail) (e .head) (e .weight) 0 long (omega arith) (omega arith)) (kept-new xs g (e .tail) (e .head) (e .weight) 0 long (omega arith) (omega arith)) (wk .old)
+        (lone-counterpart n m ts hs ws (t .old .1) (t .old .2) m′ ts′ hs′ ws′ (t .new .1) (t .new .2) i j (wk .behind li) d h ∙ sym (stored-new xs g (e .tail) (e .head) (e .weight) 0 long (omega arith) (omega arith))) (stored-before xs g (e .tail) (e .head) (e .weight) 0 long (omega arith) (omega arith)))
+        (half-stay _ j g (after xs) _ (weightBefore xs) _ (edgeAt ts′ hs′ ws′) (kept-after xs g (e .tail) (e .head) (e .weight) 0 long (omega arith) (omega arith)) (kept-old xs g (e .tail) (e .head) (e .weight) 0 long (omega arith) (omega arith)) (wk .new) (stored-new xs g (e .tail) (e .head) (e .weight) 0 long (omega arith) (omega arith))))
 
     -- an edge of the new table alone
     step-new : due i m ts hs j m′ ts′ hs′ ≡ false → due j m′ ts′ hs′ i m ts hs ≡ true
@@ -380,10 +404,9 @@ module _ (n m : ℕ) (ts hs ws : List ℕ) (m′ : ℕ) (ts′ hs′ ws′ : Lis
         let k : eqb 0 (f .weight) ≡ false = ne-eqb 0 (f .weight) (λ p. omega arith) in
         rw k
         (made false true d h (f .tail) (f .head) 0 (f .weight) (g + 1) lx ly (omega arith) (omega arith) (omega arith) (let z = wk .few in omega arith)
-        (half-stay _ i g (before xs) _ (edgeAt ts hs ws) (kept-before xs g (f .tail) (f .head) 0 (f .weight) long (omega arith) (omega arith)) (wk .old)
-        (ap (λ (x : Edge). x .weight) (stored-before xs g (f .tail) (f .head) 0 (f .weight) long (omega arith) (omega arith))))
-        (half-list _ j g (after xs) _ (edgeAt ts′ hs′ ws′) (kept-after xs g (f .tail) (f .head) 0 (f .weight) long (omega arith) (omega arith)) (wk .new)
-        (lone-absent n m′ ts′ hs′ ws′ (t .new .1) (t .new .2) m ts hs ws (t .old .1) (t .old .2) j i (wk .ahead lj) h d) (stored-after xs g (f .tail) (f .head) 0 (f .weight) long (omega arith) (omega arith))))
+        (half-stay _ i g (before xs) _ (weightAfter xs) _ (edgeAt ts hs ws) (kept-before xs g (f .tail) (f .head) 0 (f .weight) long (omega arith) (omega arith)) (kept-new xs g (f .tail) (f .head) 0 (f .weight) long (omega arith) (omega arith)) (wk .old) (stored-old xs g (f .tail) (f .head) 0 (f .weight) long (omega arith) (omega arith)))
+        (half-list _ j g (after xs) _ (weightBefore xs) _ (edgeAt ts′ hs′ ws′) (kept-after xs g (f .tail) (f .head) 0 (f .weight) long (omega arith) (omega arith)) (kept-old xs g (f .tail) (f .head) 0 (f .weight) long (omega arith) (omega arith)) (wk .new)
+        (lone-counterpart n m′ ts′ hs′ ws′ (t .new .1) (t .new .2) m ts hs ws (t .old .1) (t .old .2) j i (wk .ahead lj) h d ∙ sym (stored-old xs g (f .tail) (f .head) 0 (f .weight) long (omega arith) (omega arith))) (stored-after xs g (f .tail) (f .head) 0 (f .weight) long (omega arith) (omega arith))))
 
     -- any step
     pub walk-turn : (b c : Bool) → b ≡ due i m ts hs j m′ ts′ hs′ → c ≡ due j m′ ts′ hs′ i m ts hs → (x y o w : ℕ) → x ≡ cond b (e .tail) (f .tail) → y ≡ cond b (e .head) (f .head) → o ≡ cond b (e .weight) 0 → w ≡ cond c (f .weight) 0
@@ -396,18 +419,19 @@ module _ (n m : ℕ) (ts hs ws : List ℕ) (m′ : ℕ) (ts′ hs′ ws′ : Lis
 
 -- ---- all is gone past
 
-half-done : (ts hs ws : List ℕ) (m : ℕ) (r : Room m ts hs ws) (n : ℕ) → rules n (edges ts hs ws m) ≡ accept → (fs : List Edge) (g : ℕ) (f k : ℕ → Edge) (j : ℕ) → j ≡ g → ((i : ℕ) → i < g → k i ≡ f i)
-    → Half fs m g f (edgeAt ts hs ws) → Lists (edges ts hs ws m) fs j k
-half-done ts hs ws m r n a fs g f k j q s t = rw q (record {
+half-done : (ts hs ws : List ℕ) (m : ℕ) (r : Room m ts hs ws) (n : ℕ) → rules n (edges ts hs ws m) ≡ accept → (fs : List Edge) (g : ℕ) (f k : ℕ → Edge) (o p : ℕ → ℕ) (j : ℕ) → j ≡ g
+    → ((i : ℕ) → i < g → k i ≡ f i) → ((i : ℕ) → i < g → p i ≡ o i) → Half fs m g f o (edgeAt ts hs ws) → Lists (edges ts hs ws m) fs j k p
+half-done ts hs ws m r n a fs g f k o p j q s u t = rw q (record {
   among = λ i b w. let x = s i b in let z = t .among i b (rw x at w) in rw (x, sym (z .2)) (edges-mem ts hs ws m r (z .0) (z .1));
-  lacks = λ i b w. let x = s i b in ap (absent fs) x ∙ t .lacks i b (rw x at w);
+  other = λ i b w. let x = s i b in ap (counterpart fs) x ∙ t .other i b (rw x at w) ∙ sym (u i b);
   all = λ e i b.
       let z = mem-index (edge 0 0 0) i in
       let l : z .0 < m = (let y = z .1 in omega (arith, edges-length ts hs ws m r)) in
-      let p : edgeAt ts hs ws (z .0) ≡ e = sym (edges-at ts hs ws m r (z .0) l) ∙ z .2 in
-      let y = t .all (z .0) l (ap (absent fs) p ∙ b) in
-      let u = s (y .0) (y .1) ∙ y .2 in
-      (y .0, y .1, u ∙ p, rw u (weights-range n m ts hs ws r a (z .0) l .0));
+      let v : edgeAt ts hs ws (z .0) ≡ e = sym (edges-at ts hs ws m r (z .0) l) ∙ z .2 in
+      let y = t .all (z .0) l (ap (differs fs) v ∙ b) in
+      let c = s (y .0) (y .1) ∙ y .2 in
+      (y .0, y .1, c ∙ v, rw c (weights-range n m ts hs ws r a (z .0) l .0));
+  weighs = λ e i. sound-fit n (edges ts hs ws m) (rules-accept n _ a) e i .some-weight;
 })
 
 module _ (n m : ℕ) (ts hs ws : List ℕ) (m′ : ℕ) (ts′ hs′ ws′ : List ℕ) (t : Tables n m ts hs ws m′ ts′ hs′ ws′) (xs : List ℕ) (i j g : ℕ)
@@ -425,6 +449,6 @@ module _ (n m : ℕ) (ts hs ws : List ℕ) (m′ : ℕ) (ts′ hs′ ws′ : Lis
       let z = front in
       let q : length (take (2 * g) xs) / 2 ≡ g = omega arith in
       record {
-        removed = half-done ts hs ws m (t .old .1) n (t .old .2) _ g (before xs) _ _ q (λ k l. rw (getD-take (2 * g) xs (2 * k) 0 (omega arith), getD-take (2 * g) xs (2 * k + 1) 0 (omega arith))) (rw ei at (wk .old));
-        added = half-done ts′ hs′ ws′ m′ (t .new .1) n (t .new .2) _ g (after xs) _ _ q (λ k l. rw (getD-take (2 * g) xs (2 * k) 0 (omega arith), getD-take (2 * g) xs (2 * k + 1) 0 (omega arith))) (rw ej at (wk .new));
+        removed = half-done ts hs ws m (t .old .1) n (t .old .2) _ g (before xs) _ (weightAfter xs) _ _ q (λ k l. rw (getD-take (2 * g) xs (2 * k) 0 (omega arith), getD-take (2 * g) xs (2 * k + 1) 0 (omega arith))) (λ k l. rw (getD-take (2 * g) xs (2 * k + 1) 0 (omega arith))) (rw ei at (wk .old));
+        added = half-done ts′ hs′ ws′ m′ (t .new .1) n (t .new .2) _ g (after xs) _ (weightBefore xs) _ _ q (λ k l. rw (getD-take (2 * g) xs (2 * k) 0 (omega arith), getD-take (2 * g) xs (2 * k + 1) 0 (omega arith))) (λ k l. rw (getD-take (2 * g) xs (2 * k) 0 (omega arith))) (rw ej at (wk .new));
       }

@@ -3,24 +3,26 @@
 --   before xs k, after xs k == change k of a list: its pair, with the weight before the batch and with that after it, 0 where there is none
 --   pairs xs                == how many changes a list has: two words for each
 --   Inside n xs             == the tails and heads of a list of changes are vertices below n
---   Lists es fs g f         == the edges f i, of i below g, list those of es that are absent from fs: each that has a weight is such an edge, and
---                              each such edge is there
---   Net es fs xs            == a list of changes has what a batch changed: the edges of es that are absent from fs (removed), and those of fs that are absent
---                              from es (added)
+--   differs fs e            == the pair of e has another weight in fs, or none
+--   Lists es fs g f o       == the edges f i, of i below g, list those of es that differ in fs: each that has a weight is an edge of es whose pair has
+--                              the weight o i in fs, and each edge of es that differs is there; and each edge of es has a weight
+--   Net es fs xs            == a list of changes has what a batch changed: the edges of es that differ in fs and those of fs that differ in es, each with
+--                              what stands in its place
 --   Passed ts hs ws m t h j == the first j edges, of m, precede the pair of t and h
 --   Tables n m ts hs ws ..  == two tables that keep the rules of n vertices
 use mathlib.Core.Path.{_≡_}
-use mathlib.Core.Bool.{true}
+use mathlib.Core.Bool.{Bool, true, not}
 use mathlib.Core.List.{List, List·Memᴰ}
 use Prim.Native.Nat.{ℕ, _+_, _*_, _/_, _≤_, _<_}
 use lib.ListN.{length, getD}
+use lib.Dec.{eqb}
 use Rattle.graph.specs.Limits.{maxVertices, maxEdges}
 use Rattle.graph.specs.Refusal.{accept}
 use Rattle.graph.specs.Arc.{arcHead, arcWeight}
 use Rattle.graph.specs.Edge.{Edge, edge, edges, precedes}
 use Rattle.graph.specs.Table.{rules}
 use Rattle.graph.specs.Code.{Room, edgeAt}
-use Rattle.affected.specs.Affected.{absent}
+use Rattle.affected.specs.Net.{counterpart}
 
 -- ---- a list of changes
 
@@ -36,14 +38,18 @@ pairs xs = length xs / 2
 abbrev pub Inside : ℕ → List ℕ → Type 0
 Inside n xs = (k : ℕ) → k < length xs → arcHead (getD xs k 0) < n
 
-pub record Lists (es fs : List Edge) (g : ℕ) (f : ℕ → Edge) : Type 0 where
+abbrev pub differs : List Edge → Edge → Bool
+differs fs e = not (eqb (counterpart fs e) (e .weight))
+
+pub record Lists (es fs : List Edge) (g : ℕ) (f : ℕ → Edge) (o : ℕ → ℕ) : Type 0 where
   pub among : (k : ℕ) → k < g → 0 < f k .weight → List·Memᴰ (f k) es
-  pub lacks : (k : ℕ) → k < g → 0 < f k .weight → absent fs (f k) ≡ true
-  pub all : (e : Edge) → List·Memᴰ e es → absent fs e ≡ true → (k : ℕ) × (k < g) × (f k ≡ e) × (0 < f k .weight)
+  pub other : (k : ℕ) → k < g → 0 < f k .weight → counterpart fs (f k) ≡ o k
+  pub all : (e : Edge) → List·Memᴰ e es → differs fs e ≡ true → (k : ℕ) × (k < g) × (f k ≡ e) × (0 < f k .weight)
+  pub weighs : (e : Edge) → List·Memᴰ e es → 0 < e .weight
 
 pub record Net (es fs : List Edge) (xs : List ℕ) : Type 0 where
-  pub removed : Lists es fs (pairs xs) (before xs)
-  pub added : Lists fs es (pairs xs) (after xs)
+  pub removed : Lists es fs (pairs xs) (before xs) (λ k. after xs k .weight)
+  pub added : Lists fs es (pairs xs) (after xs) (λ k. before xs k .weight)
 
 -- ---- two tables
 

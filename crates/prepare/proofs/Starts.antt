@@ -2,8 +2,9 @@
 --
 --   Given .. out i     == the first i words of out are those with which the rounds start, the others as they were
 --   opens es ms t e    == e, an edge of the new list, has vertex t wait
-use Rattle.property.proofs.Basics.{_≡_, refl, sym, ap, _∙_, _⊎_, inl, inr, ⊎-elim, Bool, true, false, _&&_, _||_, cond, false≢true, List, map, List·Memᴰ, ℕ, _+_, _≤_, _<_, ℕ-discrete, decLt, arith, length, getD, set, replicate, length-set, getD-set-same, getD-set-other, ext-getD, eqb, eqb-true, eq-eqb, ltb-true, lt-ltb}
+use Rattle.property.proofs.Basics.{_≡_, refl, sym, ap, _∙_, _⊎_, inl, inr, ⊎-elim, Bool, true, false, _&&_, _||_, cond, false≢true, List, map, List·Memᴰ, ℕ, _+_, _≤_, _<_, ℕ-discrete, decLt, arith, length, getD, set, replicate, length-set, getD-set-same, getD-set-other, ext-getD, eqb, eqb-true, eq-eqb}
 use Rattle.property.specs.Property.{Property}
+use Rattle.property.specs.Laws.{Laws}
 use Rattle.property.proofs.Tests.{by-test}
 use Rattle.frontier.specs.Waiting.{waitingOf, capacity}
 use Rattle.frontier.proofs.Laws.{First}
@@ -16,12 +17,13 @@ use Rattle.graph.proofs.Lists.{length-table, table-at, getD-within, replicate-a
 use Rattle.run.specs.Run.{noTally, word}
 use Rattle.run.specs.Code.{bits, Marks}
 use Rattle.run.proofs.States.{bits-at}
-use Rattle.affected.specs.Affected.{added, marked, affected}
+use Rattle.affected.specs.Net.{added}
+use Rattle.affected.specs.Affected.{marked, affected}
 use Rattle.affected.specs.Prepared.{cleared, reopened, prepared}
-use Rattle.compare.specs.Code.{after, pairs, Lists}
+use Rattle.compare.specs.Code.{before, after, pairs, Lists}
 use Rattle.prepare.specs.Code.{Raised, Reached, Woken, Entering}
 use Rattle.prepare.proofs.Bits.{raise-keeps, raise-only, bits-all, bits-length}
-use Rattle.prepare.proofs.Spreading.{own-reads, own-whole}
+use Rattle.prepare.proofs.Spreading.{own-reads, own-whole, listed-lost, lost-listed}
 
 -- ---- words
 
@@ -123,19 +125,19 @@ opens P es ms t e = eqb (e .tail) t && (marked ms (e .head) || added P es e)
 
 -- The added edges' tails are set first, then those of the edges into marked vertices. A bit that is set is of such an edge of the new
 -- list; and each such edge is listed, or stands in the index at its head.
-module _ (n : ℕ) (xs is ms : List ℕ) (marks : Marks n ms) (bs cs ds : List ℕ) (p : waitingOf bs ≡ replicate capacity false)
-    (a : Raised (waitingOf bs) (waitingOf cs) (Woken xs (pairs xs)))
+module _ (P : Property) (n : ℕ) (xs is ms : List ℕ) (marks : Marks n ms) (bs cs ds : List ℕ) (p : waitingOf bs ≡ replicate capacity false)
+    (a : Raised (waitingOf bs) (waitingOf cs) (Woken P xs (pairs xs)))
     (b : Raised (waitingOf cs) (waitingOf ds) (λ t. (v : ℕ) × (getD (waitingOf ms) v false ≡ true) × Entering is (getD is v 0) (getD is (v + 1) 0) t))
     (fine : Marks n ds) (marked-within : (v : ℕ) → getD (waitingOf ms) v false ≡ true → v < n) where
-  module _ (P : Property) (es fs : List Edge) (heads : (e : Edge) → List·Memᴰ e fs → e .head < n) (q : Lists fs es (pairs xs) (after xs)) (o : Own n is (map reverse fs)) where
+  module _ (L : Laws P) (es fs : List Edge) (heads : (e : Edge) → List·Memᴰ e fs → e .head < n) (q : Lists fs es (pairs xs) (after xs) (λ i. before xs i .weight)) (o : Own n is (map reverse fs)) where
     witness : (t : ℕ) (e : Edge) → List·Memᴰ e fs → e .tail ≡ t → (marked (bits n ms) (e .head) || added P es e) ≡ true → exists (opens P es (bits n ms) t) fs ≡ true
     witness t e i j k = true-exists (opens P es (bits n ms) t) i (and-true (eq-eqb (e .tail) t j) k)
 
     sound : (t : ℕ) → getD (waitingOf ds) t false ≡ true → exists (opens P es (bits n ms) t) fs ≡ true
     sound t h = ⊎-elim (λ y. ⊎-elim (λ z. absurd (false≢true (sym (replicate-at capacity t false) ∙ (ap (λ (l : List Bool). getD l t false) (sym p) ∙ z)))) listed (a .only t y)) into (b .only t h)
       where
-        listed : Woken xs (pairs xs) t → exists (opens P es (bits n ms) t) fs ≡ true
-        listed z = let w = ltb-true _ _ (z .3) in witness t (after xs (z .0)) (q .among (z .0) (z .2) w) (z .4) (or-right (marked (bits n ms) _) (q .lacks (z .0) (z .2) w))
+        listed : Woken P xs (pairs xs) t → exists (opens P es (bits n ms) t) fs ≡ true
+        listed z = let w = listed-lost L q (z .0) (z .2) (z .3) in witness t (after xs (z .0)) (w .0) (z .4) (or-right (marked (bits n ms) _) (w .1))
 
         into : ((v : ℕ) × (getD (waitingOf ms) v false ≡ true) × Entering is (getD is v 0) (getD is (v + 1) 0) t) → exists (opens P es (bits n ms) t) fs ≡ true
         into (v, on, (k, lo, hi, _, e)) =
@@ -150,7 +152,7 @@ module _ (n : ℕ) (xs is ms : List ℕ) (marks : Marks n ms) (bs cs ds : List �
         by-test (marked (bits n ms) ((z .0) .head))
         (λ on. let w = own-whole n is (map reverse fs) o ((z .0) .head) (reverse (z .0)) (heads (z .0) (z .1)) refl (mem-reverse (z .1)) in
         b .all t ((z .0) .head, sym (bits-all n ms marks ((z .0) .head)) ∙ on, (w .0, w .1, w .2, refl, ap (λ (x : Edge). x .head) (w .3) ∙ j)))
-        (λ on. let w = q .all (z .0) (z .1) (rw on at (y .1)) in b .kept t (a .all t (w .0, omega arith, w .1, lt-ltb _ _ (w .3), ap (λ (l : Edge). l .tail) (w .2) ∙ j)))
+        (λ on. let w = lost-listed L q (z .0) (z .1) (rw on at (y .1)) in b .kept t (a .all t (w .0, omega arith, w .1, w .3, ap (λ (l : Edge). l .tail) (w .2) ∙ j)))
 
     pub reopen-done : bits n ds ≡ reopened P es fs (bits n ms) n
     unfolding reopened

@@ -7,15 +7,16 @@
 --   Grown ms ds ms′ ds′          == marks ms with the vertices ds to do became ms′ and ds′: none was taken away, and each new mark is to do
 --   holds P s v w h x            == an edge's words as a test, as `held`: v at its tail, weight w, head h with x
 --   marksHead P s ws ms e        == e marks its head: it holds it up, and the head has no mark yet
---   marksChange P s ws ms e      == so where e has a weight
+--   isLost P w c                 == an edge of weight w, 0 for none, is lost to the property where its pair has the weight c, 0 for none
+--   marksChange P s ws ms e c    == e marks its head where it is lost so
 --   Gone P n s f on j k vs bs ds bs′ ds′ == the edges f i, of i from j to k - 1, that pass the test on marked the heads that they hold up
---   HeadsMarked P n s f k vs bs ds bs′ ds′ == so those of i below k that have a weight
+--   HeadsMarked P n s xs k vs bs ds bs′ ds′ == so the removed edges of the first k changes of xs
 --   Along P n s is u j k vs bs ds bs′ ds′ == so those of u at places j to k - 1 of an index
 --   Covered P es s ws ms ds      == a held edge from a marked vertex that is not to do has its head marked
 --   Spreads P n s es vs bs ds bs′ ds′ == marks went on along edges of es
 --   Raised bs cs Q               == the bits bs became cs: those of Q were set
 --   Reached f on j k t           == t is f i, of some i from j to k - 1 that passes the test on
---   Woken xs k t                 == t is the tail of an edge that one of the first k changes added
+--   Woken P xs k t               == t is the tail of an edge that one of the first k changes added
 --   Entering is j k t            == t is the head of an arc at places j to k - 1
 use mathlib.Core.Path.{_≡_}
 use mathlib.Core.Logic.{_⊎_}
@@ -30,8 +31,9 @@ use Rattle.graph.specs.Arc.{arcHead, arcWeight}
 use Rattle.graph.specs.Edge.{Edge, edge, reverse}
 use Rattle.graph.specs.Index.{Own}
 use Rattle.run.specs.Code.{Marks}
-use Rattle.affected.specs.Affected.{removed, Named, held, marked}
-use Rattle.compare.specs.Code.{after, Net}
+use Rattle.affected.specs.Net.{lost, removed}
+use Rattle.affected.specs.Affected.{Named, held, marked}
+use Rattle.compare.specs.Code.{before, after, Net}
 
 -- ---- what is asked
 
@@ -65,8 +67,11 @@ pub record Grown (ms ds ms′ ds′ : List Bool) : Type 0 where
 abbrev pub marksHead : Property → ℕ → List ℕ → List Bool → Edge → Bool
 marksHead P s ws ms e = not (marked ms (e .head)) && held P s ws e
 
-abbrev pub marksChange : Property → ℕ → List ℕ → List Bool → Edge → Bool
-marksChange P s ws ms e = ltb 0 (e .weight) && marksHead P s ws ms e
+abbrev pub isLost : Property → ℕ → ℕ → Bool
+isLost P w c = ltb 0 w && lost P c w
+
+abbrev pub marksChange : Property → ℕ → List ℕ → List Bool → Edge → ℕ → Bool
+marksChange P s ws ms e c = isLost P (e .weight) c && marksHead P s ws ms e
 
 pub record Gone (P : Property) (n s : ℕ) (f : ℕ → Edge) (on : ℕ → Bool) (j k : ℕ) (vs bs ds bs′ ds′ : List ℕ) : Type 0 where
   pub going : Going n bs′ ds′
@@ -75,8 +80,8 @@ pub record Gone (P : Property) (n s : ℕ) (f : ℕ → Edge) (on : ℕ → Bool
       → Named P es fs s vs (waitingOf bs) → Named P es fs s vs (waitingOf bs′)
   pub heads : (i : ℕ) → j ≤ i → i < k → on i ≡ true → held P s vs (f i) ≡ true → marked (waitingOf bs′) (f i .head) ≡ true
 
-abbrev pub HeadsMarked : Property → ℕ → ℕ → (ℕ → Edge) → ℕ → List ℕ → List ℕ → List ℕ → List ℕ → List ℕ → Type 0
-HeadsMarked P n s f k = Gone P n s f (λ i. ltb 0 (f i .weight)) 0 k
+abbrev pub HeadsMarked : Property → ℕ → ℕ → List ℕ → ℕ → List ℕ → List ℕ → List ℕ → List ℕ → List ℕ → Type 0
+HeadsMarked P n s xs k = Gone P n s (before xs) (λ i. isLost P (before xs i .weight) (after xs i .weight)) 0 k
 
 abbrev pub Along : Property → ℕ → ℕ → List ℕ → ℕ → ℕ → ℕ → List ℕ → List ℕ → List ℕ → List ℕ → List ℕ → Type 0
 Along P n s is u = Gone P n s (arcEdge is u) (λ i. true)
@@ -100,8 +105,8 @@ pub record Raised (bs cs : List Bool) (Q : ℕ → Type 0) : Type 0 where
 abbrev pub Reached : (ℕ → ℕ) → (ℕ → Bool) → ℕ → ℕ → ℕ → Type 0
 Reached f on j k t = (i : ℕ) × (j ≤ i) × (i < k) × (on i ≡ true) × (f i ≡ t)
 
-abbrev pub Woken : List ℕ → ℕ → ℕ → Type 0
-Woken xs k = Reached (λ i. after xs i .tail) (λ i. ltb 0 (after xs i .weight)) 0 k
+abbrev pub Woken : Property → List ℕ → ℕ → ℕ → Type 0
+Woken P xs k = Reached (λ i. after xs i .tail) (λ i. isLost P (after xs i .weight) (before xs i .weight)) 0 k
 
 abbrev pub Entering : List ℕ → ℕ → ℕ → ℕ → Type 0
 Entering is = Reached (λ i. arcHead (getD is i 0)) (λ i. true)

@@ -8,7 +8,6 @@ ghost use mathlib.Core.Bool.{true, false, cond};
 ghost use mathlib.Core.List.{List};
 ghost use Prim.Native.Nat.{ℕ, _+_, _*_, _<_, _≤_};
 ghost use lib.ListN.{length, getD, set};
-ghost use lib.Dec.{ltb};
 ghost use Rattle.property.specs.Property.{property};
 ghost use Rattle.frontier.specs.Waiting.{waitingOf, countOf};
 ghost use Rattle.graph.specs.Limits.{maxVertices};
@@ -19,7 +18,7 @@ ghost use Rattle.run.specs.Code.{bits, Marks};
 ghost use Rattle.affected.specs.Affected as spec;
 ghost use Rattle.affected.specs.Prepared as start;
 ghost use Rattle.compare.specs.Code.{before, after, pairs, Inside};
-ghost use Rattle.prepare.specs.Code.{Batched, Going, holds, marksHead, marksChange, HeadsMarked, Along, Spreads, Raised, Woken, Entering};
+ghost use Rattle.prepare.specs.Code.{Batched, Going, holds, marksHead, isLost, marksChange, HeadsMarked, Along, Spreads, Raised, Woken, Entering};
 
 // ---- what the changes do
 
@@ -62,7 +61,7 @@ fn mark_head(
 // Whether an edge of weight `w` is lost to the property where its pair has the weight `other`, 0 for none: there is such an edge, and nothing or
 // a worse weight in its place.
 fn is_lost(p: u32, w: u32, other: u32) -> bool
-    ensures { λ r. ⌜ r ≡ gone (property p) w other ⌝ }
+    ensures { λ r. ⌜ r ≡ isLost (property p) w other ⌝ }
 {
     0 < w && (other == 0 || property::worse(p, other, w))
 }
@@ -79,14 +78,15 @@ fn mark_change(
     todo: &mut Words,
 )
     requires { ⌜ (2 * k + 1 < length (now net)) × Inside n (now net) × (n ≤ maxVertices) × (length (now words) ≡ n) ⌝ }
-    ensures { λ _. ⌜ waitingOf (now (marks .exit)) ≡ cond (marksChange (property p) s (now (words .entry)) (waitingOf (now (marks .entry))) (before (now (net .entry)) k)) (set (waitingOf (now (marks .entry))) (before (now (net .entry)) k .head) true) (waitingOf (now (marks .entry))) ⌝ }
-    ensures { λ _. ⌜ waitingOf (now (todo .exit)) ≡ cond (marksChange (property p) s (now (words .entry)) (waitingOf (now (marks .entry))) (before (now (net .entry)) k)) (set (waitingOf (now (todo .entry))) (before (now (net .entry)) k .head) true) (waitingOf (now (todo .entry))) ⌝ }
+    ensures { λ _. ⌜ waitingOf (now (marks .exit)) ≡ cond (marksChange (property p) s (now (words .entry)) (waitingOf (now (marks .entry))) (before (now (net .entry)) k) (after (now (net .entry)) k .weight)) (set (waitingOf (now (marks .entry))) (before (now (net .entry)) k .head) true) (waitingOf (now (marks .entry))) ⌝ }
+    ensures { λ _. ⌜ waitingOf (now (todo .exit)) ≡ cond (marksChange (property p) s (now (words .entry)) (waitingOf (now (marks .entry))) (before (now (net .entry)) k) (after (now (net .entry)) k .weight)) (set (waitingOf (now (todo .entry))) (before (now (net .entry)) k .head) true) (waitingOf (now (todo .entry))) ⌝ }
 {
     let at = 2 * k;
     let t = arc::head(net[at]);
     let w = arc::weight(net[at]);
+    let other = arc::weight(net[at + 1]);
     let h = arc::head(net[at + 1]);
-    if is_lost(p, w, arc::weight(net[at + 1])) {
+    if is_lost(p, w, other) {
         mark_head(p, n, s, t, h, w, words, marks, todo);
     }
 }
@@ -94,7 +94,7 @@ fn mark_change(
 // The tail of change `k` waits where it added an edge.
 fn wake_change(p: u32, k: usize, net: &[u32], waiting: &mut Words)
     requires { ⌜ (2 * k + 1 < length (now net)) × Inside maxVertices (now net) ⌝ }
-    ensures { λ _. ⌜ waitingOf (now (waiting .exit)) ≡ cond (ltb 0 (after (now (net .entry)) k .weight)) (set (waitingOf (now (waiting .entry))) (after (now (net .entry)) k .tail) true) (waitingOf (now (waiting .entry))) ⌝ }
+    ensures { λ _. ⌜ waitingOf (now (waiting .exit)) ≡ cond (isLost (property p) (after (now (net .entry)) k .weight) (before (now (net .entry)) k .weight)) (set (waitingOf (now (waiting .entry))) (after (now (net .entry)) k .tail) true) (waitingOf (now (waiting .entry))) ⌝ }
 {
     let at = 2 * k;
     let t = arc::head(net[at]) as usize;
@@ -115,8 +115,8 @@ fn take_changes(
     waiting: &mut Words,
 )
     requires { ⌜ Inside n (now net) × (n ≤ maxVertices) × (length (now words) ≡ n) × Going n (now marks) (now todo) × Marks n (now waiting) ⌝ }
-    ensures { λ _. ⌜ HeadsMarked (property p) n s (before (now (net .entry))) (pairs (now (net .entry))) (now (words .entry)) (now (marks .entry)) (now (todo .entry)) (now (marks .exit)) (now (todo .exit)) ⌝ }
-    ensures { λ _. ⌜ Raised (waitingOf (now (waiting .entry))) (waitingOf (now (waiting .exit))) (Woken (now (net .entry)) (pairs (now (net .entry)))) × Marks n (now (waiting .exit)) ⌝ }
+    ensures { λ _. ⌜ HeadsMarked (property p) n s (now (net .entry)) (pairs (now (net .entry))) (now (words .entry)) (now (marks .entry)) (now (todo .entry)) (now (marks .exit)) (now (todo .exit)) ⌝ }
+    ensures { λ _. ⌜ Raised (waitingOf (now (waiting .entry))) (waitingOf (now (waiting .exit))) (Woken (property p) (now (net .entry)) (pairs (now (net .entry)))) × Marks n (now (waiting .exit)) ⌝ }
 {
     let size = net.len() / 2;
     let mut k = 0;

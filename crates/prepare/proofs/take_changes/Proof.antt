@@ -1,11 +1,11 @@
 -- `prepare::take_changes` meets its contract. The loop's invariant is `HeadsMarked` of the removed edges and `Raised` of the added ones.
 -- Assumes nothing.
-use Rattle.property.proofs.Basics.{_≡_, refl, _+_, _-_, _*_, _≤_, arith, ltb, needs}
+use Rattle.property.proofs.Basics.{_≡_, refl, _+_, _-_, _*_, _≤_, arith, needs}
 use Rattle.property.specs.Property.{property}
 use Rattle.frontier.specs.Waiting.{waitingOf}
 use Rattle.run.specs.Code.{Marks}
 use Rattle.compare.specs.Code.{before, after, pairs}
-use Rattle.prepare.specs.Code.{HeadsMarked, Raised, Woken}
+use Rattle.prepare.specs.Code.{isLost, HeadsMarked, Raised, Woken}
 use Rattle.prepare.proofs.Bits.{marks-if}
 use Rattle.prepare.proofs.Spreading.{gone-start, gone-turn, gone-as}
 use Rattle.prepare.proofs.Starts.{raised-none, raised-turn}
@@ -14,7 +14,7 @@ use Rattle.prepare.proofs.take_changes.Tie as tie
 
 abbrev Inv-loop : tie.InvT-loop
 Inv-loop p n s net words marks₀ todo₀ waiting₀ size k₀ marks todo waiting k =
-    HeadsMarked (property p) n s (before net) k words marks₀ todo₀ marks todo × Raised (waitingOf waiting₀) (waitingOf waiting) (Woken net k) × Marks n waiting × (k ≤ size) × (size ≡ pairs net)
+    HeadsMarked (property p) n s net k words marks₀ todo₀ marks todo × Raised (waitingOf waiting₀) (waitingOf waiting) (Woken (property p) net k) × Marks n waiting × (k ≤ size) × (size ≡ pairs net)
 
 abbrev μ-loop : tie.MeasureT-loop
 μ-loop p n s net words marks₀ todo₀ waiting₀ size k₀ marks todo waiting k = size - k
@@ -32,7 +32,7 @@ loop-again c =
     let y = s .pre .0 (2 * k + 1) (omega (arith, t .loop-test .taken, v .4)) in
     let m = c .before .before .mark-change .ensures in
     let w = c .wake-change .ensures in
-    (gone-turn (v .0) (omega arith) y _ _ (m .0) (m .1), raised-turn (v .1) (omega (arith, x, v .2 .few, v .2 .bits)) (omega arith) _ w, marks-if _ _ _ _ (ltb 0 (after (s .args .net .now) k .weight)) x w (v .2), omega arith, v .4)
+    (gone-turn (v .0) (omega arith) y _ _ (m .0) (m .1), raised-turn (v .1) (omega (arith, x, v .2 .few, v .2 .bits)) (omega arith) _ w, marks-if _ _ _ _ (isLost (property (s .args .p)) (after (s .args .net .now) k .weight) (before (s .args .net .now) k .weight)) x w (v .2), omega arith, v .4)
 
 returns : tie.Need-returns Inv-loop μ-loop
 returns c =

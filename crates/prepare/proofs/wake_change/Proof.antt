@@ -1,21 +1,26 @@
 -- `prepare::wake_change` meets its contract. Assumes nothing.
-use Rattle.property.proofs.Basics.{arith, _≡_, sym, ap, _∙_, _*_, ltb, needs}
-use Rattle.compare.specs.Code.{after}
+use Rattle.property.proofs.Basics.{arith, _≡_, sym, ap₂, _∙_, _*_, needs}
+use Rattle.property.specs.Property.{property}
+use Rattle.compare.specs.Code.{before, after}
+use Rattle.prepare.specs.Code.{isLost}
 use Rattle.prepare.proofs.wake_change.Statement.{statement}
 use Rattle.prepare.proofs.wake_change.Tie as tie
 
 insert-requires : tie.Need-insert-requires
 insert-requires c κs =
-    let s = c .before .before .before .before .before .before .before .before in
+    let s = c .before .before .before .before .before .before .before .before .before .before in
     let x = s .pre .1 (2 * s .args .k) (let l = s .pre .0 in omega arith) in
-    omega (arith, x, c .before .before .before .before .before .head .ensures)
+    omega (arith, x, c .before .before .before .before .before .before .before .head .ensures)
 
--- whether the pair has an edge
-has : (c : tie.After-has-edge) → c .has-edge .result ≡ ltb 0 (after (c .before .before .before .before .before .before .args .net .now) (c .before .before .before .before .before .before .args .k) .weight)
-has c = c .has-edge .ensures ∙ ap (ltb 0) (c .before .weight .ensures)
+abbrev start : tie.After-is-lost → tie.Start
+start c = c .before .before .before .before .before .before .before .before
+
+-- whether the change added an edge
+adds : (c : tie.After-is-lost) → let a = start c .args in c .is-lost .result ≡ isLost (property (a .p)) (after (a .net .now) (a .k) .weight) (before (a .net .now) (a .k) .weight)
+adds c = c .is-lost .ensures ∙ ap₂ (isLost (property (start c .args .p))) (c .before .before .before .weight .ensures) (c .before .weight2 .ensures)
 
 returns : tie.Need-returns
-returns c = let z = sym (has (c .before .before .before)) ∙ c .before .before .if1 .taken in rw z (rw (c .before .before .before .before .before .before .head .ensures) at (c .insert .ensures))
+returns c = let z = sym (adds (c .before .before .before)) ∙ c .before .before .if1 .taken in rw z (rw (c .before .before .before .before .before .before .before .before .head .ensures) at (c .insert .ensures))
 
 pub wake-change-spec : {M : Type 1} → statement M
 wake-change-spec =
@@ -30,7 +35,10 @@ wake-change-spec =
     (λ c. search needs)
     (λ c. search needs)
     (λ c κs. search needs)
+    (λ c. search needs)
+    (λ c. search needs)
+    (λ c κs. search needs)
     (λ c κs. search needs)
     insert-requires
     returns
-    (λ c. let z = sym (has (c .before)) ∙ c .if1 .left in rw z))
+    (λ c. let z = sym (adds (c .before)) ∙ c .if1 .left in rw z))
