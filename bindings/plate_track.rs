@@ -36,6 +36,7 @@ pub const BACKWARD: u32 = 1;
 // kinds of change
 pub const INSERT: u32 = 1;
 pub const DELETE: u32 = 2;
+pub const UPDATE: u32 = 3;
 
 // refusals
 pub const ACCEPTED: u32 = 0;

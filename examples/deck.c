@@ -7,6 +7,9 @@
  * better 2. Two stores in each of the five rows: 10.
  * Insert 0->1 4: 0 waits and betters 1 but for reach; 1 then betters 2, but for handovers (2 as before) and reach: time 2, handovers 1, headroom 2,
  * worst 2, reach 0 stores: 7.
+ * Update 0->1 5: more is worse for time and worst stretch. In both rows 0->1 is tight, and so is 1->2: 1 and 2 are affected in each, 4. 0 stores 1
+ * and 1 stores 2 again: 4 stores. For headroom 5 is better: 0 waits and betters 1; 1->2 of 4 gives 2 the 4 that it has: 1 store, 5 in all. Handovers
+ * and reach do not go by weights. There is no 1->0 to update.
  * Reach from 3: no way to the landmark, so the start words have no route but at 3. Round 1: 3 betters 2. Round 2: 2 betters 1. Round 3: 1 betters
  * nothing. Three rounds, two stores. */
 #include "plate_track_deck.h"
@@ -80,6 +83,7 @@ int main(void)
     const uint32_t landmarks[] = {0};
     const plate_track_change take = {PLATE_TRACK_DELETE, 0, 1, 0};
     const plate_track_change put_back = {PLATE_TRACK_INSERT, 0, 1, 4};
+    const plate_track_change slower = {PLATE_TRACK_UPDATE, 0, 1, 5}, missing = {PLATE_TRACK_UPDATE, 1, 0, 5};
     const plate_track_change twice[] = {take, take};
     uint64_t reply[PLATE_TRACK_REPLY_WORDS];
     read_text(&d, "p sp 4 1\na 1 5 3\n");
@@ -95,6 +99,9 @@ int main(void)
     write_text(&d);
     change(&d, "insert 0->1 4", &put_back, 1);
     ask(&d, PLATE_TRACK_TIME, 0);
+    change(&d, "update 0->1 5", &slower, 1);
+    change(&d, "update 1->0 5", &missing, 1);
+    ask_all(&d, 0);
     ask(&d, PLATE_TRACK_REACH, 3);
     return 0;
 }

@@ -1,7 +1,7 @@
 """Deck A of document 01 from Python: read from text, opened, asked, changed, asked again, written as text. Run it by examples/run."""
 
 import plate_track
-from plate_track import DELETE, GREATEST, INSERT, REACH, TIME, Deck, Refused
+from plate_track import DELETE, GREATEST, INSERT, REACH, TIME, UPDATE, Deck, Refused
 
 NAMES = ["time", "handovers", "headroom", "worst", "reach"]
 
@@ -36,4 +36,8 @@ for p in range(TIME, plate_track.PROPERTIES + 1):
 print(deck.write().decode(), end="")
 change(deck, "insert 0->1 4", (INSERT, 0, 1, 4))
 ask(deck, TIME, 0)
+change(deck, "update 0->1 5", (UPDATE, 0, 1, 5))
+change(deck, "update 1->0 5", (UPDATE, 1, 0, 5))
+for p in range(TIME, plate_track.PROPERTIES + 1):
+    ask(deck, p, 0)
 ask(deck, REACH, 3)

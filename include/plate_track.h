@@ -1,13 +1,13 @@
 /* Plate track: routes on a directed graph of up to 256 vertices and 2,048 weighted edges, landmark rows that are kept up to date
- * while batches of edges come and go, and queries from any vertex.
+ * while edges come, go and change their weights in batches, and queries from any vertex.
  *
  * Every plate_track_ function of the archive is proved to meet its contract (crates/plate_track). Nothing is allocated and nothing is kept
  * between calls: the caller lends all memory. PLATE_TRACK_STACK_ below has the stack of each call; none needs 128 KiB.
  * plate_track_deck.h holds a network and its memory in one struct and keeps the count.
  *
  * WORDS. Here, and in document 01: vertex = station, edge = segment, weight = figure, landmark = post, forward = outward, backward =
- * homeward, schedule = picks, affected = suspect, unsettled = restless, refused = turned back, insert = add, delete = take. Words have 32
- * bits, those of a reply 64.
+ * homeward, schedule = picks, affected = suspect, unsettled = restless, refused = turned back, insert = add, delete = take; update is document
+ * 02's kind 3, a retuned segment. Words have 32 bits, those of a reply 64.
  *
  * LISTS. A list is a pointer and a length in elements, in that order. With length 0 it is empty, and any pointer will do, null too; with
  * another length the pointer points to that many elements, aligned as C aligns them. A list that a call may write (not const here) overlaps no
@@ -102,11 +102,11 @@ enum {
     PLATE_TRACK_TABLE = 4,      /* count over 2,048 (place 0), or a record breaks the rules (its index) */
     PLATE_TRACK_PROPERTY = 5,   /* not 1 to 5; a side neither 0 nor 1 */
     PLATE_TRACK_VERTEX = 6,     /* a source (place 0), then an entry of a schedule (its index); a tail or head of a change: n or more */
-    PLATE_TRACK_KIND = 7,       /* a change is neither an insert nor a delete */
+    PLATE_TRACK_KIND = 7,       /* a change is none of insert, delete and update */
     PLATE_TRACK_LOOP = 8,       /* tail equals head */
-    PLATE_TRACK_WEIGHT = 9,     /* insert: not 1 to 65,535; delete: not 0 */
+    PLATE_TRACK_WEIGHT = 9,     /* insert, update: not 1 to 65,535; delete: not 0 */
     PLATE_TRACK_PRESENT = 10,   /* insert of a pair that is there */
-    PLATE_TRACK_ABSENT = 11,    /* delete of a pair that is not there */
+    PLATE_TRACK_ABSENT = 11,    /* delete or update of a pair that is not there */
     PLATE_TRACK_FULL = 12,      /* insert when 2,048 records are there */
     PLATE_TRACK_UNSETTLED = 13, /* some vertex waits after n rounds */
     PLATE_TRACK_TEXT = 14       /* a text breaks the rules; the place is the first line, from 1, with which no good text can go on, and the
@@ -114,7 +114,7 @@ enum {
 };
 
 /* Kinds of change. */
-enum { PLATE_TRACK_INSERT = 1, PLATE_TRACK_DELETE = 2 };
+enum { PLATE_TRACK_INSERT = 1, PLATE_TRACK_DELETE = 2, PLATE_TRACK_UPDATE = 3 };
 
 /* The words of each reply, by place in `reply`. The place of a refusal is reply[PLATE_TRACK_PLACE]. */
 enum { PLATE_TRACK_PLACE };
@@ -173,7 +173,7 @@ static inline uint32_t plate_track_no_route(uint32_t property)
 /* The version of the archive: PLATE_TRACK_VERSION, where header and archive belong together. */
 uint32_t plate_track_version(void);
 
-/* A change of a batch: four words. A delete has weight 0. */
+/* A change of a batch: four words. A delete has weight 0. An update gives the edge of its pair another weight; its present one changes nothing. */
 typedef struct plate_track_change {
     uint32_t kind;
     uint32_t tail;
@@ -215,7 +215,9 @@ uint32_t plate_track_query(
     uint64_t *reply, size_t reply_len);
 
 /* Applies up to 1,024 changes in order, all or none, and brings the rows up to date. Records from the new count to 2,047 become zero; table
- * words from 2,048 on and words past the rows stay. changes_len counts changes, not words.
+ * words from 2,048 on and words past the rows stay. changes_len counts changes, not words. What counts is the table before and after: a pair whose
+ * weight differs, by an update or by a delete and an insert, affects vertices only in rows of a property for which it got worse. More is worse for time
+ * and worst stretch, less for headroom, neither for handovers and reach.
  * reply: the new count (hand it to every later call: the one before is not found out), affected vertices and stores over all rows. Numbers: 1 to 4, 6 to 13. */
 uint32_t plate_track_batch(
     uint32_t n,

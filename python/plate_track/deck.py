@@ -98,7 +98,8 @@ class Deck:
         return Answer(settled, starts, tally)
 
     def batch(self, changes):
-        """Applies changes (kind, tail, head, weight), all or none: a Report. They may be a buffer of words, four for each."""
+        """Applies changes (kind, tail, head, weight), all or none: a Report. A kind is INSERT, DELETE (with weight 0) or UPDATE, which gives the edge
+        of a pair another weight. They may be a buffer of words, four for each."""
         try:
             changes = memoryview(changes)
         except TypeError:

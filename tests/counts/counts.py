@@ -1,6 +1,6 @@
 #!/usr/bin/env python3
-"""A deck of 256 stations and 2,048 segments through the archive, held to document 01's rules as they stand here, with none of the library's code: the rows of an
-opening, what each row's run takes, a query of each property, a batch, and the rows after it.
+"""A deck of 256 stations and 2,048 segments through the archive, held to the rules of document 01 and of document 02's request One as they stand here, with none of
+the library's code: the rows of an opening, what each row's run takes, a query of each property, a batch, one of updates, and the rows after each.
 
 The run of a row is asked for as a query over rows of no-route words, which starts where an opening's row does: its rounds and stores are in the tally. The stations
 that it handles, in their order, are then a schedule: each is taken and nothing is left for a round, so they are as many as the library handles."""
@@ -107,13 +107,20 @@ def query(table, fwd, bwd, p, source):
     return start, words, tally
 
 
+def worse(p, a, b):
+    """Figure a is worse than figure b."""
+    return {1: a > b, 3: a < b, 4: a > b}.get(p, False)
+
+
 def mend(old, new, rows):
     """One side of a batch: (suspects, stores) over its rows."""
-    gone, fresh = [e for e in old if e not in new], [e for e in new if e not in old]
-    kept = [e for e in old if e in new]
+    was, now = ({(t, h): f for t, h, f in table} for table in (old, new))
     out, total, stores = segments(new), 0, 0
     for r, words in enumerate(rows):
         p, s = r % 5 + 1, POSTS[r // 5]
+        gone = {e for e in old if e[:2] not in now or worse(p, now[e[:2]], e[2])}
+        kept = [e for e in old if e not in gone]
+        fresh = [e for e in new if e[:2] not in was or worse(p, was[e[:2]], e[2])]
 
         def tight(e):
             return e[1] != s and words[e[1]] != NOROUTE[p] and along(p, words[e[0]], e[2]) == words[e[1]]
@@ -183,6 +190,18 @@ def main():
     hold("the batch's report", tuple(report), (len(new), sums[0][0] + sums[1][0], sums[0][1] + sums[1][1]))
     hold_rows("the batch", deck, fwd, bwd)
     # each row of the mended network is that of a fresh opening
+    assert open_side(new)[0] == fwd and open_side(reverse(new))[0] == bwd
+    # every 50th segment gets half its figure, the next one twice, the next its own; one more by a take and an add
+    figures = {e[:2]: (e[2] + 1) // 2 if i % 50 == 0 else min(2 * e[2], 65535) if i % 50 == 1 else e[2] for i, e in enumerate(new) if i % 50 < 3}
+    cut = new[1040]
+    updates = [(3, *pair, figure) for pair, figure in figures.items()]
+    figures[cut[:2]] = 65535 - cut[2]
+    old, new = new, [(t, h, figures.get((t, h), f)) for t, h, f in new]
+    sums = [mend(old, new, fwd), mend(reverse(old), reverse(new), bwd)]
+    report = deck.batch([*updates, (2, *cut[:2], 0), (1, *cut[:2], figures[cut[:2]])])
+    hold("the report of updates", tuple(report), (len(new), sums[0][0] + sums[1][0], sums[0][1] + sums[1][1]))
+    hold("the segments", deck.edges(), new)
+    hold_rows("the updates", deck, fwd, bwd)
     assert open_side(new)[0] == fwd and open_side(reverse(new))[0] == bwd
     total = [sum(c) for c in zip(*((a, len(b), c, d) for a, b, c, d in ahead + back))]
     print(f"counts: {held} held; an opening takes {total[0]} rounds, {total[1]} handles, {total[2]} looks and {total[3]} stores; "

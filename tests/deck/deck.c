@@ -1,5 +1,5 @@
 /* What plate_track.h gives beside the calls, and plate_track_deck.h: each function, accepted and refused, on Deck A. The expected words are
- * document 01's or follow from its tables by hand. Exit status 1 where one differs. Compiled as C11 and as C++17. */
+ * documents 01's and 02's or follow from their tables by hand. Exit status 1 where one differs. Compiled as C11 and as C++17. */
 #include "plate_track_deck.h"
 
 #include <pthread.h>
@@ -63,7 +63,7 @@ static void accepted(void)
 {
     static plate_track_deck d;
     static uint8_t text[PLATE_TRACK_LONGEST_TEXT];
-    const plate_track_change take = {PLATE_TRACK_DELETE, 0, 1, 0};
+    const plate_track_change take = {PLATE_TRACK_DELETE, 0, 1, 0}, update = {PLATE_TRACK_UPDATE, 0, 1, 3};
     const uint32_t landmark_2[] = {2}, ones[] = {1, 1};
     const char sources_text[] = "p aux sp ss 2\ns 4\ns 1\n";
     uint32_t landmarks[PLATE_TRACK_MOST_LANDMARKS] = {9, 9, 9, 9}, sources[PLATE_TRACK_MOST_SOURCES];
@@ -85,6 +85,10 @@ static void accepted(void)
         && memcmp(text, deck_a, strlen(deck_a)) == 0, "it is written as it was read");
     check(plate_track_deck_read_sources(&d, (const uint8_t *)sources_text, strlen(sources_text), sources, PLATE_TRACK_MOST_SOURCES, reply) == 0
         && reply[PLATE_TRACK_READ_SOURCES_COUNT] == 2 && sources[0] == 3 && sources[1] == 0, "sources 3 and 0");
+    /* 3 is worse than 4 for headroom alone: 1 and 2 of one row. Stores: 1 and 2 for time and headroom, 1 for worst stretch */
+    check(plate_track_deck_batch(&d, &update, 1, reply) == 0 && d.count == 5 && d.weights[0] == 3 && reply[PLATE_TRACK_BATCH_AFFECTED] == 2
+        && reply[PLATE_TRACK_BATCH_STORES] == 5, "update 0->1 to 3");
+    check(ask(&d, PLATE_TRACK_HEADROOM, 0) == 0 && are(settled, M, 3, 3, 9), "headroom from 0 is M 3 3 9 afterwards");
     check(plate_track_deck_batch(&d, &take, 1, reply) == 0 && d.count == 4 && reply[PLATE_TRACK_BATCH_AFFECTED] == 10, "take 0->1");
     check(ask(&d, PLATE_TRACK_TIME, 0) == 0 && are(settled, 0, 15, 11, 9), "time from 0 is 0 15 11 9 afterwards");
     check(read_text(&d, deck_a) == 0 && plate_track_deck_open(&d, landmark_2, 1, reply) == 0, "Deck A with landmark 2");
@@ -99,7 +103,8 @@ static void accepted(void)
 static void refused(void)
 {
     static plate_track_deck d, before;
-    const plate_track_change take = {PLATE_TRACK_DELETE, 0, 1, 0}, twice[] = {take, take};
+    const plate_track_change take = {PLATE_TRACK_DELETE, 0, 1, 0}, update = {PLATE_TRACK_UPDATE, 0, 1, 3}, unknown = {4, 0, 1, 4};
+    const plate_track_change twice[] = {take, take}, gone[] = {take, update}, kinds[] = {update, unknown};
     const uint32_t five[] = {0, 1, 2, 3, 0};
     uint32_t landmarks[PLATE_TRACK_MOST_LANDMARKS], sources[PLATE_TRACK_MOST_SOURCES];
     uint8_t text[4];
@@ -112,6 +117,8 @@ static void refused(void)
     check(refuses(read_text(&d, "p sp 4 1\na 1 5 3\n"), PLATE_TRACK_TEXT, 2), "vertex 5 of 4");
     check(refuses(plate_track_deck_open(&d, five, 5, reply), PLATE_TRACK_LANDMARKS, 0), "five landmarks");
     check(refuses(plate_track_deck_batch(&d, twice, 2, reply), PLATE_TRACK_ABSENT, 1), "take 0->1 twice");
+    check(refuses(plate_track_deck_batch(&d, gone, 2, reply), PLATE_TRACK_ABSENT, 1), "take 0->1, then update it");
+    check(refuses(plate_track_deck_batch(&d, kinds, 2, reply), PLATE_TRACK_KIND, 1), "kind 4");
     check(refuses(plate_track_deck_choose(&d, 5, landmarks, reply), PLATE_TRACK_LANDMARKS, 0), "choose five");
     check(refuses(plate_track_deck_row(&d, 2, 0, 1, &row, reply), PLATE_TRACK_PROPERTY, 0) && row == NULL, "side 2");
     check(refuses(plate_track_deck_query(&d, 1, 0, NULL, 0, starts, 3, settled, 4, reply), PLATE_TRACK_SHORT, 0), "three start words of four");

@@ -1,4 +1,4 @@
-"""The Python package over the shared object: Deck A by document 01, refusals, widths, lists lent without a copy, what is not lent, loading,
+"""The Python package over the shared object: Deck A by documents 01 and 02, refusals, widths, lists lent without a copy, what is not lent, loading,
 installing, and graphs of NetworkX against its own algorithms. tests/python/run runs it."""
 
 import ctypes
@@ -16,7 +16,7 @@ from importlib.util import find_spec
 from pathlib import Path
 
 import plate_track
-from plate_track import DELETE, GREATEST as M, HANDOVERS, HEADROOM, INSERT, REACH, TIME, VERSION, WORST, Deck, Refused, calls, native
+from plate_track import DELETE, GREATEST as M, HANDOVERS, HEADROOM, INSERT, REACH, TIME, UPDATE, VERSION, WORST, Deck, Refused, calls, native
 
 try:
     import networkx
@@ -65,6 +65,16 @@ class DeckA(unittest.TestCase):
         self.assertEqual(deck.batch([(DELETE, 0, 1, 0)])[:2], (4, 10))
         self.assertEqual(values(deck, TIME, 0), [0, 15, 11, 9])
         self.assertEqual(values(deck, HEADROOM, 0), [M, 2, 2, 9])
+
+    def test_updates(self):
+        deck = deck_a()
+        self.assertEqual(deck.batch([(UPDATE, 0, 1, 4)]), (5, 0, 0))
+        self.assertEqual(deck.batch([(UPDATE, 0, 1, 3)]), (5, 2, 5))
+        self.assertEqual([values(deck, p, 0) for p in (TIME, HEADROOM, WORST)], [[0, 3, 7, 9], [M, 3, 3, 9], [0, 3, 4, 9]])
+        self.assertEqual(deck.edges(), [(0, 1, 3), *EDGES[1:]])
+        deck = deck_a()
+        self.assertEqual(deck.batch(array("I", [DELETE, 0, 1, 0, INSERT, 0, 1, 5])), (5, 4, 5))
+        self.assertEqual([values(deck, p, 0) for p in (TIME, HEADROOM, WORST)], [[0, 5, 9, 9], [M, 5, 4, 9], [0, 5, 5, 9]])
 
     def test_query_tells_starts_and_tally(self):
         deck = deck_a(2)
@@ -116,7 +126,10 @@ class Refusals(unittest.TestCase):
         self.refuses(14, "text", 2, Deck.read, b"p sp 4 1\na 1 5 3\n")
         self.refuses(14, "text", 1, Deck.read, b"")
         self.refuses(11, "absent", 1, deck.batch, [(DELETE, 0, 1, 0)] * 2)
-        self.refuses(7, "kind", 0, deck.batch, [(3, 0, 1, 0)])
+        self.refuses(11, "absent", 1, deck.batch, [(UPDATE, 0, 1, 3), (UPDATE, 1, 0, 3)])
+        self.refuses(9, "weight (figure)", 0, deck.batch, [(UPDATE, 0, 1, 65536)])
+        self.refuses(7, "kind", 0, deck.batch, [(4, 0, 1, 4)])
+        self.refuses(7, "kind", 0, deck.batch, [(0, 0, 1, 4)])
         self.refuses(6, "vertex (station)", 0, deck.query, TIME, 4)
         self.refuses(6, "vertex (station)", 1, deck.query, TIME, 0, [1, 4])
         self.refuses(5, "property", 0, deck.query, 6, 0)
@@ -336,9 +349,11 @@ class Graphs(unittest.TestCase):
                 changes = [(DELETE, t, h, 0) for t, h, _ in draw.sample(edges, 6)]
                 free = sorted({(t, h) for t in range(n) for h in range(n) if t != h} - {e[:2] for e in edges})
                 changes += [(INSERT, t, h, draw.randrange(1, 65536)) for t, h in draw.sample(free, 6)]
+                stays = [e for e in edges if (DELETE, *e[:2], 0) not in changes]
+                changes += [(UPDATE, t, h, draw.randrange(1, 65536)) for t, h, _ in draw.sample(stays, 6)]
                 deck.batch(changes)
                 for kind, t, h, w in changes:
-                    graph.add_edge(nodes[t], nodes[h], weight=w) if kind == INSERT else graph.remove_edge(nodes[t], nodes[h])
+                    graph.remove_edge(nodes[t], nodes[h]) if kind == DELETE else graph.add_edge(nodes[t], nodes[h], weight=w)
                 self.agree(deck, graph, nodes)
                 now = plate_track.to_networkx(deck, nodes)
                 self.assertEqual((set(now), now.edges), (set(graph), graph.edges))

@@ -1,4 +1,4 @@
-//! bindings/plate_track.rs: what it gives beside the calls, and a refusal as Rust has it. The expected words are document 01's, by hand. The calls
+//! bindings/plate_track.rs: what it gives beside the calls, and a refusal as Rust has it. The expected words are documents 01's and 02's, by hand. The calls
 //! themselves are held to a reference by tests/differential. tests/rust/run runs it.
 
 #[path = "../../bindings/plate_track.rs"]
@@ -34,7 +34,7 @@ fn a_short_reply_has_no_place() {
     assert_eq!(reply, [7; REPLY_WORDS - 1]);
 }
 
-/// Insert, then ask with the count that the batch told: M 6 2 0.
+/// Insert, then ask with the count that the batch told: M 6 2 0. An update keeps the count: M 7 3 0.
 #[test]
 fn a_batch_tells_the_count() {
     let (mut tails, mut heads, mut weights, mut reply) = ([0; MOST_EDGES], [0; MOST_EDGES], [0; MOST_EDGES], [0; REPLY_WORDS]);
@@ -47,4 +47,12 @@ fn a_batch_tells_the_count() {
     let count = reply[BATCH_COUNT] as u32;
     query(4, &[0], &tails, &heads, &weights, count, &forward, &backward, TIME, 3, &[], &mut starts, &mut settled, &mut reply).unwrap();
     assert_eq!((count, settled), (5, [GREATEST, 6, 2, 0]));
+    let update = [[UPDATE, 3, 2, 3]];
+    batch(4, &[0], &mut tails, &mut heads, &mut weights, count, &mut forward, &mut backward, &update, &mut reply).unwrap();
+    assert_eq!((reply[BATCH_COUNT], weights[4]), (5, 3));
+    query(4, &[0], &tails, &heads, &weights, count, &forward, &backward, TIME, 3, &[], &mut starts, &mut settled, &mut reply).unwrap();
+    assert_eq!(settled, [GREATEST, 7, 3, 0]);
+    let absent = [[UPDATE, 3, 2, 2], [UPDATE, 2, 3, 2]];
+    let refused = batch(4, &[0], &mut tails, &mut heads, &mut weights, count, &mut forward, &mut backward, &absent, &mut reply);
+    assert_eq!((refused, weights[4]), (Err(Refused { number: ABSENT, place: 1 }), 3));
 }

@@ -155,8 +155,27 @@ pub fn arbitrary_rows(r: &mut Random, w: &mut Network) {
 
 // ---- batches
 
-/// A change that is good where the edges are as given.
+/// A weight for a pair that has one or had: the same, one beside it, better or worse for each property that goes by weights, or any.
+fn retuned(r: &mut Random, weight: u32) -> u32 {
+    match r.below(8) {
+        0 => weight,
+        1 => weight.saturating_add(1),
+        2 => weight.saturating_sub(1),
+        3 => weight.saturating_add(r.below(9)),
+        4 => weight.saturating_sub(r.below(9)),
+        5 => r.pick(&[1, 4, 65_535]),
+        6 => 1 + r.below(20),
+        _ => 1 + r.below(65_535),
+    }
+    .clamp(1, 65_535)
+}
+
+/// A change that is good where the edges are as given: a third of them updates.
 fn good_change(r: &mut Random, n: u32, edges: &[Edge]) -> Option<Change> {
+    if !edges.is_empty() && r.one_in(3) {
+        let e = r.pick(edges);
+        return Some([3, e.tail, e.head, retuned(r, e.weight)]);
+    }
     let add = edges.is_empty() || (edges.len() < MOST_EDGES && r.one_in(2));
     if !add {
         let e = r.pick(edges);
@@ -177,24 +196,31 @@ fn good_change(r: &mut Random, n: u32, edges: &[Edge]) -> Option<Change> {
 }
 
 fn bad_change(r: &mut Random, n: u32, edges: &[Edge]) -> Change {
+    let absent = |&(t, h): &(u32, u32)| t != h && edges.binary_search_by_key(&(t, h), |e| (e.tail, e.head)).is_err();
     if edges.len() >= MOST_EDGES && r.one_in(2) {
         // an insert into a full table: of a pair that is there, or that is not
         let e = r.pick(edges);
         if r.one_in(3) {
             return [1, e.tail, e.head, 1];
         }
-        let absent = |&(t, h): &(u32, u32)| t != h && edges.binary_search_by_key(&(t, h), |e| (e.tail, e.head)).is_err();
         let (t, h) = (0..2_000).map(|_| (r.below(n), r.below(n))).find(absent).unwrap_or((0, 1));
         return [1, t, h, 1];
     }
+    if r.one_in(6) {
+        // an update or a delete of a pair that is not there
+        let pair = (0..40).map(|_| (r.below(n), r.below(n))).find(absent);
+        if let Some((t, h)) = pair {
+            return if r.one_in(2) { [3, t, h, 1 + r.below(9)] } else { [2, t, h, 0] };
+        }
+    }
     let mut c = match good_change(r, n, edges) {
         Some(c) if r.one_in(2) => c,
-        _ => [1 + r.below(2), r.below(n), r.below(n), r.below(4)],
+        _ => [1 + r.below(3), r.below(n), r.below(n), r.below(4)],
     };
     for _ in 0..1 + r.below(2) {
         let i = r.below(4) as usize;
         c[i] = match i {
-            0 => r.pick(&[0, 1, 2, 3, M]),
+            0 => r.pick(&[0, 1, 2, 3, 4, M]),
             1 | 2 => r.pick(&[n, n.wrapping_sub(1), 0, n + 1, M]),
             _ => r.pick(&[0, 1, 65_535, 65_536, M]),
         };
@@ -202,20 +228,24 @@ fn bad_change(r: &mut Random, n: u32, edges: &[Edge]) -> Change {
     c
 }
 
-fn patch(edges: &mut Vec<Edge>, c: Change) {
+/// Makes a change, and says whether it could.
+fn patch(edges: &mut Vec<Edge>, c: Change) -> bool {
     let at = edges.binary_search_by_key(&(c[1], c[2]), |e| (e.tail, e.head));
     match (c[0], at) {
         (1, Err(i)) => edges.insert(i, Edge { tail: c[1], head: c[2], weight: c[3] }),
         (2, Ok(i)) => {
             edges.remove(i);
         }
-        _ => {}
+        (3, Ok(i)) => edges[i].weight = c[3],
+        _ => return false,
     }
+    true
 }
 
 /// Changes in order, each good against what the earlier ones leave; one bad one among them at times.
 pub fn changes(r: &mut Random, w: &Network, bad: bool) -> Vec<Change> {
-    let mut edges = w.edges();
+    let old = w.edges();
+    let mut edges = old.clone();
     let wanted = match r.below(400) {
         0 => r.pick(&[1_023, 1_024, 1_025]),
         1..=40 => 0,
@@ -233,18 +263,21 @@ pub fn changes(r: &mut Random, w: &Network, bad: bool) -> Vec<Change> {
         if i == wanted {
             break;
         }
-        // the edge that has just gone comes back, as it was or with another weight
+        // the edge that has just gone comes back, as it was or with another weight; one that has just come or been updated is updated or goes
         let last = list.last().copied();
         let c = match last {
-            Some([2, t, h, _]) if r.one_in(3) => [1, t, h, r.pick(&[1, 4, 65_535])],
+            Some([2, t, h, _]) if r.one_in(3) => {
+                let was = old.iter().find(|e| (e.tail, e.head) == (t, h)).map_or(4, |e| e.weight);
+                [1, t, h, retuned(r, was)]
+            }
+            Some([1 | 3, t, h, _]) if r.one_in(16) => [2, t, h, 0],
+            Some([1 | 3, t, h, weight]) if r.one_in(16) => [3, t, h, retuned(r, weight)],
             _ => match good_change(r, w.n, &edges) {
                 Some(c) => c,
                 None => break,
             },
         };
-        let known = edges.len();
-        patch(&mut edges, c);
-        if edges.len() == known {
+        if !patch(&mut edges, c) {
             break;
         }
         list.push(c);
@@ -514,7 +547,7 @@ pub fn damage(r: &mut Random, c: &mut Case) {
                     shorten(r, &mut c.settled, least);
                 }
             }
-            12 => c.changes = vec![[r.pick(&[1, 2]), 0, 1, 0]; r.pick(&[1_024, 1_025, 1_100])],
+            12 => c.changes = vec![[r.pick(&[1, 2, 3]), 0, 1, r.pick(&[0, 4])]; r.pick(&[1_024, 1_025, 1_100])],
             13 => c.reply.truncate(r.below(8) as usize),
             14 => c.k = r.pick(&[0, 5, M, 4]),
             15 => {

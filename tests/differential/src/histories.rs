@@ -117,6 +117,7 @@ impl Followed<'_> {
             self.w = Network { count: after.reply[0] as u32, ..after.network };
             self.now = next;
             self.counts.batches += 1;
+            self.counts.updates += c.changes.iter().filter(|change| change[0] == 3).count() as u64;
         }
         Ok(())
     }
@@ -145,7 +146,8 @@ fn drawn(mut r: Random, counts: &mut Counts) -> Held {
     Ok(())
 }
 
-/// 256 vertices, 2,048 edges and four landmarks, opened; then 1,024 deletes, and 1,024 inserts of the same pairs.
+/// 256 vertices, 2,048 edges and four landmarks, opened; then 1,024 deletes, 1,024 inserts of the same pairs, and 1,024 updates of the others in the
+/// table that is full again: each third to more, to less and to what it is.
 fn full(mut r: Random, counts: &mut Counts) -> Held {
     let w = generate::full_network(&mut r);
     let mut f = Followed { now: w.edges(), r, w, counts };
@@ -156,6 +158,9 @@ fn full(mut r: Random, counts: &mut Counts) -> Held {
     f.batch(pairs.iter().map(|&(t, h)| [2, t, h, 0]).collect())?;
     f.state(&sources)?;
     f.batch(pairs.iter().map(|&(t, h)| [1, t, h, 7 + t]).collect())?;
+    f.state(&sources)?;
+    let others: Vec<Edge> = f.now.iter().skip(1).step_by(2).copied().collect();
+    f.batch(others.iter().enumerate().map(|(i, e)| [3, e.tail, e.head, [2 * e.weight, 1 + e.weight / 2, e.weight][i % 3]]).collect())?;
     f.state(&sources)
 }
 

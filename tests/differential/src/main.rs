@@ -32,6 +32,7 @@ struct Counts {
     calls: u64,
     histories: u64,
     batches: u64,
+    updates: u64,
 }
 
 struct Failure {
@@ -78,6 +79,14 @@ fn unlike_now(w: &reference::Network, now: &[reference::Edge]) -> Option<String>
     None
 }
 
+/// Document 02's drift limit: "one figure moved by d moves no station's time, headroom or worst stretch by more than d, and no handovers or reach".
+fn drifts(before: &reference::Network, after: &reference::Network, d: u32) -> bool {
+    let n = before.n as usize;
+    let far = |(i, (a, b)): (usize, (&u32, &u32))| a.abs_diff(*b) > if matches!(i / n % 5 + 1, 1 | 3 | 4) { d } else { 0 };
+    let rows = before.landmarks.len() * 5 * n;
+    [(&before.forward, &after.forward), (&before.backward, &after.backward)].into_iter().any(|(a, b)| a.iter().zip(b).take(rows).enumerate().any(far))
+}
+
 /// One network, opened, changed and asked.
 fn session(seed: u64, number: u64, counts: &mut Counts, tell: bool) -> Result<(), Box<Failure>> {
     let mut r = Random::new(seed.wrapping_mul(0x2545_f491_4f6c_dd1d) ^ number.wrapping_mul(0x9e6c_63d0_876a_68ef));
@@ -120,6 +129,13 @@ fn session(seed: u64, number: u64, counts: &mut Counts, tell: bool) -> Result<()
         }
         let fail = |said: &str| Box::new(Failure { case: c.clone(), said: said.into() });
         if call == Call::Batch {
+            if let ([[3, t, h, weight]], false) = (&c.changes[..], arbitrary) {
+                let was = now.iter().find(|e| (e.tail, e.head) == (*t, *h)).map_or(0, |e| e.weight);
+                if drifts(&w, &after.network, was.abs_diff(*weight)) {
+                    return Err(fail("an update moved a word by more than its weight moved"));
+                }
+            }
+            counts.updates += c.changes.iter().filter(|change| change[0] == 3).count() as u64;
             for (i, &change) in c.changes.iter().enumerate() {
                 if reference::apply(w.n, &mut now, change, i).is_err() {
                     return Err(fail("an accepted batch has a change that is to be turned back"));
@@ -146,7 +162,10 @@ fn session(seed: u64, number: u64, counts: &mut Counts, tell: bool) -> Result<()
 
 fn report(counts: &Counts, began: Instant) {
     let took = began.elapsed().as_secs_f64();
-    println!("{} calls on {} networks, {} batches accepted, {:.1} s, {:.0} calls a second", counts.calls, counts.histories, counts.batches, took, counts.calls as f64 / took);
+    println!(
+        "{} calls on {} networks, {} batches accepted with {} updates, {:.1} s, {:.0} calls a second",
+        counts.calls, counts.histories, counts.batches, counts.updates, took, counts.calls as f64 / took
+    );
     let mut kinds: Vec<&str> = counts.by.keys().map(|k| k.0.as_str()).collect();
     kinds.dedup();
     for kind in kinds {

@@ -1,4 +1,4 @@
-//! An independent implementation of document 01, written from the document alone and for plainness: no bit words, no index beyond a
+//! An independent implementation of document 01 with request One of document 02, written from the documents alone and for plainness: no bit words, no index beyond a
 //! list of edges for each vertex, no scratch that is shared. Each call takes what the call takes and answers number and place, or
 //! the words of its reply; what it lends is changed only where it accepts.
 
@@ -326,13 +326,13 @@ pub fn apply(n: u32, edges: &mut Vec<Edge>, c: Change, place: usize) -> Answer<(
     if tail >= n || head >= n {
         return refuse(6, place);
     }
-    if kind != 1 && kind != 2 {
+    if !(1..=3).contains(&kind) {
         return refuse(7, place);
     }
     if tail == head {
         return refuse(8, place);
     }
-    if if kind == 1 { weight < 1 || weight > 65_535 } else { weight != 0 } {
+    if if kind == 2 { weight != 0 } else { weight < 1 || weight > 65_535 } {
         return refuse(9, place);
     }
     match (kind, at) {
@@ -346,6 +346,10 @@ pub fn apply(n: u32, edges: &mut Vec<Edge>, c: Change, place: usize) -> Answer<(
             Ok(())
         }
         (_, None) => refuse(11, place),
+        (3, Some(i)) => {
+            edges[i].weight = weight;
+            Ok(())
+        }
         (_, Some(i)) => {
             edges.remove(i);
             Ok(())
@@ -359,7 +363,26 @@ struct Side {
     stores: u64,
 }
 
-/// The edges of a batch: the old ones that go, the old ones that stay, those that come, and all new ones. Each by its three words.
+/// A weight that was another got worse for a property: "more is worse for time and worst stretch, less is worse for headroom, neither for handovers
+/// and reach".
+fn got_worse(p: u32, was: u32, is: u32) -> bool {
+    match p {
+        1 | 4 => is > was,
+        3 => is < was,
+        _ => false,
+    }
+}
+
+fn got_better(p: u32, was: u32, is: u32) -> bool {
+    match p {
+        1 | 4 => is < was,
+        3 => is > was,
+        _ => false,
+    }
+}
+
+/// The net effect of a batch on a property: the old edges that go, the old ones that stay, those that come, and all new ones. It compares the two
+/// tables; the changes have no part in it.
 struct Net {
     removed: Vec<Edge>,
     kept: Vec<Edge>,
@@ -368,11 +391,13 @@ struct Net {
 }
 
 impl Net {
-    fn of(old: &[Edge], new: &[Edge]) -> Net {
+    fn of(p: u32, old: &[Edge], new: &[Edge]) -> Net {
         // both ascend, so a record is found by its pair
-        let has = |list: &[Edge], e: &Edge| list.binary_search_by_key(&(e.tail, e.head), |f| (f.tail, f.head)).is_ok_and(|i| list[i] == *e);
-        let (kept, removed) = old.iter().partition(|e| has(new, e));
-        Net { removed, kept, added: new.iter().filter(|e| !has(old, e)).copied().collect(), new: new.to_vec() }
+        let weight_in = |list: &[Edge], e: &Edge| list.binary_search_by_key(&(e.tail, e.head), |f| (f.tail, f.head)).ok().map(|i| list[i].weight);
+        let goes = |e: &Edge| weight_in(new, e).is_none_or(|is| got_worse(p, e.weight, is));
+        let comes = |e: &Edge| weight_in(old, e).is_none_or(|was| got_better(p, was, e.weight));
+        let (removed, kept) = old.iter().partition(|&e| goes(e));
+        Net { removed, kept, added: new.iter().filter(|&e| comes(e)).copied().collect(), new: new.to_vec() }
     }
 
     fn reversed(&self) -> Net {
@@ -380,14 +405,15 @@ impl Net {
     }
 }
 
-/// What a batch does to one row list.
-fn batch_rows(w: &Network, net: &Net, list: &[u32]) -> Answer<Side> {
+/// What a batch does to one row list; its net effect on each property in turn.
+fn batch_rows(w: &Network, nets: &[Net], list: &[u32]) -> Answer<Side> {
     let n = w.n as usize;
-    let kept_from = leaving(w.n, &net.kept);
-    let new_from = leaving(w.n, &net.new);
+    let kept: Vec<Vec<Vec<Edge>>> = nets.iter().map(|net| leaving(w.n, &net.kept)).collect();
+    let new_from = leaving(w.n, &nets[0].new);
     let mut side = Side { rows: Vec::new(), affected: 0, stores: 0 };
     for (i, &l) in w.landmarks.iter().enumerate() {
         for p in 1..=5 {
+            let (net, kept_from) = (&nets[p as usize - 1], &kept[p as usize - 1]);
             let start = w.row_start(i, p);
             let words = list[start..start + n].to_vec();
             // the head of a tight edge, where it can be affected
@@ -425,9 +451,10 @@ pub fn batch(w: &mut Network, changes: &[Change]) -> Answer<Vec<u64>> {
     for (i, &c) in changes.iter().enumerate() {
         apply(w.n, &mut new, c, i)?;
     }
-    let net = Net::of(&old, &new);
-    let ahead = batch_rows(w, &net, &w.forward)?;
-    let back = batch_rows(w, &net.reversed(), &w.backward)?;
+    let nets: Vec<Net> = (1..=5).map(|p| Net::of(p, &old, &new)).collect();
+    let turned: Vec<Net> = nets.iter().map(Net::reversed).collect();
+    let ahead = batch_rows(w, &nets, &w.forward)?;
+    let back = batch_rows(w, &turned, &w.backward)?;
     w.forward[..ahead.rows.len()].copy_from_slice(&ahead.rows);
     w.backward[..back.rows.len()].copy_from_slice(&back.rows);
     for i in 0..MOST_EDGES {
