@@ -1,6 +1,6 @@
 // Times of the calls beside the same rounds in plain Rust (plain.rs) and Boost.Graph, on the same networks in the same process. Every
 // result that is timed is compared first. Usage: bench [REPEATS]; bench boost WHAT runs Boost alone, to count instructions:
-// rows, query1 to query5.
+// rows, query1 to query5, better1 to worse100 (its rows on each retuned table).
 #include "network.h"
 
 #include <boost/graph/breadth_first_search.hpp>
@@ -103,8 +103,8 @@ namespace {
 // ---- time
 
 // Microseconds of f(i), on average over i below `inputs`: the best of several repeats for each i, so that another process that takes
-// the core for a while does not show.
-double best(int repeats, int inputs, const std::function<void(int)> &f)
+// the core for a while does not show. What `undo` does after each is not timed.
+double best(int repeats, int inputs, const std::function<void(int)> &f, const std::function<void(int)> &undo = [](int) {})
 {
     double sum = 0;
     for (int i = 0; i < inputs; i++) {
@@ -114,6 +114,7 @@ double best(int repeats, int inputs, const std::function<void(int)> &f)
             f(i);
             std::chrono::duration<double, std::micro> d = std::chrono::steady_clock::now() - a;
             least = std::min(least, d.count());
+            undo(i);
         }
         sum += least;
     }
@@ -186,7 +187,7 @@ void batch_times(int repeats, uint32_t n, uint32_t edges, uint32_t size)
     open(w);
     Network before = w;
     Random r{7};
-    std::vector<std::pair<std::vector<plate_track_change>, std::vector<plate_track_change>>> list;
+    std::vector<std::pair<Changes, Changes>> list;
     for (int i = 0; i < rounds; i++)
         list.push_back(there_and_back(w, size, r));
     // after the deletes the rows are those of an opening of what is left, and of Boost's recomputation
@@ -211,6 +212,55 @@ void batch_times(int repeats, uint32_t n, uint32_t edges, uint32_t size)
     double d = best(repeats, 4, [&](int) { Both h = build(w); boost_rows(&h, &other, other.forward.data(), other.backward.data()); });
     std::printf("batch %3u %4u of %3u: ours %8.1f us; opened anew %8.1f us (%.1fx); Boost 40 rows %8.1f us (%.1fx), with its graphs built %8.1f us (%.1fx)\n", n, edges, size, a, b,
                 b / a, c, c / a, d, d / a);
+}
+
+void same_network(const char *what, const Network &a, const Network &b)
+{
+    same(what, a.tails, b.tails);
+    same(what, a.heads, b.heads);
+    same(what, a.weights, b.weights);
+    same(what, a.forward, b.forward);
+    same(what, a.backward, b.backward);
+}
+
+// The network after a retune of `w`: the same by updates, by deletes and inserts, opened anew and by Boost; and undone it is `w`.
+Network checked(const Network &w, const Retune &c)
+{
+    Network after = w, other = w;
+    batch(after, c.updates);
+    batch(other, c.exchange);
+    same_network("retune, deletes and inserts", after, other);
+    batch(other, c.undo);
+    same_network("retune, undone", w, other);
+    other = after;
+    open(other);
+    same_network("retune, opened anew", after, other);
+    Both g = build(after);
+    boost_rows(&g, &other, other.forward.data(), other.backward.data());
+    same_network("retune, Boost", after, other);
+    return after;
+}
+
+void retune_times(int repeats, uint32_t n, uint32_t edges, uint32_t size, bool faster)
+{
+    Network w = make(n, edges, 100);
+    open(w);
+    auto list = drawn_retunes(w, size, faster);
+    const int rounds = static_cast<int>(list.size());
+    std::vector<Network> after;
+    std::vector<Both> graphs;
+    for (auto &c : list) {
+        after.push_back(checked(w, c));
+        graphs.push_back(build(after.back()));
+    }
+    auto undo = [&](int i) { batch(w, list[i].undo); };
+    double a = best(repeats, rounds, [&](int i) { batch(w, list[i].updates); }, undo);
+    double b = best(repeats, rounds, [&](int i) { batch(w, list[i].exchange); }, undo);
+    Network other = w;
+    double c = best(repeats, rounds, [&](int i) { boost_rows(&graphs[i], &other, other.forward.data(), other.backward.data()); });
+    double d = best(repeats, rounds, [&](int i) { Both h = build(after[i]); boost_rows(&h, &other, other.forward.data(), other.backward.data()); });
+    std::printf("retune %3u %4u of %3u, %s: ours %8.1f us; deletes and inserts %8.1f us (%.2fx); Boost 40 rows %8.1f us (%.1fx), with its graphs built %8.1f us (%.1fx)\n", n,
+                edges, size, faster ? "better" : "worse", a, b, b / a, c, c / a, d, d / a);
 }
 
 void text_times(int repeats, uint32_t n, uint32_t edges)
@@ -252,7 +302,20 @@ void text_times(int repeats, uint32_t n, uint32_t edges)
                 n, edges, bytes / networks, a, b, a / b, c, d, c / d, e, f, e / f);
 }
 
-// Runs Boost alone: its 40 rows, or (query1 to query5) a row from each vertex, its graph built first as our call judges and indexes what it is lent.
+// Boost's 40 rows on the table after each of the drawn retunes.
+void boost_retunes(const Network &w, uint32_t size, bool faster)
+{
+    Network other = w;
+    for (auto &c : drawn_retunes(w, size, faster)) {
+        Network after = w;
+        batch(after, c.updates);
+        Both g = build(after);
+        boost_rows(&g, &other, other.forward.data(), other.backward.data());
+    }
+}
+
+// Runs Boost alone: its 40 rows, once or on the retuned tables, or (query1 to query5) a row from each vertex, its graph built first as our call
+// judges and indexes what it is lent.
 int boost_once(const std::string &what)
 {
     Network w = make(256, 2048, 100);
@@ -261,9 +324,14 @@ int boost_once(const std::string &what)
         boost_rows(&g, &w, w.forward.data(), w.backward.data());
         return 0;
     }
+    if (what[0] == 'b' || what[0] == 'w') {
+        open(w);
+        boost_retunes(w, number_in(what), what[0] == 'b');
+        return 0;
+    }
     std::vector<uint32_t> out(w.n);
     for (uint32_t s = 0; s < w.n; s++)
-        boost_query(&w, static_cast<uint32_t>(std::atoi(what.c_str() + 5)), s, out.data());
+        boost_query(&w, number_in(what), s, out.data());
     return 0;
 }
 
@@ -280,6 +348,9 @@ int main(int argc, char **argv)
     query_times(repeats, 256, 2048);
     for (uint32_t size : {1u, 10u, 100u})
         batch_times(repeats, 256, 2048, size);
+    for (bool faster : {true, false})
+        for (uint32_t size : {1u, 10u, 100u})
+            retune_times(repeats, 256, 2048, size, faster);
     text_times(repeats, 256, 2048);
     return 0;
 }

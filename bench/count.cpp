@@ -1,5 +1,7 @@
 // Runs one thing alone on the first network of 256 vertices and 2,048 edges, to count its instructions: open, plain, batch1, batch10,
-// batch100, query1 to query5 (from each vertex in turn), read, readany, readplain, readanyplain, write, writeplain.
+// batch100, better1 to better100 and worse1 to worse100 (updates), bettertake1 to worsetake100 (a delete and an insert of the same pairs),
+// fixed (an update that changes nothing), each and eachtake (every edge alone, then the drawn retunes), query1 to query5 (from each vertex
+// in turn), read, readany, readplain, readanyplain, write, writeplain.
 #include "network.h"
 
 namespace {
@@ -21,8 +23,6 @@ bool text_once(const std::string &what, Network &w)
 
 bool starts_with(const std::string &what, const char *word) { return what.rfind(word, 0) == 0; }
 
-int number_in(const std::string &what) { return std::atoi(what.c_str() + 5); }
-
 // as many batches as are timed: 50 of deletes, each undone by one of inserts
 void batches_once(Network &w, uint32_t size)
 {
@@ -32,6 +32,34 @@ void batches_once(Network &w, uint32_t size)
         batch(w, c.first);
         batch(w, c.second);
     }
+}
+
+// each retune on the network as it was opened
+void retunes_once(const Network &w, const std::vector<Retune> &list, bool exchanged)
+{
+    Network now = w;
+    for (auto &c : list) {
+        now = w;
+        batch(now, exchanged ? c.exchange : c.updates);
+    }
+}
+
+// every edge alone, faster and slower, then the retunes of 10 and of 100
+std::vector<Retune> every_retune(const Network &w)
+{
+    Random r{7};
+    std::vector<Retune> list;
+    for (bool faster : {true, false}) {
+        for (uint32_t i = 0; i < w.count; i++) {
+            Retune c;
+            if (add_retune(w, i, r, faster, c))
+                list.push_back(c);
+        }
+        for (uint32_t size : {10u, 100u})
+            for (auto &c : drawn_retunes(w, size, faster))
+                list.push_back(c);
+    }
+    return list;
 }
 
 void queries_once(const Network &w, uint32_t property)
@@ -52,9 +80,15 @@ int once(const std::string &what)
     }
     open(w);
     if (starts_with(what, "batch"))
-        batches_once(w, static_cast<uint32_t>(number_in(what)));
+        batches_once(w, number_in(what));
+    else if (starts_with(what, "better") || starts_with(what, "worse"))
+        retunes_once(w, drawn_retunes(w, number_in(what), what[0] == 'b'), what.find("take") != std::string::npos);
+    else if (starts_with(what, "each"))
+        retunes_once(w, every_retune(w), what == "eachtake");
+    else if (what == "fixed")
+        batch(w, {{UPDATE, w.tails[0], w.heads[0], w.weights[0]}});
     else if (starts_with(what, "query"))
-        queries_once(w, static_cast<uint32_t>(number_in(what)));
+        queries_once(w, number_in(what));
     return 0;
 }
 

@@ -5,6 +5,7 @@
 #include <algorithm>
 #include <cstdint>
 #include <cstdlib>
+#include <cstring>
 #include <set>
 #include <string>
 #include <utility>
@@ -20,6 +21,12 @@ extern "C" size_t plain_write(uint32_t n, const uint32_t *tails, const uint32_t 
 namespace {
 
 const uint32_t M = UINT32_MAX;
+
+// The number in a word such as query5.
+uint32_t number_in(const std::string &what)
+{
+    return static_cast<uint32_t>(std::atoi(what.c_str() + std::strcspn(what.c_str(), "0123456789")));
+}
 
 struct Random {
     uint64_t state;
@@ -94,7 +101,9 @@ Told query(const Network &w, uint32_t property, uint32_t source, std::vector<uin
     return {reply[0], reply[1], reply[2]};
 }
 
-void batch(Network &w, const std::vector<plate_track_change> &changes)
+using Changes = std::vector<plate_track_change>;
+
+void batch(Network &w, const Changes &changes)
 {
     uint64_t reply[8];
     if (plate_track_batch(w.n, w.landmarks.data(), w.landmarks.size(), w.tails.data(), w.tails.size(), w.heads.data(), w.heads.size(), w.weights.data(),
@@ -162,17 +171,68 @@ Text text_of(const Network &w, bool ascending)
 // ---- batches
 
 // `size` deletes of different edges, and the inserts that undo them.
-std::pair<std::vector<plate_track_change>, std::vector<plate_track_change>> there_and_back(const Network &w, uint32_t size, Random &r)
+std::pair<Changes, Changes> there_and_back(const Network &w, uint32_t size, Random &r)
 {
     std::set<uint32_t> picked;
     while (picked.size() < size)
         picked.insert(r.below(w.count));
-    std::vector<plate_track_change> away, again;
+    Changes away, again;
     for (uint32_t i : picked) {
         away.push_back({PLATE_TRACK_DELETE, w.tails[i], w.heads[i], 0});
         again.push_back({PLATE_TRACK_INSERT, w.tails[i], w.heads[i], w.weights[i]});
     }
     return {away, again};
+}
+
+// ---- retunes
+
+const uint32_t UPDATE = 3;
+
+// Updates, those that undo them, and a delete and an insert of each pair in one batch, which does what the updates do.
+struct Retune {
+    Changes updates, undo, exchange;
+};
+
+// A weight less than `weight`, at least 1; or a greater one, at most twice it and at most the greatest.
+uint32_t moved(uint32_t weight, Random &r, bool faster)
+{
+    return faster ? 1 + r.below(weight - 1) : weight + 1 + r.below(std::min(weight, PLATE_TRACK_GREATEST_WEIGHT - weight));
+}
+
+// Edge `i` joins a retune; false where none is faster than its weight, or none slower.
+bool add_retune(const Network &w, uint32_t i, Random &r, bool faster, Retune &c)
+{
+    if (w.weights[i] == (faster ? 1 : PLATE_TRACK_GREATEST_WEIGHT))
+        return false;
+    uint32_t t = w.tails[i], h = w.heads[i], weight = moved(w.weights[i], r, faster);
+    c.updates.push_back({UPDATE, t, h, weight});
+    c.undo.push_back({UPDATE, t, h, w.weights[i]});
+    c.exchange.push_back({PLATE_TRACK_DELETE, t, h, 0});
+    c.exchange.push_back({PLATE_TRACK_INSERT, t, h, weight});
+    return true;
+}
+
+// `size` different edges, all faster or all slower.
+Retune retunes(const Network &w, uint32_t size, Random &r, bool faster)
+{
+    Retune c;
+    std::set<uint32_t> picked;
+    while (c.updates.size() < size) {
+        uint32_t i = r.below(w.count);
+        if (picked.insert(i).second)
+            add_retune(w, i, r, faster, c);
+    }
+    return c;
+}
+
+// The 50 retunes that are timed and counted.
+std::vector<Retune> drawn_retunes(const Network &w, uint32_t size, bool faster)
+{
+    Random r{7};
+    std::vector<Retune> list;
+    for (int i = 0; i < 50; i++)
+        list.push_back(retunes(w, size, r, faster));
+    return list;
 }
 
 } // namespace
