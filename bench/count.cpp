@@ -86,7 +86,7 @@ int once(const std::string &what)
     else if (starts_with(what, "each"))
         retunes_once(w, every_retune(w), what == "eachtake");
     else if (what == "fixed")
-        batch(w, {{UPDATE, w.tails[0], w.heads[0], w.weights[0]}});
+        batch(w, {{PLATE_TRACK_UPDATE, w.tails[0], w.heads[0], w.weights[0]}});
     else if (starts_with(what, "query"))
         queries_once(w, number_in(what));
     return 0;

@@ -186,7 +186,6 @@ std::pair<Changes, Changes> there_and_back(const Network &w, uint32_t size, Rand
 
 // ---- retunes
 
-const uint32_t UPDATE = 3;
 
 // Updates, those that undo them, and a delete and an insert of each pair in one batch, which does what the updates do.
 struct Retune {
@@ -205,8 +204,8 @@ bool add_retune(const Network &w, uint32_t i, Random &r, bool faster, Retune &c)
     if (w.weights[i] == (faster ? 1 : PLATE_TRACK_GREATEST_WEIGHT))
         return false;
     uint32_t t = w.tails[i], h = w.heads[i], weight = moved(w.weights[i], r, faster);
-    c.updates.push_back({UPDATE, t, h, weight});
-    c.undo.push_back({UPDATE, t, h, w.weights[i]});
+    c.updates.push_back({PLATE_TRACK_UPDATE, t, h, weight});
+    c.undo.push_back({PLATE_TRACK_UPDATE, t, h, w.weights[i]});
     c.exchange.push_back({PLATE_TRACK_DELETE, t, h, 0});
     c.exchange.push_back({PLATE_TRACK_INSERT, t, h, weight});
     return true;

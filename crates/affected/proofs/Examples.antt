@@ -1,11 +1,11 @@
 -- Affected vertices of small networks, computed: document 01, "Near the edges, and a small deck"; document 02, One. Assumes nothing.
 use Rattle.property.proofs.Basics.{_≡_, refl, Bool, true, false, List, [], _∷_, map, ℕ}
-use Rattle.property.specs.Property.{M, sssp, sswp, ssr}
+use Rattle.property.specs.Property.{M, sssp, sswp, ssr, property}
 use Rattle.graph.specs.Edge.{Edge, edge, reverse}
 use Rattle.graph.specs.Table.{insert, delete, update}
 use Rattle.graph.specs.Sorted as order
 use Rattle.run.specs.Run.{tight}
-use Rattle.affected.specs.Net.{counterpart}
+use Rattle.affected.specs.Net.{counterpart, removed, added}
 use Rattle.affected.specs.Affected.{mark, sweep, sweeps, affected}
 
 nobody : List Bool
@@ -68,6 +68,26 @@ narrowed = refl
 passed-on : affected sssp (edge 0 1 1 ∷ edge 1 2 2 ∷ []) (edge 1 2 1 ∷ []) 0 (0 ∷ 1 ∷ 3 ∷ []) 3 ≡ false ∷ true ∷ true ∷ []
 unfolding affected sweeps sweep mark counterpart
 passed-on = refl
+
+-- ---- whether a retuned pair counts as removed, and as added, for each property
+
+-- 0→1 of weight v becomes one of weight w
+counts : ℕ → ℕ → List (Bool × Bool)
+counts v w = map (λ p. (removed (property p) (edge 0 1 w ∷ []) (edge 0 1 v), added (property p) (edge 0 1 v ∷ []) (edge 0 1 w))) (1 ∷ 2 ∷ 3 ∷ 4 ∷ 5 ∷ [])
+
+more : counts 4 5 ≡ (true, false) ∷ (false, false) ∷ (false, true) ∷ (true, false) ∷ (false, false) ∷ []
+unfolding counts property counterpart
+more = refl
+
+fewer : counts 4 3 ≡ (false, true) ∷ (false, false) ∷ (true, false) ∷ (false, true) ∷ (false, false) ∷ []
+unfolding counts property counterpart
+fewer = refl
+
+own : counts 4 4 ≡ (false, false) ∷ (false, false) ∷ (false, false) ∷ (false, false) ∷ (false, false) ∷ []
+unfolding counts property counterpart
+own = refl
+
+-- ---- removed, and not tight
 
 -- an edge that is removed without being tight affects nobody
 slack : affected sssp graphA (delete (edge 3 2 0) graphA) 0 time 4 ≡ nobody

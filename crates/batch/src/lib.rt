@@ -21,7 +21,7 @@ const WEIGHTS: usize = 3 * graph::MAX_BATCH;
 
 const BATCH_WORDS: usize = 4 * graph::MAX_BATCH;
 
-// A change: kind 1 adds an edge, 2 takes the one from `tail` to `head`, with weight 0.
+// A change: kind 1 adds an edge, 2 takes the one from `tail` to `head`, with weight 0, and 3 gives that one the weight `weight`.
 pub struct Change {
     pub kind: u32,
     pub tail: u32,

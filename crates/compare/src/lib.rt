@@ -1,5 +1,5 @@
-// Two tables compared: what a batch changed, net, as one list of two words for each pair of vertices whose edge differs: an edge that a
-// batch takes and adds again is none. One walk along both tables finds it.
+// Two tables compared: what a batch changed, net, as one list of two words for each pair of vertices whose edge differs, with its weight
+// before and after: an edge that a batch takes and adds again with its weight is none. One walk along both tables finds it.
 use graph::arc;
 use graph::rules;
 ghost use mathlib.Core.Path.{_≡_};

@@ -1,13 +1,16 @@
 -- A table's order keeps the laws of an order, so that Sorted, Seek and Gather hold of it; and what the table's rules say of each edge.
 -- Assumes nothing.
-use Rattle.property.proofs.Basics.{_≡_, refl, sym, _∙_, _⊎_, inl, inr, ⊎-elim, true, false, not, true≢false, List, [], _∷_, List·Memᴰ, List·Memᴰ·cases-cons, List·Memᴰ·not-nil, ℕ, _≤_, _<_, arith, ltb, eqb, ltb-true, ltb-false, leb-true, eqb-true, eqb-false, not-true, eq-eqb}
+use Rattle.property.proofs.Basics.{_≡_, refl, sym, ap, _∙_, _⊎_, inl, inr, ⊎-elim, true, false, not, true≢false, List, [], _∷_, List·Memᴰ, List·Memᴰ·cases-cons, List·Memᴰ·not-nil, ℕ, _≤_, _<_, arith, ltb, eqb, ltb-true, ltb-false, leb-true, eqb-true, eqb-false, not-true, eq-eqb}
 use Rattle.property.proofs.Tests.{is-true, is-false, by-test}
 use Rattle.graph.specs.Limits.{maxWeight}
 use Rattle.graph.specs.Refusal.{accept}
 use Rattle.graph.specs.Edge.{Edge, alike, precedes}
-use Rattle.graph.specs.Table.{isEdge, tableOrder, rules}
+use Rattle.graph.specs.Table.{isEdge, tableOrder, rules, update}
+use Rattle.graph.specs.Sorted.{Distinct}
+use Rattle.graph.specs.Sorted as order
 pub use Rattle.graph.specs.Within.{Within}
 use Rattle.graph.proofs.Tests.{both, and-true, neither, same-test}
+use Rattle.graph.proofs.Edges.{true-exists}
 use Rattle.graph.proofs.Sorted.{Ordered, Sorted}
 use Rattle.graph.proofs.Sorted as sorted
 
@@ -104,3 +107,11 @@ within n es h = record {
   heads = λ e m. sound-fit n es h e m .head-below;
   weights = λ e m. (let l = sound-fit n es h e m .weight-most in omega arith);
 }
+
+-- an update by an edge that is there changes nothing
+pub update-own : (es : List Edge) → Distinct tableOrder es → (e : Edge) → List·Memᴰ e es → update e es ≡ es
+unfolding order.update
+update-own [] h e m = refl
+update-own (x ∷ es) h e m = by-test (alike e x)
+    (λ q. rw q (⊎-elim (λ p. ap (λ (y : Edge). y ∷ es) p) (λ k. absurd (true≢false (sym (true-exists (alike x) k (table-ordered .symmetric x e ∙ q)) ∙ h .0))) (List·Memᴰ·cases-cons m)))
+    (λ q. rw q (⊎-elim (λ p. absurd (true≢false (sym (table-ordered .reflexive e) ∙ ap (alike e) p ∙ q))) (λ k. ap (λ (l : List Edge). x ∷ l) (update-own es (h .1) e k)) (List·Memᴰ·cases-cons m)))

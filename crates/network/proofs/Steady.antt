@@ -1,5 +1,5 @@
 -- The claims of specs/Steady.antt. Assumes nothing.
-use Rattle.property.proofs.Basics.{_≡_, refl, sym, ap, _∙_, Bool, false, _&&_, _||_, cond, true≢false, false≢true, List, [], _∷_, _++_, map, List·Memᴰ, List·Memᴰ·head, List·Memᴰ·tail, ℕ, zero, suc, _+_, _*_, _%_, _≤_, _<_, zero-mul, suc-mul, mul-le-mul-right, arith, length, getD, take, drop, length-drop, take-append-drop, length-take-le, take-add, drop-drop, ext-getD, ltb, eqb, ltb-false}
+use Rattle.property.proofs.Basics.{_≡_, refl, sym, ap, _∙_, Bool, true, false, _&&_, _||_, cond, true≢false, false≢true, List, [], _∷_, _++_, map, List·Memᴰ, List·Memᴰ·head, List·Memᴰ·tail, ℕ, zero, suc, _+_, _*_, _%_, _≤_, _<_, zero-mul, suc-mul, mul-le-mul-right, arith, length, getD, take, drop, length-drop, take-append-drop, length-take-le, take-add, drop-drop, ext-getD, ltb, eqb, ltb-false, lt-ltb, le-leb, eqb-true, ne-eqb}
 use Rattle.property.specs.Property.{Property, properties}
 use Rattle.property.specs.Laws.{Laws}
 use Rattle.property.proofs.Tests.{is-false}
@@ -7,14 +7,16 @@ use Rattle.property.proofs.Instances.{property-laws}
 use Rattle.frontier.specs.Waiting.{anyOf, countOf}
 use Rattle.frontier.proofs.Laws.{count-none, none-any}
 use Rattle.graph.specs.Refusal.{accept, _▷_, refuseIf, accepted, replied, over}
-use Rattle.graph.specs.Edge.{Edge, reverse, range, exists}
-use Rattle.graph.specs.Table.{size, shortTable, table}
+use Rattle.graph.specs.Limits.{maxWeight}
+use Rattle.graph.specs.Edge.{Edge, reverse, alike, range, exists}
+use Rattle.graph.specs.Table.{isEdge, rules, size, shortTable, table}
 use Rattle.graph.proofs.Tests.{both, neither, or-false}
 use Rattle.graph.proofs.Lists.{length-table, table-at, range-below}
-use Rattle.graph.proofs.Edges.{exists-true}
+use Rattle.graph.proofs.Edges.{exists-true, true-exists}
 use Rattle.graph.proofs.Verdicts.{accept-then, if-accept, accept-if, outcome-accepted}
 use Rattle.graph.proofs.Judging.{table-accept}
-use Rattle.graph.proofs.Order.{Within}
+use Rattle.graph.proofs.Sorted.{sorted-distinct}
+use Rattle.graph.proofs.Order.{Within, table-ordered, pair-alike, rules-accept, sound-fit, update-own}
 use Rattle.run.specs.Run.{State, word, settle}
 use Rattle.theory.proofs.Settle.{Settled, settle-idle}
 use Rattle.theory.proofs.Value.{best-settled}
@@ -25,12 +27,12 @@ use Rattle.affected.specs.Prepared.{cleared, reopened, prepared}
 use Rattle.affected.proofs.Net.{Single, rules-single, single-reverse, kept-stays}
 use Rattle.affected.proofs.Sweeps.{unaffected-unmarked}
 use Rattle.network.specs.Network.{Rows, Network, edgesIn, rowCount, shortRows, landmarks, faults, row, propertyOf, landmarkOf, rowsOf, flat, unsettled, storesOf}
-use Rattle.network.specs.Change.{items}
+use Rattle.network.specs.Change.{Change, named, updates, edit, words, against, item, items}
 use Rattle.network.specs.Batch.{batchRow, batchRows, affectedOver, rewritten, newForward, newBackward, batchFaults, batchVerdict, batchMemory, report, batchCall}
 use Rattle.network.specs.Settled.{settled, found, Check, inRecords, inRows, check, settledCall}
 use Rattle.network.specs.Caller.{reported, handOn}
 use Rattle.network.specs.History.{moment}
-use Rattle.network.specs.Steady.{EmptyBatch, SettledAfter}
+use Rattle.network.specs.Steady.{EmptyBatch, OwnFigure, SettledAfter}
 use Rattle.network.proofs.Items.{table-sound, table-count, rewritten-edges}
 use Rattle.network.proofs.Rows.{RowsBest, unsettled-map}
 use Rattle.network.proofs.Moment.{Good, good-within, faults-parts, moment-good}
@@ -204,6 +206,28 @@ empty-batch n ls w h = (ap (λ o. o .reply) whole, ap (λ o. o .memory .rows) wh
 
     records : edgesIn (record { memory = record { table = rewritten (edgesIn w) (w .memory .table); rows = w .memory .rows }; count = w .count }) ≡ edgesIn w
     records = ap (λ k. edgesIn (record { memory = record { table = rewritten (edgesIn w) (w .memory .table); rows = w .memory .rows }; count = k })) (sym count) ∙ rewritten-edges (edgesIn w) (w .memory .table)
+
+-- ---- an update by the weight that is there
+
+own-item : (n : ℕ) (es : List Edge) → rules n es ≡ accept → (c : Change) → updates c ≡ true → List·Memᴰ (named c) es → item n 0 es c ≡ accept
+unfolding item words against _▷_ refuseIf
+own-item n es h c u m =
+    let f = sound-fit n es (rules-accept n es h) (named c) m in
+    let k : c .kind ≡ 3 = eqb-true _ _ u in
+    rw (k, lt-ltb (c .tail) n (f .tail-below), lt-ltb (c .head) n (f .head-below), ne-eqb (c .tail) (c .head) (f .no-loop), lt-ltb 0 (c .weight) (f .some-weight), le-leb (c .weight) maxWeight (f .weight-most), true-exists (alike (named c)) m (pair-alike (named c) (named c) refl refl))
+
+own-edit : (n : ℕ) (es : List Edge) → rules n es ≡ accept → (c : Change) → updates c ≡ true → List·Memᴰ (named c) es → edit es c ≡ es
+unfolding edit
+own-edit n es h c u m =
+    let k : c .kind ≡ 3 = eqb-true _ _ u in
+    rw k (update-own es (sorted-distinct table-ordered (isEdge n) es (rules-accept n es h)) (named c) m)
+
+-- The update is accepted and leaves the edges as they are, as no change does; and nothing else of a batch goes into its outcome.
+pub own-figure : OwnFigure
+unfolding batchCall batchFaults items _▷_ refuseIf
+own-figure n ls w h c u m =
+    let r : rules n (edgesIn w) ≡ accept = table-accept n (w .memory .table) (w .count) (faults-parts n ls w h .4) .1 in
+    rw (own-item n (edgesIn w) r c u m, own-edit n (edgesIn w) r c u m)
 
 -- ---- the settled check
 

@@ -1,5 +1,6 @@
 -- What stays: past what an accepted call writes, in a batch without changes, and the settled check at any moment: document 01, "Network" ("words
--- past those stay"), "Batch", "Settled check" and "Near the edges, and a small deck" ("An empty batch is accepted"). Assumes nothing.
+-- past those stay"), "Batch", "Settled check" and "Near the edges, and a small deck" ("An empty batch is accepted"); document 02, One ("its own present
+-- figure changes nothing"). Assumes nothing.
 --
 --   RestStays k xs ys == past the first k words the list ys is as xs was
 --   RowsStay n ls v w == so are both row lists, past their rows
@@ -11,16 +12,18 @@
 --   BatchStays   == so does an accepted batch of the words past the rows, and its table lists are zeroed past the new count   batch-stays
 --   EmptyBatch   == on any network that numbers 1 to 4 let pass, whatever words its rows hold, the batch without changes is accepted; it
 --                   reports the count as before, no affected vertex and no store; each word of the row lists and each record stays  empty-batch
+--   OwnFigure    == on any such network, a batch of one update that gives an edge the weight it has does what the batch without changes does   own-figure
 --   SettledAfter == after an accepted opening and any list of batches the settled check says settled                         settled-after
 use mathlib.Core.Path.{_≡_}
-use mathlib.Core.List.{List, []}
+use mathlib.Core.Bool.{true}
+use mathlib.Core.List.{List, [], _∷_, List·Memᴰ}
 use Prim.Native.Nat.{ℕ, _-_, _*_}
 use lib.ListN.{take, drop, replicate}
 use Rattle.graph.specs.Limits.{maxEdges}
 use Rattle.graph.specs.Refusal.{accept, accepted}
 use Rattle.network.specs.Network.{Memory, Network, edgesIn, rowCount, faults}
 use Rattle.network.specs.Open.{openCall}
-use Rattle.network.specs.Change.{Change}
+use Rattle.network.specs.Change.{Change, named, updates}
 use Rattle.network.specs.Batch.{Report, batchCall}
 use Rattle.network.specs.Settled.{settled, settledCall}
 use Rattle.network.specs.Caller.{handOn}
@@ -57,6 +60,11 @@ EmptyBatch = (n : ℕ) (ls : List ℕ) (w : Network) → faults n ls w ≡ accep
     → ((batchCall n ls w []) .reply ≡ accepted (record { count = w .count; affected = 0; stores = 0 }))
     × ((batchCall n ls w []) .memory .rows ≡ w .memory .rows)
     × (edgesIn (handOn w (batchCall n ls w [])) ≡ edgesIn w)
+
+-- "its own present figure changes nothing"
+abbrev pub OwnFigure : Type 0
+OwnFigure = (n : ℕ) (ls : List ℕ) (w : Network) → faults n ls w ≡ accept → (c : Change) → updates c ≡ true → List·Memᴰ (named c) (edgesIn w)
+    → batchCall n ls w (c ∷ []) ≡ batchCall n ls w []
 
 -- ---- the settled check
 

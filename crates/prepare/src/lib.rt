@@ -59,7 +59,7 @@ fn mark_head(
 }
 
 // Whether an edge of weight `w` is lost to the property where its pair has the weight `other`, 0 for none: there is such an edge, and nothing or
-// a worse weight in its place.
+// a worse weight in its place. So an old edge is removed by the new weight, and a new one added by the old.
 fn is_lost(p: u32, w: u32, other: u32) -> bool
     ensures { λ r. ⌜ r ≡ isLost (property p) w other ⌝ }
 {
