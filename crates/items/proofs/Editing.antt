@@ -1,6 +1,6 @@
 -- The changes of a batch, judged and applied one by one: four lists read side by side, one change's refusals, what is left of a chain of
 -- changes after one. Assumes nothing.
-use Rattle.property.proofs.Basics.{_≡_, refl, sym, ap, _∙_, _⊎_, inl, inr, Bool, true, false, not, _&&_, _||_, cond, List, [], _∷_, ℕ, zero, suc, _+_, _<_, _≤_, min, add-one, arith, length, getD, drop, ltb, eqb, lt-ltb, le-ltb, eq-eqb, ne-eqb, eqb-true, not-false}
+use Rattle.property.proofs.Basics.{_≡_, refl, sym, ap, _∙_, _⊎_, inl, inr, true, false, not, _&&_, _||_, cond, List, [], _∷_, ℕ, zero, suc, _+_, _<_, _≤_, min, add-one, arith, length, getD, drop, ltb, eqb, lt-ltb, le-ltb, eq-eqb, ne-eqb, eqb-true, not-false}
 use mathlib.Core.Bool.{and-false, or-false}
 use Rattle.graph.specs.declared.Found.the-variants.{At, Absent}
 use Rattle.graph.specs.Limits.{maxEdges}

@@ -1,5 +1,5 @@
 -- `items::update_item` meets its contract. Assumes nothing.
-use Rattle.property.proofs.Basics.{needs, arith, _≡_, refl, sym, _∙_, _<_, _≤_, set, length-set}
+use Rattle.property.proofs.Basics.{needs, arith, _≡_, refl, sym, _∙_, _<_, set, length-set}
 use Rattle.graph.specs.declared.Found.the-variants.{At}
 use Rattle.graph.specs.Limits.{maxEdges}
 use Rattle.graph.specs.Edge.{edge, edges}
