@@ -1,16 +1,17 @@
 -- The changes of a batch, judged and applied one by one: four lists read side by side, one change's refusals, what is left of a chain of
 -- changes after one. Assumes nothing.
-use Rattle.property.proofs.Basics.{_≡_, refl, sym, ap, _∙_, _⊎_, inl, inr, Bool, true, false, not, _&&_, _||_, cond, List, [], _∷_, ℕ, zero, suc, _+_, _<_, _≤_, min, add-one, arith, length, getD, drop, ltb, eqb, lt-ltb, le-ltb, eq-eqb, ne-eqb, eqb-true, not-false}
+use Rattle.property.proofs.Basics.{_≡_, refl, sym, ap, _∙_, _⊎_, inl, inr, true, false, not, _&&_, _||_, cond, List, [], _∷_, ℕ, zero, suc, _+_, _<_, _≤_, min, add-one, arith, length, getD, drop, ltb, eqb, lt-ltb, le-ltb, eq-eqb, ne-eqb, eqb-true, not-false}
+use mathlib.Core.Bool.{and-false, or-false}
 use Rattle.graph.specs.declared.Found.the-variants.{At, Absent}
 use Rattle.graph.specs.Limits.{maxEdges}
 use Rattle.graph.specs.Refusal.{Verdict, accept, refuse, _▷_, refuseIf}
 use Rattle.graph.specs.Edge.{Edge, edge, edges}
 use Rattle.graph.specs.Table.{isWeight}
 use Rattle.graph.specs.Code.{Room, find}
-use Rattle.graph.proofs.Tests.{or-right}
 use Rattle.graph.proofs.Verdicts.{then-accept, if-accept}
 use Rattle.graph.proofs.Order.{rules-accept, accept-rules}
 use Rattle.graph.proofs.Records.{room-less, edges-length}
+use Rattle.graph.proofs.Seek.{find-below}
 use Rattle.graph.proofs.Lookup.{found-present, absent-present}
 use Rattle.items.specs.declared.Edited.{Edited}
 use Rattle.items.specs.declared.Edited.the-variants.{Count, Refused}
@@ -50,46 +51,34 @@ module _ (n i k t h w : ℕ) where
   pub words-outside : (n ≤ t) ⊎ (n ≤ h) → refuse 6 i ≡ words n i (change k t h w)
   unfolding words refuseIf _▷_
   words-outside (inl a) = rw (le-ltb t n a)
-  words-outside (inr a) = pick (ltb t n)
-    where
-      pick : (b : Bool)
-          → refuse 6 i ≡ (refuseIf (not (b && ltb h n)) 6 i
-          ▷ refuseIf (not (eqb k 1 || eqb k 2)) 7 i
-          ▷ refuseIf (eqb t h) 8 i
-          ▷ refuseIf (not (cond (eqb k 1) (isWeight w) (eqb w 0))) 9 i)
-      pick true = rw (le-ltb h n a)
-      pick false = refl
+  words-outside (inr a) = rw (le-ltb h n a, and-false)
 
   module _ (a : t < n) (b : h < n) where
-    pub words-unkind : (k ≡ 1 → ⊥) → (k ≡ 2 → ⊥) → refuse 7 i ≡ words n i (change k t h w)
+    pub words-unkind : (k ≡ 1 → ⊥) → (k ≡ 2 → ⊥) → (k ≡ 3 → ⊥) → refuse 7 i ≡ words n i (change k t h w)
     unfolding words refuseIf _▷_
-    words-unkind c d = rw (lt-ltb t n a, lt-ltb h n b, ne-eqb k 1 c, ne-eqb k 2 d)
+    words-unkind c d e = rw (lt-ltb t n a, lt-ltb h n b, ne-eqb k 1 c, ne-eqb k 2 d, ne-eqb k 3 e)
 
-    kind : (k ≡ 1) ⊎ (k ≡ 2) → (eqb k 1 || eqb k 2) ≡ true
-    kind (inl e) = rw (eq-eqb k 1 e)
-    kind (inr e) = or-right (eqb k 1) (eq-eqb k 2 e)
+    module _ (c : (eqb k 1 || (eqb k 2 || eqb k 3)) ≡ true) where
+      pub words-loop : t ≡ h → refuse 8 i ≡ words n i (change k t h w)
+      unfolding words refuseIf _▷_
+      words-loop d = rw (lt-ltb t n a, lt-ltb h n b, c, eq-eqb t h d)
 
-    pub words-loop : (k ≡ 1) ⊎ (k ≡ 2) → t ≡ h → refuse 8 i ≡ words n i (change k t h w)
-    unfolding words refuseIf _▷_
-    words-loop c d = rw (lt-ltb t n a, lt-ltb h n b, kind c, eq-eqb t h d)
+      pub words-rest : (t ≡ h → ⊥) → refuseIf (not (cond (eqb k 2) (eqb w 0) (isWeight w))) 9 i ≡ words n i (change k t h w)
+      unfolding words refuseIf _▷_
+      words-rest d = rw (lt-ltb t n a, lt-ltb h n b, c, ne-eqb t h d)
 
-    pub words-rest : (k ≡ 1) ⊎ (k ≡ 2) → (t ≡ h → ⊥) → refuseIf (not (cond (eqb k 1) (isWeight w) (eqb w 0))) 9 i ≡ words n i (change k t h w)
-    unfolding words refuseIf _▷_
-    words-rest c d = rw (lt-ltb t n a, lt-ltb h n b, kind c, ne-eqb t h d)
-
--- a delete whose words are good is of kind 2 and weight 0
-pub words-delete : (n i k t h w : ℕ) → (k ≡ 1 → ⊥) → words n i (change k t h w) ≡ accept → change k t h w ≡ change 2 t h 0
+-- where its words are good, a change that is neither an insert nor an update is a delete: of kind 2 and weight 0
+pub words-delete : (n i k t h w : ℕ) → (k ≡ 1 → ⊥) → (k ≡ 3 → ⊥) → words n i (change k t h w) ≡ accept → change k t h w ≡ change 2 t h 0
 unfolding words
-words-delete n i k t h w z e =
-    let q = ne-eqb k 1 z in
+words-delete n i k t h w p q e =
     let a = then-accept (refuseIf (not (ltb t n && ltb h n)) 6 i) _ e in
-    let b = then-accept (refuseIf (not (eqb k 1 || eqb k 2)) 7 i) _ (a .1) in
+    let b = then-accept (refuseIf (not (eqb k 1 || (eqb k 2 || eqb k 3))) 7 i) _ (a .1) in
     let d = then-accept (refuseIf (eqb t h) 8 i) _ (b .1) in
-    let x : (eqb k 1 || eqb k 2) ≡ true = not-false _ (if-accept _ _ _ (b .0)) in
-    let y : cond (eqb k 1) (isWeight w) (eqb w 0) ≡ true = not-false _ (if-accept _ _ _ (d .1)) in
-    let u : k ≡ 2 = eqb-true _ _ (rw q at x) in
-    let v : w ≡ 0 = eqb-true _ _ (rw q at y) in
-    rw (u, v)
+    let x : (eqb k 1 || (eqb k 2 || eqb k 3)) ≡ true = not-false _ (if-accept _ _ _ (b .0)) in
+    let y : cond (eqb k 2) (eqb w 0) (isWeight w) ≡ true = not-false _ (if-accept _ _ _ (d .1)) in
+    let u : eqb k 2 ≡ true = sym (or-false (eqb k 2)) ∙ (rw (ne-eqb k 1 p, ne-eqb k 3 q) at x) in
+    let v : w ≡ 0 = eqb-true _ _ (rw u at y) in
+    rw (eqb-true k 2 u, v)
 
 -- ---- a change against the edges
 
@@ -106,14 +95,22 @@ module _ (es : List Edge) (t h w i : ℕ) where
   unfolding against refuseIf _▷_
   insert-fine e l = rw (absent-present t h w es e, lt-ltb (length es) maxEdges l)
 
-module _ (es : List Edge) (t h i : ℕ) where
-  pub delete-absent : find (edge t h 0) es ≡ Absent → refuse 11 i ≡ against i es (change 2 t h 0)
+-- a delete or an update asks for its pair alone
+module _ (es : List Edge) (k t h w i : ℕ) (z : eqb k 1 ≡ false) where
+  pub against-absent : find (edge t h 0) es ≡ Absent → refuse 11 i ≡ against i es (change k t h w)
   unfolding against refuseIf _▷_
-  delete-absent e = rw (absent-present t h 0 es e)
+  against-absent e = rw (z, absent-present t h w es e)
 
-  pub delete-fine : (j : ℕ) → find (edge t h 0) es ≡ At j → accept ≡ against i es (change 2 t h 0)
+  pub against-found : (j : ℕ) → find (edge t h 0) es ≡ At j → accept ≡ against i es (change k t h w)
   unfolding against refuseIf _▷_
-  delete-fine j e = rw (found-present t h 0 es j e)
+  against-found j e = rw (z, found-present t h w es j e)
+
+-- a pair that is found stands below the count
+pub found-below : (n m : ℕ) (ts hs ws : List ℕ) → Tabled n m ts hs ws → (e : Edge) (i : ℕ) → find e (edges ts hs ws m) ≡ At i → i < m
+found-below n m ts hs ws t e i f =
+    let q = edges-length ts hs ws m (room-less (t .few) (t .room)) in
+    let l = find-below _ e (edges ts hs ws m) i f in
+    omega arith
 
 -- ---- a change as a whole
 

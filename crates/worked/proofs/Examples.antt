@@ -1,7 +1,7 @@
 -- Small calls, computed: document 01, "Network", "Runs", "Turned back" and "Near the edges". Each line says which sentence it shows and
 -- which nearby reading it shuts out; the numbers are worked out by hand. Assumes nothing.
 --
--- A table of examples lists what a definition gives beside what document 01 says; one equation holds for all of its lines.
+-- A table of examples lists what a definition gives beside what the documents say; one equation holds for all of its lines.
 use Rattle.property.proofs.Basics.{_≡_, refl, List, [], _∷_, _++_, map, ℕ, _-_, _*_, _%_, length, replicate, set}
 use lib.ListN as list
 use Rattle.property.specs.Property.{M, property}
@@ -14,6 +14,7 @@ use Rattle.run.specs.Run.{Tally, storeIf, relax, clear, handle, visitIf, visit,
 use Rattle.run.specs.Run as run
 use Rattle.run.specs.Start.{bound, asked}
 use Rattle.run.specs.Start as start
+use Rattle.affected.specs.Net.{counterpart}
 use Rattle.affected.specs.Affected.{mark, sweep, sweeps, affected}
 use Rattle.affected.specs.Prepared.{cleared, reopened, prepared}
 use Rattle.network.specs.Network.{Rows, Memory, Network, edgesIn, areLandmarks, flat, unsettled, storesOf}
@@ -33,7 +34,7 @@ use Rattle.worked.proofs.Refusals.{changes, worst, change}
 
 -- the lists of a network of deck A with 4 vertices: 2,050 words for each column, those past the count 77; rows as given, and two words
 -- past them that are 99
-abbrev dusty : List ℕ → List ℕ → Network
+abbrev pub dusty : List ℕ → List ℕ → Network
 dusty f b = record {
   memory = record {
     table = record {
@@ -47,10 +48,10 @@ dusty f b = record {
 }
 
 -- deck A, landmark 0: "Reading the outward row as homeward" is shut out: 0 has a way to each vertex, and none has a way to 0
-abbrev forwardOf0 : List ℕ
+abbrev pub forwardOf0 : List ℕ
 forwardOf0 = (0 ∷ 4 ∷ 8 ∷ 9 ∷ []) ++ (0 ∷ 1 ∷ 2 ∷ 1 ∷ []) ++ (M ∷ 4 ∷ 4 ∷ 9 ∷ []) ++ (0 ∷ 4 ∷ 4 ∷ 9 ∷ []) ++ (1 ∷ 1 ∷ 1 ∷ 1 ∷ [])
 
-abbrev backwardOf0 : List ℕ
+abbrev pub backwardOf0 : List ℕ
 backwardOf0 = (0 ∷ M ∷ M ∷ M ∷ []) ++ (0 ∷ M ∷ M ∷ M ∷ []) ++ (M ∷ 0 ∷ 0 ∷ 0 ∷ []) ++ (0 ∷ M ∷ M ∷ M ∷ []) ++ (1 ∷ 0 ∷ 0 ∷ 0 ∷ [])
 
 -- deck A, landmark 2
@@ -83,7 +84,7 @@ abbrev forwardTaken : List ℕ
 forwardTaken = (0 ∷ 15 ∷ 11 ∷ 9 ∷ []) ++ (0 ∷ 3 ∷ 2 ∷ 1 ∷ []) ++ (M ∷ 2 ∷ 2 ∷ 9 ∷ []) ++ (0 ∷ 9 ∷ 9 ∷ 9 ∷ []) ++ (1 ∷ 1 ∷ 1 ∷ 1 ∷ [])
 
 -- the lists after a batch: "Records from the new count to 2,047 become zero", words from 2,048 on stay, and so do words past the rows
-abbrev swept : List ℕ → List ℕ → List ℕ → List ℕ → List ℕ → Memory
+abbrev pub swept : List ℕ → List ℕ → List ℕ → List ℕ → List ℕ → Memory
 swept ts hs ws f b = record {
   table = record {
     tails = ts ++ replicate (2048 - length ts) 0 ++ (77 ∷ 77 ∷ []);
@@ -93,7 +94,7 @@ swept ts hs ws f b = record {
   rows = record { forward = f ++ (99 ∷ 99 ∷ []); backward = b ++ (99 ∷ 99 ∷ []) };
 }
 
-abbrev report : ℕ → ℕ → ℕ → Reply Report
+abbrev pub report : ℕ → ℕ → ℕ → Reply Report
 report m a s = accepted (record { count = m; affected = a; stores = s })
 
 abbrev batches : List (Outcome Report Memory × Outcome Report Memory)
@@ -130,24 +131,24 @@ batches =
     ∷ []
 
 batches-said : map (λ c. c .0) batches ≡ map (λ c. c .1) batches
-unfolding batchCall batchFaults replied choose _▷_ refuseIf areLandmarks edges zip order.rules order.follow item words against items edit order.insert order.delete exists unsettled flat storesOf affectedOver anyOf countOf range property settle round visit visitIf handle clear relax storeIf keep keepIf mark sweep sweeps affected cleared reopened prepared
+unfolding batchCall batchFaults replied choose _▷_ refuseIf areLandmarks edges zip order.rules order.follow item words against items edit order.insert order.delete exists unsettled flat storesOf affectedOver anyOf countOf range property settle round visit visitIf handle clear relax storeIf keep keepIf counterpart mark sweep sweeps affected cleared reopened prepared
 batches-said = refl
 
 -- ---- affected vertices and stores of a batch
 
 -- deck A with one landmark, opened
-abbrev withLandmark : ℕ → Network
+abbrev pub withLandmark : ℕ → Network
 withLandmark l = openedNetwork 4 (l ∷ []) (holding graphA (l ∷ []) 4)
 
-abbrev replyTo : ℕ → List Change → Reply Report
+abbrev pub replyTo : ℕ → List Change → Reply Report
 replyTo l b = (batchCall 4 (l ∷ []) (withLandmark l) b) .reply
 
 abbrev reports : List (Reply Report × Reply Report)
 reports =
-    -- "same three words": with another figure the old record is removed and the new one added, for handovers and reach too
-    (replyTo 0 (takes 0 1 ∷ adds 0 1 3 ∷ []), report 5 10 10)
-    -- a store for each word that gets better: time gives 2 the word 14, then 11; worst gives 2 and 1 first 10, then 9
-    ∷ (replyTo 0 (takes 0 1 ∷ adds 0 1 10 ∷ []), report 5 10 13)
+    -- a pair with another figure counts by property (document 02, One): 10 is worse for time and worst stretch, where 1 and 2 are affected, and
+    -- better for headroom; handovers and reach see no change. A store for each word that gets better: time gives 1 the word 10, and 2 the
+    -- word 14, then 11; headroom gives 1 the word 10; worst gives 1 and 2 first 10, then 9
+    (replyTo 0 (takes 0 1 ∷ adds 0 1 10 ∷ []), report 5 4 8)
     -- an added edge has no affected vertices; 3→0 gives 3 a way to 0, a store in each backward row and none in a forward one
     ∷ (replyTo 0 (adds 3 0 5 ∷ []), report 6 0 5)
     -- a removed edge that is not tight affects nobody: 3→2 gives 11 for 8, 2 for 4 and 9 for 4; it is tight for handovers, where it
@@ -164,7 +165,7 @@ reports =
     ∷ []
 
 reports-said : map (λ c. c .0) reports ≡ map (λ c. c .1) reports
-unfolding openCall start.opened batchCall batchFaults replied choose _▷_ refuseIf areLandmarks edges zip order.rules order.follow item words against items edit order.insert order.delete exists unsettled flat storesOf affectedOver anyOf countOf range property settle round visit visitIf handle clear relax storeIf keep keepIf mark sweep sweeps affected cleared reopened prepared
+unfolding openCall start.opened batchCall batchFaults replied choose _▷_ refuseIf areLandmarks edges zip order.rules order.follow item words against items edit order.insert order.delete exists unsettled flat storesOf affectedOver anyOf countOf range property settle round visit visitIf handle clear relax storeIf keep keepIf counterpart mark sweep sweeps affected cleared reopened prepared
 reports-said = refl
 
 -- ---- queries
@@ -364,7 +365,7 @@ abbrev held : Network → List Edge × ℕ × List ℕ × List ℕ
 held w = (edgesIn w, w .count, list.take 4 (w .memory .rows .forward), list.take 4 (w .memory .rows .backward))
 
 lived-now : held (lived 4 (0 ∷ []) (withLandmark 0) history) ≡ (graphNow, 6, 0 ∷ 3 ∷ 7 ∷ 9 ∷ [], 0 ∷ 2 ∷ 6 ∷ 8 ∷ [])
-unfolding openCall start.opened batchCall batchFaults reported replied choose _▷_ refuseIf areLandmarks edges zip order.rules order.follow item words against items edit order.insert order.delete exists unsettled flat anyOf range property settle round visit visitIf handle clear relax storeIf keep keepIf mark sweep sweeps affected cleared reopened prepared
+unfolding openCall start.opened batchCall batchFaults reported replied choose _▷_ refuseIf areLandmarks edges zip order.rules order.follow item words against items edit order.insert order.delete exists unsettled flat anyOf range property settle round visit visitIf handle clear relax storeIf keep keepIf counterpart mark sweep sweeps affected cleared reopened prepared
 lived-now = refl
 
 -- "whether "Turned back" accepts the batch": reckoned from the edges alone it is what the call says, number and place
@@ -382,5 +383,5 @@ unfolding turnedBack item words against items edit order.insert order.delete exi
 turnedBack-said = refl
 
 batchCall-said : map (λ c. changes 4 (0 ∷ []) (withLandmark 0) (c .0)) judgedBatches ≡ map (λ c. c .1) judgedBatches
-unfolding openCall start.opened batchCall batchFaults verdictOf replied choose _▷_ refuseIf areLandmarks edges zip order.rules order.follow item words against items edit order.insert order.delete exists unsettled flat anyOf range property settle round visit visitIf handle clear relax storeIf keep keepIf mark sweep sweeps affected cleared reopened prepared
+unfolding openCall start.opened batchCall batchFaults verdictOf replied choose _▷_ refuseIf areLandmarks edges zip order.rules order.follow item words against items edit order.insert order.delete exists unsettled flat anyOf range property settle round visit visitIf handle clear relax storeIf keep keepIf counterpart mark sweep sweeps affected cleared reopened prepared
 batchCall-said = refl

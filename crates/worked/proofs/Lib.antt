@@ -1,3 +1,4 @@
 pub mod Starred
 pub mod Refusals
 pub mod Examples
+pub mod Retunes

@@ -1,7 +1,7 @@
--- Refusals, computed: document 01, "Turned back" and "Near the edges". Each line says which sentence it shows and
+-- Refusals, computed: document 01, "Turned back" and "Near the edges"; document 02, One. Each line says which sentence it shows and
 -- which nearby reading it shuts out; the numbers are worked out by hand. Assumes nothing.
 --
--- A table of examples lists what a definition gives beside what document 01 says; one equation holds for all of its lines.
+-- A table of examples lists what a definition gives beside what the documents say; one equation holds for all of its lines.
 use Rattle.property.proofs.Basics.{_≡_, refl, List, [], _∷_, _++_, map, ℕ, _+_, _/_, _%_, replicate}
 use lib.ListN as list
 use Rattle.property.specs.Property.{property}
@@ -165,6 +165,9 @@ shorts-said = refl
 abbrev pub change : ℕ → ℕ → ℕ → ℕ → Change
 change k t h w = record { kind = k; tail = t; head = h; weight = w }
 
+abbrev pub retunes : ℕ → ℕ → ℕ → Change
+retunes t h w = change 3 t h w
+
 -- a change against deck A; its place is 5
 abbrev onA : Change → Verdict
 onA c = item 4 5 graphA c
@@ -183,13 +186,15 @@ itemsJudged =
     ∷ (onA (adds 4 0 1), refuse 6 5)
     ∷ (onA (adds 0 4 1), refuse 6 5)
     ∷ (onA (takes 0 4), refuse 6 5)
-    -- 7: neither 1 nor 2, before a loop and a bad figure
+    ∷ (onA (retunes 4 1 4), refuse 6 5)
+    -- 7: none of 1 to 3, before a loop and a bad figure
     ∷ (onA (change 0 1 1 65536), refuse 7 5)
-    ∷ (onA (change 3 0 1 0), refuse 7 5)
+    ∷ (onA (change 4 0 1 0), refuse 7 5)
     -- 8: tail equals head, before a bad figure; a loop's pair is never there, and that is no 11
     ∷ (onA (adds 1 1 0), refuse 8 5)
     ∷ (onA (change 2 1 1 4), refuse 8 5)
     ∷ (onA (takes 1 1), refuse 8 5)
+    ∷ (onA (retunes 1 1 4), refuse 8 5)
     -- 9: an add's figure is 1 to 65,535, a take's is 0 even where the record has that figure; before 10 and 11
     ∷ (onA (adds 0 1 0), refuse 9 5)
     ∷ (onA (adds 1 0 0), refuse 9 5)
@@ -198,17 +203,28 @@ itemsJudged =
     ∷ (onA (change 2 0 1 4), refuse 9 5)
     ∷ (onA (change 2 1 0 4), refuse 9 5)
     ∷ (onA (takes 0 1), accept)
+    -- a retune's figure is "9 as for an add"; before 11
+    ∷ (onA (retunes 0 1 0), refuse 9 5)
+    ∷ (onA (retunes 1 0 0), refuse 9 5)
+    ∷ (onA (retunes 0 1 65535), accept)
+    ∷ (onA (retunes 0 1 65536), refuse 9 5)
     -- 10: the pair is there, whatever its figure; the reversed pair is another
     ∷ (onA (adds 0 1 4), refuse 10 5)
     ∷ (onA (adds 0 1 7), refuse 10 5)
     ∷ (onA (adds 1 0 4), accept)
     -- 11: no such pair; the reversed one does not do
     ∷ (onA (takes 1 0), refuse 11 5)
-    -- 12: an add when 2,048 are there; a pair that is there is 10 first; a take needs no room
+    ∷ (onA (retunes 1 0 4), refuse 11 5)
+    -- a retune of a pair that is there is no 10, whatever its figure
+    ∷ (onA (retunes 0 1 4), accept)
+    ∷ (onA (retunes 0 1 7), accept)
+    -- 12: an add when 2,048 are there; a pair that is there is 10 first; a take or a retune needs no room
     ∷ (onFull (adds 0 1 1 ∷ []), refuse 12 0)
     ∷ (onFull (adds 0 128 1 ∷ []), refuse 10 0)
     ∷ (onFull (takes 0 1 ∷ []), refuse 11 0)
     ∷ (onFull (takes 0 128 ∷ []), accept)
+    ∷ (onFull (retunes 0 128 9 ∷ []), accept)
+    ∷ (onFull (retunes 0 1 9 ∷ []), refuse 11 0)
     -- with 2,047 there is room for one
     ∷ (items 256 0 (list.take 2047 fullTable) (adds 200 0 1 ∷ adds 200 1 1 ∷ []), refuse 12 1)
     -- "against the table as earlier items left it": a take makes room for one add, an add after it finds its pair gone
@@ -219,6 +235,9 @@ itemsJudged =
     ∷ (items 4 0 graphA (adds 1 0 5 ∷ adds 1 0 6 ∷ []), refuse 10 1)
     ∷ (items 4 0 graphA (adds 1 0 5 ∷ takes 1 0 ∷ takes 1 0 ∷ []), refuse 11 2)
     ∷ (items 4 0 graphA (takes 1 0 ∷ adds 1 0 5 ∷ []), refuse 11 0)
+    ∷ (items 4 0 graphA (takes 0 1 ∷ retunes 0 1 3 ∷ []), refuse 11 1)
+    ∷ (items 4 0 graphA (adds 1 0 2 ∷ retunes 1 0 7 ∷ []), accept)
+    ∷ (items 4 0 graphA (retunes 0 1 3 ∷ adds 0 1 3 ∷ []), refuse 10 1)
     -- "the first item with any of 6 to 12, its lowest number": a later item with a lower number is not heard
     ∷ (items 4 0 graphA (adds 1 0 5 ∷ takes 2 0 ∷ worst ∷ []), refuse 11 1)
     -- place is the "index from 0"
@@ -227,5 +246,5 @@ itemsJudged =
     ∷ []
 
 itemsJudged-said : map (λ c. c .0) itemsJudged ≡ map (λ c. c .1) itemsJudged
-unfolding item words against items edit order.insert order.delete exists _▷_ refuseIf range
+unfolding item words against items edit order.insert order.delete order.update exists _▷_ refuseIf range
 itemsJudged-said = refl

@@ -7,6 +7,7 @@ use Rattle.graph.specs.Edge.{keepIf, keep, exists, zip, edges, range}
 use Rattle.graph.specs.Sorted as order
 use Rattle.run.specs.Run.{storeIf, relax, clear, handle, visitIf, visit, takeEntryIf, takeEntry, pass, round, settle}
 use Rattle.run.specs.Start.{opened, bound, asked}
+use Rattle.affected.specs.Net.{counterpart}
 use Rattle.affected.specs.Affected.{mark, sweep, sweeps, affected}
 use Rattle.affected.specs.Prepared.{cleared, reopened, prepared}
 use Rattle.network.specs.Network.{areLandmarks, flat, unsettled, storesOf}
@@ -18,5 +19,5 @@ use Rattle.network.specs.Caller.{reported}
 use Rattle.worked.specs.Starred.{those, saidOfQuery, saidOfBatch, affectedList, answer, found, Starred}
 
 pub starred-found : Starred
-unfolding property anyOf countOf _▷_ refuseIf replied choose keepIf keep exists zip edges range order.follow order.rules order.insert order.delete storeIf relax clear handle visitIf visit takeEntryIf takeEntry pass round settle opened bound asked mark sweep sweeps affected cleared reopened prepared areLandmarks flat unsettled storesOf openCall scheduled queryCall queryFaults edit item words against items affectedOver batchCall batchFaults reported those saidOfQuery saidOfBatch affectedList answer found
+unfolding property anyOf countOf _▷_ refuseIf replied choose keepIf keep exists zip edges range order.follow order.rules order.insert order.delete storeIf relax clear handle visitIf visit takeEntryIf takeEntry pass round settle opened bound asked counterpart mark sweep sweeps affected cleared reopened prepared areLandmarks flat unsettled storesOf openCall scheduled queryCall queryFaults edit item words against items affectedOver batchCall batchFaults reported those saidOfQuery saidOfBatch affectedList answer found
 starred-found = refl

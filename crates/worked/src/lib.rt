@@ -1,1 +1,1 @@
-// No code: the worked lines of document 01, computed from the definitions of the calls.
+// No code: the worked lines of documents 01 and 02, computed from the definitions of the calls.

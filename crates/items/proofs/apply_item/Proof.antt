@@ -16,8 +16,18 @@ fine : (e : tie.After-enum-told) → let a = start e .args in accept ≡ words (
 unfolding told
 fine e = ap told (sym (e .enum-told .given .1)) ∙ e .before .before .judge-words .ensures
 
-struck : (l : tie.Else1) → let a = start (l .before) .args in change (a .kind) (a .t) (a .h) (a .w) ≡ change 2 (a .t) (a .h) 0
-struck l = let a = start (l .before) .args in words-delete (a .n) (a .place) (a .kind) (a .t) (a .h) (a .w) (l .if1 .left) (sym (fine (l .before)))
+-- .. it is a change of the kind that the branch takes it for
+inserted : (b : tie.Then1) → let a = start (b .before) .args in change (a .kind) (a .t) (a .h) (a .w) ≡ change 1 (a .t) (a .h) (a .w)
+inserted b = let a = start (b .before) .args in ap (λ (k : ℕ). change k (a .t) (a .h) (a .w)) (b .if1 .taken)
+
+updated : (b : tie.Then2) → let a = start (b .before .before) .args in change (a .kind) (a .t) (a .h) (a .w) ≡ change 3 (a .t) (a .h) (a .w)
+updated b = let a = start (b .before .before) .args in ap (λ (k : ℕ). change k (a .t) (a .h) (a .w)) (b .if2 .taken)
+
+deleted : (b : tie.Else2) → let a = start (b .before .before) .args in change (a .kind) (a .t) (a .h) (a .w) ≡ change 2 (a .t) (a .h) 0
+deleted b =
+    let e = b .before .before in
+    let a = start e .args in
+    words-delete (a .n) (a .place) (a .kind) (a .t) (a .h) (a .w) (b .before .if1 .left) (b .if2 .left) (sym (fine e))
 
 returns : tie.Need-returns
 unfolding verdict told
@@ -28,31 +38,42 @@ returns c =
 
 insert-item-requires : tie.Need-insert-item-requires
 insert-item-requires c κs =
-    let t = c .before .before .before in
-    let e = t .before in
-    (start e .pre, sym (fine e ∙ ap (λ (k : ℕ). words (start e .args .n) (start e .args .place) (change k (start e .args .t) (start e .args .h) (start e .args .w))) (t .if1 .taken)))
+    let b = c .before .before .before in
+    let e = b .before in
+    (start e .pre, sym (fine e ∙ ap (words (start e .args .n) (start e .args .place)) (inserted b)))
 
 returns-2 : tie.Need-returns-2
 returns-2 c =
     let i = c .before .before .before .before .before .before in
-    let t = i .before .before .before .before in
-    let e = t .before in
-    let a = start e .args in
-    let q = ap (λ (k : ℕ). change k (a .t) (a .h) (a .w)) (t .if1 .taken) in
-    (item-as _ _ _ _ _ q (fine e) (i .insert-item .ensures .0), leaves-as _ (a .place) _ _ _ q (i .insert-item .ensures .1))
+    let b = i .before .before .before .before in
+    let e = b .before in
+    (item-as _ _ _ _ _ (inserted b) (fine e) (i .insert-item .ensures .0), leaves-as _ (start e .args .place) _ _ _ (inserted b) (i .insert-item .ensures .1))
 
-delete-item-requires : tie.Need-delete-item-requires
-delete-item-requires c κs =
-    let l = c .before .before .before in
-    let e = l .before in
-    (start e .pre, sym (fine e ∙ ap (words (start e .args .n) (start e .args .place)) (struck l)))
+update-item-requires : tie.Need-update-item-requires
+update-item-requires c κs =
+    let b = c .before .before .before in
+    let e = b .before .before in
+    (start e .pre, sym (fine e ∙ ap (words (start e .args .n) (start e .args .place)) (updated b)))
 
 returns-3 : tie.Need-returns-3
 returns-3 c =
     let i = c .before .before .before .before .before .before in
-    let l = i .before .before .before .before in
-    let e = l .before in
-    (item-as _ _ _ _ _ (struck l) (fine e) (i .delete-item .ensures .0), leaves-as _ (start e .args .place) _ _ _ (struck l) (i .delete-item .ensures .1))
+    let b = i .before .before .before .before in
+    let e = b .before .before in
+    (item-as _ _ _ _ _ (updated b) (fine e) (i .update-item .ensures .0), leaves-as _ (start e .args .place) _ _ _ (updated b) (i .update-item .ensures .1))
+
+delete-item-requires : tie.Need-delete-item-requires
+delete-item-requires c κs =
+    let b = c .before .before .before in
+    let e = b .before .before in
+    (start e .pre, sym (fine e ∙ ap (words (start e .args .n) (start e .args .place)) (deleted b)))
+
+returns-4 : tie.Need-returns-4
+returns-4 c =
+    let i = c .before .before .before .before .before .before in
+    let b = i .before .before .before .before in
+    let e = b .before .before in
+    (item-as _ _ _ _ _ (deleted b) (fine e) (i .delete-item .ensures .0), leaves-as _ (start e .args .place) _ _ _ (deleted b) (i .delete-item .ensures .1))
 
 pub apply-item-spec : {M : Type 1} → statement M
 apply-item-spec =
@@ -67,8 +88,13 @@ apply-item-spec =
     (λ c. search needs)
     (λ c. search needs)
     returns-2
+    update-item-requires
+    (λ c. search needs)
+    (λ c. search needs)
+    (λ c. search needs)
+    returns-3
     delete-item-requires
     (λ c. search needs)
     (λ c. search needs)
     (λ c. search needs)
-    returns-3)
+    returns-4)

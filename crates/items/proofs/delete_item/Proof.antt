@@ -4,11 +4,11 @@ use Rattle.graph.specs.declared.Found.the-variants.{At}
 use Rattle.graph.specs.Limits.{maxEdges}
 use Rattle.graph.specs.Edge.{edge, edges}
 use Rattle.graph.specs.Code.{Room, find}
-use Rattle.graph.proofs.Records.{room-less, edges-length}
-use Rattle.graph.proofs.Seek.{find-below, delete-found}
+use Rattle.graph.proofs.Records.{room-less}
+use Rattle.graph.proofs.Seek.{delete-found}
 use Rattle.network.specs.Change.{edit}
 use Rattle.items.specs.Code.{change, verdict}
-use Rattle.items.proofs.Editing.{leaves-refused, leaves-count, delete-absent, delete-fine, item-tabled}
+use Rattle.items.proofs.Editing.{leaves-refused, leaves-count, against-absent, against-found, found-below, item-tabled}
 use Rattle.items.proofs.delete_item.Statement.{statement}
 use Rattle.items.proofs.delete_item.Tie as tie
 
@@ -20,17 +20,13 @@ found : (i : tie.After-i) → let a = start i .args in find (edge (a .t) (a .h) 
 found i = sym (i .before .before .find .ensures) ∙ i .i .given .1
 
 below : (i : tie.After-i) → i .i .given .0 .0 < start i .args .count
-below i =
-    let t = start i .pre .0 in
-    let q = edges-length _ _ _ _ (room-less (t .few) (t .room)) in
-    let l = find-below _ _ _ _ (found i) in
-    omega arith
+below i = found-below _ _ _ _ _ (start i .pre .0) _ _ (found i)
 
 returns : tie.Need-returns
 unfolding verdict
 returns c =
     let f = c .before .before in
-    (delete-absent _ _ _ _ (sym (f .find .ensures) ∙ c .enum-told .given .1), leaves-refused _ _ _ _ _ _ _ _ refl)
+    (against-absent _ 2 _ _ 0 _ refl (sym (f .find .ensures) ∙ c .enum-told .given .1), leaves-refused _ _ _ _ _ _ _ _ refl)
 
 delete-at-requires : tie.Need-delete-at-requires
 delete-at-requires c κs =
@@ -47,7 +43,7 @@ returns-2 c =
     let d = c .before .before .before .before .before .before in
     let i = d .before .before .before .before .before in
     let s = start i in
-    let a = delete-fine _ (s .args .t) (s .args .h) (s .args .place) _ (found i) in
+    let a = against-found _ 2 (s .args .t) (s .args .h) 0 (s .args .place) refl _ (found i) in
     let e = d .delete-at .ensures ∙ delete-found _ _ _ _ (found i) in
     let t : s .args .count ≤ maxEdges = s .pre .0 .few in
     let r : Room maxEdges (d .delete-at .last .1 .0) (d .delete-at .last .1 .1 .0) (d .delete-at .last .1 .1 .1 .0) = record { tails = omega arith; heads = omega arith; weights = omega arith } in

@@ -4,10 +4,10 @@ use Rattle.items.proofs.is_suited.Statement.{statement}
 use Rattle.items.proofs.is_suited.Tie as tie
 
 returns : tie.Need-returns
-returns c = rw (eq-eqb _ _ (c .before .if1 .taken)) (c .is-weight .ensures)
+returns c = rw (eq-eqb _ _ (c .if1 .taken))
 
 returns-2 : tie.Need-returns-2
-returns-2 c = rw (ne-eqb _ _ (c .if1 .left))
+returns-2 c = rw (ne-eqb _ _ (c .before .if1 .left)) (c .is-weight .ensures)
 
 pub is-suited-spec : {M : Type 1} → statement M
 is-suited-spec = tie.close (tie.spec (λ c κs. search needs) returns returns-2)
