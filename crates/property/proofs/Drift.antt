@@ -1,8 +1,24 @@
--- The five properties are steady, and all but SSSP are even. Assumes nothing.
-use Rattle.property.proofs.Basics.{_≡_, refl, _≢_, ℕ, zero, suc, _+_, arith}
+-- What theorems about moved weights need of a property: the five are steady, and all but SSSP are even. Assumes nothing.
+--
+--   Meets P k      == two values of which each is no worse than something near the other are near
+--   Steady P d k   == near values stay near along one edge, and near weights lead from one value to near ones
+--   Even P d k     == near values stay near along two edges of near weights
+use Rattle.property.proofs.Basics.{_≡_, refl, _≢_, false, ℕ, zero, suc, _+_, arith}
 use Rattle.property.specs.Property.{Property, sssp, bfs, sswp, ssnp, ssr, property}
-use Rattle.property.specs.Drift.{Near, slack, Steady, Even}
+use Rattle.property.specs.Drift.{Near, slack}
 use Rattle.property.proofs.Tests.{tests}
+
+abbrev pub Meets : Property → ℕ → Type 0
+Meets P k = (u v w x : ℕ) → Near k u v → P .better u w ≡ false → Near k x w → P .better x v ≡ false → Near k v w
+
+pub record Steady (P : Property) (d k : ℕ) : Type 0 where
+  pub along-near : (a b w : ℕ) → Near k a b → Near k (P .along a w) (P .along b w)
+  pub weight-near : (a v w : ℕ) → Near d v w → Near k (P .along a v) (P .along a w)
+  pub near-meets : Meets P k
+
+pub record Even (P : Property) (d k : ℕ) : Type 0 where
+  pub along-even : (a b v w : ℕ) → Near k a b → Near d v w → Near k (P .along a v) (P .along b w)
+  pub near-meets : Meets P k
 
 -- ---- near values
 

@@ -8,8 +8,8 @@
 use Rattle.property.proofs.Basics.{_≡_, refl, sym, ap, subst, _∙_, _⊎_, inl, inr, ⊎-elim, Bool, true, false, not, true≢false, List, _∷_, List·Memᴰ, List·Memᴰ·head, List·Memᴰ·tail, List·Memᴰ·cases-cons, List·Memᴰ·not-nil, ℕ, _+_, _≤_, max, arith, eqb, eqb-true, eq-eqb}
 use Rattle.property.specs.Property.{M, Property}
 use Rattle.property.specs.Laws.{Laws}
-use Rattle.property.specs.Drift.{Near, Meets, Steady, Even}
-use Rattle.property.proofs.Drift.{near-self, near-back, near-on}
+use Rattle.property.specs.Drift.{Near}
+use Rattle.property.proofs.Drift.{Meets, Steady, Even, near-self, near-back, near-on}
 use Rattle.graph.specs.Edge.{Edge, same, samePair, keep}
 use Rattle.graph.specs.Route.{Route, here, step, Best}
 use Rattle.graph.specs.Moved.{Moved, Zone, ends, next}
