@@ -68,7 +68,7 @@ module _ (ts hs ws : List ℕ) (m : ℕ) (r : Room m ts hs ws) (n : ℕ) (a : ru
 pub weight-set : (ts hs ws : List ℕ) (m : ℕ) → Room m ts hs ws → (t h w i : ℕ) → i < m → find (edge t h 0) (edges ts hs ws m) ≡ At i
     → edges ts hs (set ws i w) m ≡ update (edge t h w) (edges ts hs ws m)
 weight-set ts hs ws m r t h w i l f =
-    let e = found-same tableOrder (edge 0 0 0) (edge t h 0) (edges ts hs ws m) i f in
+    let e = found-same tableOrder (edge t h 0) (edges ts hs ws m) i f (edge 0 0 0) in
     let z = alike-pair (edge t h 0) (edgeAt ts hs ws i) (rw (edges-at ts hs ws m r i l) at e) in
     edges-set ts hs ws m r i w l
     ∙ rw (← (z .0), ← (z .1)) (update-found tableOrder (edge t h w) (edges ts hs ws m) i (find-pair t h w (edges ts hs ws m) ∙ f))

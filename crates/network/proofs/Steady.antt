@@ -32,7 +32,7 @@ use Rattle.network.specs.Batch.{batchRow, batchRows, affectedOver, rewri
 use Rattle.network.specs.Settled.{settled, found, Check, inRecords, inRows, check, settledCall}
 use Rattle.network.specs.Caller.{reported, handOn}
 use Rattle.network.specs.History.{moment}
-use Rattle.network.specs.Steady.{EmptyBatch, OwnFigure, SettledAfter}
+use Rattle.network.specs.Steady.{EmptyBatch, OwnWeight, SettledAfter}
 use Rattle.network.proofs.Items.{table-sound, table-count, rewritten-edges}
 use Rattle.network.proofs.Rows.{RowsBest, unsettled-map}
 use Rattle.network.proofs.Moment.{Good, good-within, faults-parts, moment-good}
@@ -223,9 +223,9 @@ own-edit n es h c u m =
     rw k (update-own es (sorted-distinct table-ordered (isEdge n) es (rules-accept n es h)) (named c) m)
 
 -- The update is accepted and leaves the edges as they are, as no change does; and nothing else of a batch goes into its outcome.
-pub own-figure : OwnFigure
+pub own-weight : OwnWeight
 unfolding batchCall batchFaults items _▷_ refuseIf
-own-figure n ls w h c u m =
+own-weight n ls w h c u m =
     let r : rules n (edgesIn w) ≡ accept = table-accept n (w .memory .table) (w .count) (faults-parts n ls w h .4) .1 in
     rw (own-item n (edgesIn w) r c u m, own-edit n (edgesIn w) r c u m)
 

@@ -12,7 +12,7 @@
 --   BatchStays   == so does an accepted batch of the words past the rows, and its table lists are zeroed past the new count   batch-stays
 --   EmptyBatch   == on any network that numbers 1 to 4 let pass, whatever words its rows hold, the batch without changes is accepted; it
 --                   reports the count as before, no affected vertex and no store; each word of the row lists and each record stays  empty-batch
---   OwnFigure    == on any such network, a batch of one update that gives an edge the weight it has does what the batch without changes does   own-figure
+--   OwnWeight    == on any such network, a batch of one update that gives an edge the weight it has does what the batch without changes does   own-weight
 --   SettledAfter == after an accepted opening and any list of batches the settled check says settled                         settled-after
 use mathlib.Core.Path.{_≡_}
 use mathlib.Core.Bool.{true}
@@ -62,8 +62,8 @@ EmptyBatch = (n : ℕ) (ls : List ℕ) (w : Network) → faults n ls w ≡ accep
     × (edgesIn (handOn w (batchCall n ls w [])) ≡ edgesIn w)
 
 -- "its own present figure changes nothing"
-abbrev pub OwnFigure : Type 0
-OwnFigure = (n : ℕ) (ls : List ℕ) (w : Network) → faults n ls w ≡ accept → (c : Change) → updates c ≡ true → List·Memᴰ (named c) (edgesIn w)
+abbrev pub OwnWeight : Type 0
+OwnWeight = (n : ℕ) (ls : List ℕ) (w : Network) → faults n ls w ≡ accept → (c : Change) → updates c ≡ true → List·Memᴰ (named c) (edgesIn w)
     → batchCall n ls w (c ∷ []) ≡ batchCall n ls w []
 
 -- ---- the settled check

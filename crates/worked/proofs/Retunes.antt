@@ -87,9 +87,9 @@ batches-said = refl
 
 -- "For homeward rows all segments are reversed": with 9, 3→2 is worse for the time and worst stretch of 3, and better for the headroom of 3
 -- and 0
-homeward-said : replyTo 2 (retunes 3 2 9 ∷ []) ≡ report 5 2 4
+backward-said : replyTo 2 (retunes 3 2 9 ∷ []) ≡ report 5 2 4
 unfolding openCall opened batchCall batchFaults replied choose _▷_ refuseIf areLandmarks edges zip order.rules order.follow item words against items edit order.update exists unsettled flat storesOf affectedOver anyOf countOf range property settle round visit visitIf handle clear relax storeIf keep keepIf counterpart mark sweep sweeps affected cleared reopened prepared
-homeward-said = refl
+backward-said = refl
 
 -- ---- the network as it is now
 
