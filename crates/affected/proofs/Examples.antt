@@ -1,7 +1,7 @@
 -- Affected vertices of small networks, computed: document 01, "Near the edges, and a small deck"; document 02, One. Assumes nothing.
 use Rattle.property.proofs.Basics.{_≡_, refl, Bool, true, false, List, [], _∷_, map, ℕ}
 use Rattle.property.specs.Property.{M, sssp, sswp, ssr, property}
-use Rattle.graph.specs.Edge.{Edge, edge, reverse}
+use Rattle.graph.specs.Edge.{Edge, edge, reverse, exists}
 use Rattle.graph.specs.Table.{insert, delete, update}
 use Rattle.graph.specs.Sorted as order
 use Rattle.run.specs.Run.{tight}
@@ -66,7 +66,7 @@ narrowed = refl
 
 -- .. and a bettered edge passes on by its old weight: 1→2 of 2 becomes 1, 0→1 goes, and the time 3 of 2 is affected
 passed-on : affected sssp (edge 0 1 1 ∷ edge 1 2 2 ∷ []) (edge 1 2 1 ∷ []) 0 (0 ∷ 1 ∷ 3 ∷ []) 3 ≡ false ∷ true ∷ true ∷ []
-unfolding affected sweeps sweep mark counterpart
+unfolding affected sweeps sweep mark counterpart exists
 passed-on = refl
 
 -- ---- whether a retuned pair counts as removed, and as added, for each property
