@@ -1,5 +1,5 @@
 /* Deck A of document 01: read from text, opened, asked, changed, asked again, written as text. Build and run it by examples/run, which holds what it
- * prints to examples/deck.out. That follows from document 01 by hand, where it does not stand there:
+ * prints to examples/deck.out. That follows from document 01 and from document 02, One, by hand, where it does not stand there:
  *
  * From 0, the landmark, the start words are the forward row, best values: 0 is handled in one round, and nothing is bettered.
  * Delete 0->1: in each of the five forward rows 0->1 is tight, and so is 1->2, so 1 and 2 are affected: 10. No backward row has a route but 0's own.

@@ -1,4 +1,4 @@
-//! Cases worked by hand from document 01, one a line, in networks.txt and texts.txt; README.md has their layout. Each is made through the
+//! Cases worked by hand from document 01 and from request One of document 02, one a line, in networks.txt and texts.txt; README.md has their layout. Each is made through the
 //! archive and through the reference of tests/differential: either must answer what the line says, and both must leave the same in every lent
 //! list. Prints how many cases of each group did, and each line that did not.
 

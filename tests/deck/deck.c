@@ -1,5 +1,5 @@
 /* What plate_track.h gives beside the calls, and plate_track_deck.h: each function, accepted and refused, on Deck A. The expected words are
- * documents 01's and 02's or follow from their tables by hand. Exit status 1 where one differs. Compiled as C11 and as C++17. */
+ * document 01's or follow from it and from document 02, One, by hand. Exit status 1 where one differs. Compiled as C11 and as C++17. */
 #include "plate_track_deck.h"
 
 #include <pthread.h>

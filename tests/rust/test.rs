@@ -1,4 +1,4 @@
-//! bindings/plate_track.rs: what it gives beside the calls, and a refusal as Rust has it. The expected words are documents 01's and 02's, by hand. The calls
+//! bindings/plate_track.rs: what it gives beside the calls, and a refusal as Rust has it. The expected words are document 01's, or follow from it and from document 02, One, by hand. The calls
 //! themselves are held to a reference by tests/differential. tests/rust/run runs it.
 
 #[path = "../../bindings/plate_track.rs"]

@@ -75,24 +75,24 @@ passed-on = refl
 counts : ℕ → ℕ → List (Bool × Bool)
 counts v w = map (λ p. (removed (property p) (edge 0 1 w ∷ []) (edge 0 1 v), added (property p) (edge 0 1 v ∷ []) (edge 0 1 w))) (1 ∷ 2 ∷ 3 ∷ 4 ∷ 5 ∷ [])
 
-more : counts 4 5 ≡ (true, false) ∷ (false, false) ∷ (false, true) ∷ (true, false) ∷ (false, false) ∷ []
+counts-more : counts 4 5 ≡ (true, false) ∷ (false, false) ∷ (false, true) ∷ (true, false) ∷ (false, false) ∷ []
 unfolding counts property counterpart
-more = refl
+counts-more = refl
 
-fewer : counts 4 3 ≡ (false, true) ∷ (false, false) ∷ (true, false) ∷ (false, true) ∷ (false, false) ∷ []
+counts-less : counts 4 3 ≡ (false, true) ∷ (false, false) ∷ (true, false) ∷ (false, true) ∷ (false, false) ∷ []
 unfolding counts property counterpart
-fewer = refl
+counts-less = refl
 
-own : counts 4 4 ≡ (false, false) ∷ (false, false) ∷ (false, false) ∷ (false, false) ∷ (false, false) ∷ []
+counts-own : counts 4 4 ≡ (false, false) ∷ (false, false) ∷ (false, false) ∷ (false, false) ∷ (false, false) ∷ []
 unfolding counts property counterpart
-own = refl
+counts-own = refl
 
 -- ---- removed, and not tight
 
 -- an edge that is removed without being tight affects nobody
-slack : affected sssp graphA (delete (edge 3 2 0) graphA) 0 time 4 ≡ nobody
+not-tight : affected sssp graphA (delete (edge 3 2 0) graphA) 0 time 4 ≡ nobody
 unfolding affected sweeps sweep mark counterpart order.delete graphA time nobody
-slack = refl
+not-tight = refl
 
 -- ---- heads that are never affected
 

@@ -12,9 +12,9 @@ use Rattle.graph.specs.Edge.{Edge, reverse, samePair, alike, exists, present}
 use Rattle.graph.specs.Table.{isEdge, tableOrder, rules}
 use Rattle.graph.specs.Sorted.{Distinct}
 use Rattle.graph.proofs.Tests.{both, neither, and-true, or-false}
-use Rattle.graph.proofs.Edges.{true-exists, reverse-mem}
+use Rattle.graph.proofs.Edges.{true-exists, reverse-mem, pair-ends, ends-pair}
 use Rattle.graph.proofs.Sorted.{sorted-distinct}
-use Rattle.graph.proofs.Order.{table-ordered, alike-pair, pair-alike, rules-accept, sound-fit}
+use Rattle.graph.proofs.Order.{table-ordered, pair-alike, rules-accept, sound-fit}
 use Rattle.theory.proofs.Tight.{Stands}
 use Rattle.affected.specs.Net.{counterpart, lost, removed, added, Outdone, Tells, NetEffect}
 
@@ -37,7 +37,7 @@ unfolding counterpart
 distinct-counterpart [] h e f m p = absurd (List·Memᴰ·not-nil m)
 distinct-counterpart (x ∷ fs) h e f m p = by-test (samePair e x)
     (λ q. rw q (⊎-elim (λ z. ap (λ (y : Edge). y .weight) (sym z))
-    (λ k. let a = alike-pair e x q in let b = alike-pair e f p in
+    (λ k. let a = pair-ends e x q in let b = pair-ends e f p in
     absurd (true≢false (sym (true-exists (alike x) k (pair-alike x f (sym (a .0) ∙ b .0) (sym (a .1) ∙ b .1))) ∙ h .0))) (List·Memᴰ·cases-cons m)))
     (λ q. rw q (⊎-elim (λ z. absurd (true≢false (sym (ap (samePair e) (sym z) ∙ p) ∙ q))) (λ k. distinct-counterpart fs (h .1) e f k p) (List·Memᴰ·cases-cons m)))
 
@@ -49,11 +49,11 @@ counterpart-none (x ∷ fs) e h = let z = neither (samePair e x) (present fs e) 
 -- ---- what is lost, and what is not
 
 -- an edge without a loss stands: there is one of its pair that is no worse
-lost-stands : {P : Property} → Laws P → (fs : List Edge) (e : Edge) → lost P (counterpart fs e) (e .weight) ≡ false → Stands P fs e
+lost-stands : {P : Property} → Laws P → (fs : List Edge) (e : Edge) → lost P (e .weight) (counterpart fs e) ≡ false → Stands P fs e
 lost-stands {P} L fs e h =
     let a = neither (eqb (counterpart fs e) 0) (P .worse (counterpart fs e) (e .weight)) h in
     let (f, m, p, z) = counterpart-found fs e (eqb-false _ _ (a .0)) in
-    let b = alike-pair e f p in
+    let b = pair-ends e f p in
     (f, m, b .0, b .1, λ v. L .worse-along v (f .weight) (e .weight) (ap (λ c. P .worse c (e .weight)) (sym z) ∙ a .1))
 
 pub removed-stands : {P : Property} → Laws P → (fs : List Edge) (e : Edge) → removed P fs e ≡ false → Stands P fs e
@@ -85,20 +85,20 @@ rules-single n fs h = record {
 
 pub single-reverse : (fs : List Edge) → Single fs → Single (map reverse fs)
 single-reverse fs h = record {
-  at = λ e f m p. (let z = alike-pair e f p in
-      net-reverse fs (reverse e) ∙ h .at (reverse e) (reverse f) (reverse-mem fs f m) (pair-alike (reverse e) (reverse f) (z .1) (z .0)));
+  at = λ e f m p. (let z = pair-ends e f p in
+      net-reverse fs (reverse e) ∙ h .at (reverse e) (reverse f) (reverse-mem fs f m) (ends-pair (reverse e) (reverse f) (z .1) (z .0)));
   weighs = λ f m. h .weighs (reverse f) (reverse-mem fs f m);
 }
 
 module _ (fs : List Edge) (h : Single fs) (P : Property) where
   -- an edge that is in the table by its three words is not lost
   pub kept-stays : Laws P → (e : Edge) → List·Memᴰ e fs → removed P fs e ≡ false
-  kept-stays L e m = rw (h .at e e m (pair-alike e e refl refl)) (or-false (h .weighs e m) (L .worse-irreflexive (e .weight)))
+  kept-stays L e m = rw (h .at e e m (ends-pair e e refl refl)) (or-false (h .weighs e m) (L .worse-irreflexive (e .weight)))
 
-  outdone : (e : Edge) → lost P (counterpart fs e) (e .weight) ≡ true → Outdone P fs e
+  outdone : (e : Edge) → lost P (e .weight) (counterpart fs e) ≡ true → Outdone P fs e
   outdone e l f m p = rw (h .at e f m p, h .weighs f m) at l
 
-  lost-where : (e : Edge) → Outdone P fs e → lost P (counterpart fs e) (e .weight) ≡ true
+  lost-where : (e : Edge) → Outdone P fs e → lost P (e .weight) (counterpart fs e) ≡ true
   lost-where e o = by-test (eqb (counterpart fs e) 0) (λ q. rw q)
       (λ q. let (f, m, p, z) = counterpart-found fs e (eqb-false _ _ q) in rw (z, h .weighs f m) (o f m p))
 

@@ -13,8 +13,8 @@
 --   AffectedExact           == the marks are the closure, for any words: proved as affected-exact
 --   Named P es fs s ws ms   == each mark of ms is of an affected vertex
 --   mark .. ms e            == the marks after one edge: its head is marked where it touches
---   Fewer P es fs           == the affected vertices are among those of document 01 alone, for which an edge is removed where the new list has not its
---                              three words: each set has them that has the heads of such held edges, and of held ones from its own members
+--   Fewer P es fs           == the affected vertices are among those of document 01 alone, the least set of its kind: any set that holds the head of each
+--                              held edge whose three words are gone, and of each held edge from one of its members, holds all affected vertices
 --   FewerAffected           == so for the rows of both sides, where the new table keeps the rules: proved as fewer-affected
 use mathlib.Core.Path.{_≡_}
 use mathlib.Core.Logic.{_≢_, _↔_}

@@ -4,7 +4,7 @@ use Rattle.graph.specs.Refusal.{accept, accepted, replied, choose}
 use Rattle.graph.specs.Edge.{Edge, reverse, edges}
 use Rattle.graph.specs.Index.{Own}
 use Rattle.graph.proofs.Order.{rules-accept, within}
-use Rattle.compare.specs.Code.{Tables, Net}
+use Rattle.compare.specs.Code.{Tables, Differences}
 use Rattle.graph.specs.Code.{columns}
 use Rattle.apply.specs.declared.Report.{Report}
 use Rattle.apply.specs.declared.Applied.the-variants as applied
@@ -33,7 +33,7 @@ apply-done n ls ts hs ws f b m fs f′ b′ a d u r ts′ hs′ ws′ c o s t =
 -- ---- both tables
 
 -- what the rows are run on has the batch
-pub sides-made : (n m : ℕ) (ts hs ws : List ℕ) (m′ : ℕ) (ts′ hs′ ws′ xs is ris ns rns : List ℕ) → Tables n m ts hs ws m′ ts′ hs′ ws′ → Net (edges ts hs ws m) (edges ts′ hs′ ws′ m′) xs
+pub sides-made : (n m : ℕ) (ts hs ws : List ℕ) (m′ : ℕ) (ts′ hs′ ws′ xs is ris ns rns : List ℕ) → Tables n m ts hs ws m′ ts′ hs′ ws′ → Differences (edges ts hs ws m) (edges ts′ hs′ ws′ m′) xs
     → Own n is (edges ts hs ws m) → Own n ris (map reverse (edges ts hs ws m)) → Own n ns (edges ts′ hs′ ws′ m′) → Own n rns (map reverse (edges ts′ hs′ ws′ m′))
     → Sides n (edges ts hs ws m) (edges ts′ hs′ ws′ m′) xs is ris ns rns
 sides-made n m ts hs ws m′ ts′ hs′ ws′ xs is ris ns rns t d p q r s =

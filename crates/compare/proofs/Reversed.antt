@@ -6,7 +6,10 @@ use Rattle.graph.specs.Edge.{Edge, reverse}
 use Rattle.graph.proofs.Edges.{mem-reverse, reverse-mem}
 use Rattle.affected.specs.Net.{counterpart}
 use Rattle.affected.proofs.Net.{net-reverse}
-use Rattle.compare.specs.Code.{before, after, pairs, Inside, Lists, Net}
+use Rattle.compare.specs.Code.{before, after, pairs, Inside, differs, Lists, Differences}
+
+differs-reverse : (fs : List Edge) (e : Edge) → differs (map reverse fs) (reverse e) ≡ differs fs e
+differs-reverse fs e = ap (λ c. not (eqb c (e .weight))) (net-reverse fs e)
 
 -- the same edges, reversed
 pub lists-reverse : (es fs : List Edge) (g h : ℕ) (f k : ℕ → Edge) (o p : ℕ → ℕ) → h ≡ g → ((i : ℕ) → i < g → k i ≡ reverse (f i)) → ((i : ℕ) → i < g → p i ≡ o i) → Lists es fs g f o
@@ -14,8 +17,9 @@ pub lists-reverse : (es fs : List Edge) (g h : ℕ) (f k : ℕ → Edge) (o p : 
 lists-reverse es fs g h f k o p q e u l = rw q (record {
   among = λ i a w. let x = e i a in rw x (mem-reverse (l .among i a (rw x at w)));
   other = λ i a w. let x = e i a in ap (counterpart (map reverse fs)) x ∙ net-reverse fs (f i) ∙ l .other i a (rw x at w) ∙ sym (u i a);
+  apart = λ i a w. let x = e i a in ap (differs (map reverse fs)) x ∙ differs-reverse fs (f i) ∙ l .apart i a (rw x at w);
   all = λ x m r.
-      let z = l .all (reverse x) (reverse-mem es x m) (ap (λ c. not (eqb c (x .weight))) (sym (net-reverse fs (reverse x))) ∙ r) in
+      let z = l .all (reverse x) (reverse-mem es x m) (sym (differs-reverse fs (reverse x)) ∙ r) in
       let y = e (z .0) (z .1) in
       (z .0, z .1, y ∙ ap reverse (z .2), rw y (z .3));
   weighs = λ x m. l .weighs (reverse x) (reverse-mem es x m);
@@ -77,12 +81,12 @@ module _ (xs ys : List ℕ) (t : Turned xs ys (pairs xs)) where
       let y = arcHead (getD xs (2 * i) 0) in
       rw (t .first i l, t .second i l, head-arc x (arcWeight (getD xs (2 * i) 0)) (low-weight _), head-arc y (arcWeight (getD xs (2 * i + 1) 0)) (low-weight _), weight-arc y (arcWeight (getD xs (2 * i + 1) 0)) (low-weight _))
 
-  pub turned-net : (es fs : List Edge) → Net es fs xs → Net (map reverse es) (map reverse fs) ys
+  pub turned-net : (es fs : List Edge) → Differences es fs xs → Differences (map reverse es) (map reverse fs) ys
   turned-net es fs d =
       let q : pairs ys ≡ pairs xs = ap (λ (l : ℕ). l / 2) (t .size) in
       record {
-        removed = lists-reverse es fs (pairs xs) _ _ _ _ _ q turned-before (λ i l. ap (λ (x : Edge). x .weight) (turned-after i l)) (d .removed);
-        added = lists-reverse fs es (pairs xs) _ _ _ _ _ q turned-after (λ i l. ap (λ (x : Edge). x .weight) (turned-before i l)) (d .added);
+        old = lists-reverse es fs (pairs xs) _ _ _ _ _ q turned-before (λ i l. ap (λ (x : Edge). x .weight) (turned-after i l)) (d .old);
+        new = lists-reverse fs es (pairs xs) _ _ _ _ _ q turned-after (λ i l. ap (λ (x : Edge). x .weight) (turned-before i l)) (d .new);
       }
 
   pub turned-inside : (n : ℕ) → Inside n xs → Inside n ys

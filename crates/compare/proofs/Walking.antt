@@ -7,7 +7,7 @@
 -- Both tables are sorted by pair. At each step the edge that comes first is gone past: if it comes before the other table's edge at hand, it
 -- stands nowhere in the other table, since all before that one precede it and all from there on come after it. If both are of one pair, both
 -- are gone past, and they differ where their weights do.
-use Rattle.property.proofs.Basics.{_≡_, refl, sym, ap, _∙_, _⊎_, ⊎-elim, Bool, true, false, not, _&&_, cond, true≢false, List, ℕ, _+_, _*_, _/_, _≤_, _<_, ℕ-discrete, decLt, arith, length, getD, set, take, length-set, getD-set-same, getD-set-other, length-take-le, getD-take, eqb, ltb, ltb-true, lt-ltb, eqb-true, eqb-false, eq-eqb, ne-eqb, not-true, not-false}
+use Rattle.property.proofs.Basics.{_≡_, refl, sym, ap, _∙_, _⊎_, ⊎-elim, _≢_, Bool, true, false, not, _&&_, cond, true≢false, List, ℕ, _+_, _*_, _/_, _≤_, _<_, ℕ-discrete, decLt, arith, length, getD, set, take, length-set, getD-set-same, getD-set-other, length-take-le, getD-take, eqb, ltb, ltb-true, lt-ltb, eqb-true, eqb-false, eq-eqb, ne-eqb, not-true, not-false}
 use Rattle.graph.specs.Limits.{maxWeight}
 use Rattle.graph.specs.Refusal.{accept}
 use Rattle.graph.specs.Arc.{arcWeights, arc, arcHead}
@@ -15,8 +15,9 @@ use Rattle.graph.specs.Edge.{Edge, edge, edges, alike, precedes}
 use Rattle.graph.specs.Table.{rules}
 use Rattle.graph.specs.Code.{Room, edgeAt, position}
 use Rattle.graph.proofs.Tests.{both}
+use Rattle.graph.proofs.Edges.{ends-pair}
 use Rattle.graph.proofs.Sorted.{before-asym}
-use Rattle.graph.proofs.Order.{table-ordered, pair-alike, rules-accept, sound-fit}
+use Rattle.graph.proofs.Order.{table-ordered, rules-accept, sound-fit}
 use Rattle.graph.proofs.Arcs.{head-arc, weight-arc}
 use Rattle.graph.proofs.Lists.{mem-index}
 use Rattle.graph.proofs.Lookup.{absent-present, find-other}
@@ -24,7 +25,7 @@ use Rattle.graph.proofs.Own.{tails-below, heads-below, weights-range}
 use Rattle.graph.proofs.Records.{edges-length, edges-at, edges-mem}
 use Rattle.affected.specs.Net.{counterpart}
 use Rattle.affected.proofs.Net.{rules-single, counterpart-none}
-use Rattle.compare.specs.Code.{before, after, Inside, differs, Lists, Net, Passed, Tables}
+use Rattle.compare.specs.Code.{before, after, Inside, differs, Lists, Differences, Passed, Tables}
 use Rattle.compare.proofs.Listing.{passed-none, passed-more, passed-next, passed-position}
 
 -- ---- which edge comes first
@@ -90,7 +91,7 @@ module _ (n m : ℕ) (ts hs ws : List ℕ) (r : Room m ts hs ws) (a : rules n (e
   met-counterpart d e =
       let q = met-pair d e in
       rules-single n (edges ts′ hs′ ws′ m′) a′ .at (edgeAt ts hs ws i) (edgeAt ts′ hs′ ws′ j) (edges-mem ts′ hs′ ws′ m′ r′ j (due-first j m′ ts′ hs′ i m ts hs e .0))
-      (pair-alike (edgeAt ts hs ws i) (edgeAt ts′ hs′ ws′ j) (sym (q .0)) (sym (q .1)))
+      (ends-pair (edgeAt ts hs ws i) (edgeAt ts′ hs′ ws′ j) (sym (q .0)) (sym (q .1)))
 
   -- what precedes the edge at hand after a step
   pub passed-step : (i < m → Passed ts′ hs′ ws′ m′ (getD ts i 0) (getD hs i 0) j) → (b c : Bool) → due i m ts hs j m′ ts′ hs′ ≡ b → due j m′ ts′ hs′ i m ts hs ≡ c
@@ -160,19 +161,21 @@ module _ (n m : ℕ) (ts hs ws : List ℕ) (m′ : ℕ) (ts′ hs′ ws′ : Lis
 pub record Half (fs : List Edge) (i g : ℕ) (f : ℕ → Edge) (o : ℕ → ℕ) (A : ℕ → Edge) : Type 0 where
   pub among : (k : ℕ) → k < g → 0 < f k .weight → (a : ℕ) × (a < i) × (A a ≡ f k)
   pub other : (k : ℕ) → k < g → 0 < f k .weight → counterpart fs (f k) ≡ o k
+  pub apart : (k : ℕ) → k < g → 0 < f k .weight → differs fs (f k) ≡ true
   pub all : (a : ℕ) → a < i → differs fs (A a) ≡ true → (k : ℕ) × (k < g) × (f k ≡ A a)
 
 pub half-none : (fs : List Edge) (f : ℕ → Edge) (o : ℕ → ℕ) (A : ℕ → Edge) → Half fs 0 0 f o A
-half-none fs f o A = record { among = λ k l. absurd (omega arith); other = λ k l. absurd (omega arith); all = λ a l. absurd (omega arith) }
+half-none fs f o A = record { among = λ k l. absurd (omega arith); other = λ k l. absurd (omega arith); apart = λ k l. absurd (omega arith); all = λ a l. absurd (omega arith) }
 
 -- what was listed stays, one change more is listed, and i′ edges are gone past
 module _ (fs : List Edge) (i i′ g : ℕ) (f h : ℕ → Edge) (o p : ℕ → ℕ) (A : ℕ → Edge) (up : i ≤ i′) (s : (k : ℕ) → k < g → h k ≡ f k) (u : (k : ℕ) → k < g → p k ≡ o k)
     (t : Half fs i g f o A) where
-  half-more : (0 < h g .weight → ((a : ℕ) × (a < i′) × (A a ≡ h g)) × (counterpart fs (h g) ≡ p g)) → ((a : ℕ) → i ≤ a → a < i′ → differs fs (A a) ≡ true → h g ≡ A a)
+  half-more : (0 < h g .weight → ((a : ℕ) × (a < i′) × (A a ≡ h g)) × (counterpart fs (h g) ≡ p g) × (differs fs (h g) ≡ true)) → ((a : ℕ) → i ≤ a → a < i′ → differs fs (A a) ≡ true → h g ≡ A a)
       → Half fs i′ (g + 1) h p A
   half-more z y = record {
     among = λ k l w. old k l w (decLt k g);
     other = λ k l w. out k l w (decLt k g);
+    apart = λ k l w. off k l w (decLt k g);
     all = λ a l r. every a l r (decLt a i);
   }
     where
@@ -187,6 +190,10 @@ module _ (fs : List Edge) (i i′ g : ℕ) (f h : ℕ → Edge) (o p : ℕ → �
       out k l w (yes b) = let x = s k b in ap (counterpart fs) x ∙ t .other k b (rw x at w) ∙ sym (u k b)
       out k l w (no d) = let e = end k l d in rw e (z (rw e at w) .1)
 
+      off : (k : ℕ) → k < g + 1 → 0 < h k .weight → Dec (k < g) → differs fs (h k) ≡ true
+      off k l w (yes b) = let x = s k b in ap (differs fs) x ∙ t .apart k b (rw x at w)
+      off k l w (no d) = let e = end k l d in rw e (z (rw e at w) .2)
+
       every : (a : ℕ) → a < i′ → differs fs (A a) ≡ true → Dec (a < i) → (k : ℕ) × (k < g + 1) × (h k ≡ A a)
       every a l r (yes b) = let q = t .all a b r in (q .0, (let o : q .0 < g = q .1 in omega arith), s (q .0) (q .1) ∙ q .2)
       every a l r (no d) = (g, omega arith, y a (omega arith) l r)
@@ -196,6 +203,7 @@ module _ (fs : List Edge) (i i′ g : ℕ) (f h : ℕ → Edge) (o p : ℕ → �
   half-same y = record {
     among = λ k b w. let x = s k b in let q = t .among k b (rw x at w) in (q .0, (let o : q .0 < i = q .1 in omega arith), q .2 ∙ sym x);
     other = λ k b w. let x = s k b in ap (counterpart fs) x ∙ t .other k b (rw x at w) ∙ sym (u k b);
+    apart = λ k b w. let x = s k b in ap (differs fs) x ∙ t .apart k b (rw x at w);
     all = λ a l r. every a l r (decLt a i);
   }
     where
@@ -209,8 +217,9 @@ module _ (fs : List Edge) (i g : ℕ) (f h : ℕ → Edge) (o p : ℕ → ℕ) (
   this : (a : ℕ) → i ≤ a → a < i + 1 → i ≡ a
   this a l b = omega arith
 
-  half-list : counterpart fs (A i) ≡ p g → h g ≡ A i → Half fs (i + 1) (g + 1) h p A
-  half-list r e = half-more fs i (i + 1) g f h o p A (omega arith) s u t (λ w. ((i, omega arith, sym e), ap (counterpart fs) e ∙ r)) (λ a l b q. e ∙ ap A (this a l b))
+  half-list : (c : ℕ) → counterpart fs (A i) ≡ c → c ≢ A i .weight → p g ≡ c → h g ≡ A i → Half fs (i + 1) (g + 1) h p A
+  half-list c r d y e = half-more fs i (i + 1) g f h o p A (omega arith) s u t
+      (λ w. ((i, omega arith, sym e), ap (counterpart fs) e ∙ r ∙ sym y, ap (differs fs) e ∙ ap not (ne-eqb _ _ (λ z. d (sym r ∙ z))))) (λ a l b q. e ∙ ap A (this a l b))
 
   half-skip : differs fs (A i) ≡ false → Half fs (i + 1) g h p A
   half-skip r = half-same fs i (i + 1) g f h o p A (omega arith) s u t (λ a l b. ap (λ (x : ℕ). differs fs (A x)) (sym (this a l b)) ∙ r)
@@ -373,9 +382,10 @@ module _ (n m : ℕ) (ts hs ws : List ℕ) (m′ : ℕ) (ts′ hs′ ws′ : Lis
             (half-skip _ i g (before xs) _ (weightAfter xs) _ (edgeAt ts hs ws) (kept-before xs g (e .tail) (e .head) (e .weight) (f .weight) long sx sy) (kept-new xs g (e .tail) (e .head) (e .weight) (f .weight) long sx sy) (wk .old) (level _ e (f .weight) gone (sym z)))
             (half-skip _ j g (after xs) _ (weightBefore xs) _ (edgeAt ts′ hs′ ws′) (kept-after xs g (e .tail) (e .head) (e .weight) (f .weight) long sx sy) (kept-old xs g (e .tail) (e .head) (e .weight) (f .weight) long sx sy) (wk .new) (level _ f (e .weight) come z))
         pick false k =
+            let other = eqb-false (e .weight) (f .weight) k in
             made true true d h (e .tail) (e .head) (e .weight) (f .weight) (g + 1) lx ly sx sy (omega arith) (let z = wk .few in omega arith)
-            (half-list _ i g (before xs) _ (weightAfter xs) _ (edgeAt ts hs ws) (kept-before xs g (e .tail) (e .head) (e .weight) (f .weight) long sx sy) (kept-new xs g (e .tail) (e .head) (e .weight) (f .weight) long sx sy) (wk .old) (gone ∙ sym (stored-new xs g (e .tail) (e .head) (e .weight) (f .weight) long sx sy)) (stored-before xs g (e .tail) (e .head) (e .weight) (f .weight) long sx sy))
-            (half-list _ j g (after xs) _ (weightBefore xs) _ (edgeAt ts′ hs′ ws′) (kept-after xs g (e .tail) (e .head) (e .weight) (f .weight) long sx sy) (kept-old xs g (e .tail) (e .head) (e .weight) (f .weight) long sx sy) (wk .new) (come ∙ sym (stored-old xs g (e .tail) (e .head) (e .weight) (f .weight) long sx sy))
+            (half-list _ i g (before xs) _ (weightAfter xs) _ (edgeAt ts hs ws) (kept-before xs g (e .tail) (e .head) (e .weight) (f .weight) long sx sy) (kept-new xs g (e .tail) (e .head) (e .weight) (f .weight) long sx sy) (wk .old) (f .weight) gone (λ z. other (sym z)) (stored-new xs g (e .tail) (e .head) (e .weight) (f .weight) long sx sy) (stored-before xs g (e .tail) (e .head) (e .weight) (f .weight) long sx sy))
+            (half-list _ j g (after xs) _ (weightBefore xs) _ (edgeAt ts′ hs′ ws′) (kept-after xs g (e .tail) (e .head) (e .weight) (f .weight) long sx sy) (kept-old xs g (e .tail) (e .head) (e .weight) (f .weight) long sx sy) (wk .new) (e .weight) come other (stored-old xs g (e .tail) (e .head) (e .weight) (f .weight) long sx sy)
             (stored-after xs g (e .tail) (e .head) (e .weight) (f .weight) long sx sy ∙ (λ z. edge (sym (pair .0) z) (sym (pair .1) z) (f .weight))))
 
     -- an edge of the old table alone
@@ -389,8 +399,8 @@ module _ (n m : ℕ) (ts hs ws : List ℕ) (m′ : ℕ) (ts′ hs′ ws′ : Lis
         let k : eqb (e .weight) 0 ≡ false = ne-eqb (e .weight) 0 (λ p. omega arith) in
         rw k
         (made true false d h (e .tail) (e .head) (e .weight) 0 (g + 1) lx ly (omega arith) (omega arith) (omega arith) (let z = wk .few in omega arith)
-        (half-list _ i g (before xs) _ (weightAfter xs) _ (edgeAt ts hs ws) (kept-before xs g (e .tail) (e .head) (e .weight) 0 long (omega arith) (omega arith)) (kept-new xs g (e .tail) (e .head) (e .weight) 0 long (omega arith) (omega arith)) (wk .old)
-        (lone-counterpart n m ts hs ws (t .old .1) (t .old .2) m′ ts′ hs′ ws′ (t .new .1) (t .new .2) i j (wk .behind li) d h ∙ sym (stored-new xs g (e .tail) (e .head) (e .weight) 0 long (omega arith) (omega arith))) (stored-before xs g (e .tail) (e .head) (e .weight) 0 long (omega arith) (omega arith)))
+        (half-list _ i g (before xs) _ (weightAfter xs) _ (edgeAt ts hs ws) (kept-before xs g (e .tail) (e .head) (e .weight) 0 long (omega arith) (omega arith)) (kept-new xs g (e .tail) (e .head) (e .weight) 0 long (omega arith) (omega arith)) (wk .old) 0
+        (lone-counterpart n m ts hs ws (t .old .1) (t .old .2) m′ ts′ hs′ ws′ (t .new .1) (t .new .2) i j (wk .behind li) d h) (λ z. omega arith) (stored-new xs g (e .tail) (e .head) (e .weight) 0 long (omega arith) (omega arith)) (stored-before xs g (e .tail) (e .head) (e .weight) 0 long (omega arith) (omega arith)))
         (half-stay _ j g (after xs) _ (weightBefore xs) _ (edgeAt ts′ hs′ ws′) (kept-after xs g (e .tail) (e .head) (e .weight) 0 long (omega arith) (omega arith)) (kept-old xs g (e .tail) (e .head) (e .weight) 0 long (omega arith) (omega arith)) (wk .new) (stored-new xs g (e .tail) (e .head) (e .weight) 0 long (omega arith) (omega arith))))
 
     -- an edge of the new table alone
@@ -405,8 +415,8 @@ module _ (n m : ℕ) (ts hs ws : List ℕ) (m′ : ℕ) (ts′ hs′ ws′ : Lis
         rw k
         (made false true d h (f .tail) (f .head) 0 (f .weight) (g + 1) lx ly (omega arith) (omega arith) (omega arith) (let z = wk .few in omega arith)
         (half-stay _ i g (before xs) _ (weightAfter xs) _ (edgeAt ts hs ws) (kept-before xs g (f .tail) (f .head) 0 (f .weight) long (omega arith) (omega arith)) (kept-new xs g (f .tail) (f .head) 0 (f .weight) long (omega arith) (omega arith)) (wk .old) (stored-old xs g (f .tail) (f .head) 0 (f .weight) long (omega arith) (omega arith)))
-        (half-list _ j g (after xs) _ (weightBefore xs) _ (edgeAt ts′ hs′ ws′) (kept-after xs g (f .tail) (f .head) 0 (f .weight) long (omega arith) (omega arith)) (kept-old xs g (f .tail) (f .head) 0 (f .weight) long (omega arith) (omega arith)) (wk .new)
-        (lone-counterpart n m′ ts′ hs′ ws′ (t .new .1) (t .new .2) m ts hs ws (t .old .1) (t .old .2) j i (wk .ahead lj) h d ∙ sym (stored-old xs g (f .tail) (f .head) 0 (f .weight) long (omega arith) (omega arith))) (stored-after xs g (f .tail) (f .head) 0 (f .weight) long (omega arith) (omega arith))))
+        (half-list _ j g (after xs) _ (weightBefore xs) _ (edgeAt ts′ hs′ ws′) (kept-after xs g (f .tail) (f .head) 0 (f .weight) long (omega arith) (omega arith)) (kept-old xs g (f .tail) (f .head) 0 (f .weight) long (omega arith) (omega arith)) (wk .new) 0
+        (lone-counterpart n m′ ts′ hs′ ws′ (t .new .1) (t .new .2) m ts hs ws (t .old .1) (t .old .2) j i (wk .ahead lj) h d) (λ z. omega arith) (stored-old xs g (f .tail) (f .head) 0 (f .weight) long (omega arith) (omega arith)) (stored-after xs g (f .tail) (f .head) 0 (f .weight) long (omega arith) (omega arith))))
 
     -- any step
     pub walk-turn : (b c : Bool) → b ≡ due i m ts hs j m′ ts′ hs′ → c ≡ due j m′ ts′ hs′ i m ts hs → (x y o w : ℕ) → x ≡ cond b (e .tail) (f .tail) → y ≡ cond b (e .head) (f .head) → o ≡ cond b (e .weight) 0 → w ≡ cond c (f .weight) 0
@@ -424,6 +434,7 @@ half-done : (ts hs ws : List ℕ) (m : ℕ) (r : Room m ts hs ws) (n : ℕ) → 
 half-done ts hs ws m r n a fs g f k o p j q s u t = rw q (record {
   among = λ i b w. let x = s i b in let z = t .among i b (rw x at w) in rw (x, sym (z .2)) (edges-mem ts hs ws m r (z .0) (z .1));
   other = λ i b w. let x = s i b in ap (counterpart fs) x ∙ t .other i b (rw x at w) ∙ sym (u i b);
+  apart = λ i b w. let x = s i b in ap (differs fs) x ∙ t .apart i b (rw x at w);
   all = λ e i b.
       let z = mem-index (edge 0 0 0) i in
       let l : z .0 < m = (let y = z .1 in omega (arith, edges-length ts hs ws m r)) in
@@ -442,13 +453,13 @@ module _ (n m : ℕ) (ts hs ws : List ℕ) (m′ : ℕ) (ts′ hs′ ws′ : Lis
   pub walk-inside : Inside n (take (2 * g) xs)
   walk-inside k l = let z = front in rw (getD-take (2 * g) xs k 0 (omega arith)) (wk .inside k (omega arith))
 
-  pub walk-done : (i < m → ⊥) → (j < m′ → ⊥) → Net (edges ts hs ws m) (edges ts′ hs′ ws′ m′) (take (2 * g) xs)
+  pub walk-done : (i < m → ⊥) → (j < m′ → ⊥) → Differences (edges ts hs ws m) (edges ts′ hs′ ws′ m′) (take (2 * g) xs)
   walk-done a b =
       let ei : i ≡ m = (let z = wk .low in omega arith) in
       let ej : j ≡ m′ = (let z = wk .low′ in omega arith) in
       let z = front in
       let q : length (take (2 * g) xs) / 2 ≡ g = omega arith in
       record {
-        removed = half-done ts hs ws m (t .old .1) n (t .old .2) _ g (before xs) _ (weightAfter xs) _ _ q (λ k l. rw (getD-take (2 * g) xs (2 * k) 0 (omega arith), getD-take (2 * g) xs (2 * k + 1) 0 (omega arith))) (λ k l. rw (getD-take (2 * g) xs (2 * k + 1) 0 (omega arith))) (rw ei at (wk .old));
-        added = half-done ts′ hs′ ws′ m′ (t .new .1) n (t .new .2) _ g (after xs) _ (weightBefore xs) _ _ q (λ k l. rw (getD-take (2 * g) xs (2 * k) 0 (omega arith), getD-take (2 * g) xs (2 * k + 1) 0 (omega arith))) (λ k l. rw (getD-take (2 * g) xs (2 * k) 0 (omega arith))) (rw ej at (wk .new));
+        old = half-done ts hs ws m (t .old .1) n (t .old .2) _ g (before xs) _ (weightAfter xs) _ _ q (λ k l. rw (getD-take (2 * g) xs (2 * k) 0 (omega arith), getD-take (2 * g) xs (2 * k + 1) 0 (omega arith))) (λ k l. rw (getD-take (2 * g) xs (2 * k + 1) 0 (omega arith))) (rw ei at (wk .old));
+        new = half-done ts′ hs′ ws′ m′ (t .new .1) n (t .new .2) _ g (after xs) _ (weightBefore xs) _ _ q (λ k l. rw (getD-take (2 * g) xs (2 * k) 0 (omega arith), getD-take (2 * g) xs (2 * k + 1) 0 (omega arith))) (λ k l. rw (getD-take (2 * g) xs (2 * k) 0 (omega arith))) (rw ej at (wk .new));
       }

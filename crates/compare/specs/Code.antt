@@ -4,9 +4,9 @@
 --   pairs xs                == how many changes a list has: two words for each
 --   Inside n xs             == the tails and heads of a list of changes are vertices below n
 --   differs fs e            == the pair of e has another weight in fs, or none
---   Lists es fs g f o       == the edges f i, of i below g, list those of es that differ in fs: each that has a weight is an edge of es whose pair has
---                              the weight o i in fs, and each edge of es that differs is there; and each edge of es has a weight
---   Net es fs xs            == a list of changes has what a batch changed: the edges of es that differ in fs and those of fs that differ in es, each with
+--   Lists es fs g f o       == the edges f i, of i below g, list those of es that differ in fs: each that has a weight is an edge of es that differs, and
+--                              whose pair has the weight o i in fs; each edge of es that differs is there; and each edge of es has a weight
+--   Differences es fs xs    == a list of changes has what a batch changed: the edges of es that differ in fs and those of fs that differ in es, each with
 --                              what stands in its place
 --   Passed ts hs ws m t h j == the first j edges, of m, precede the pair of t and h
 --   Tables n m ts hs ws ..  == two tables that keep the rules of n vertices
@@ -44,12 +44,13 @@ differs fs e = not (eqb (counterpart fs e) (e .weight))
 pub record Lists (es fs : List Edge) (g : ℕ) (f : ℕ → Edge) (o : ℕ → ℕ) : Type 0 where
   pub among : (k : ℕ) → k < g → 0 < f k .weight → List·Memᴰ (f k) es
   pub other : (k : ℕ) → k < g → 0 < f k .weight → counterpart fs (f k) ≡ o k
+  pub apart : (k : ℕ) → k < g → 0 < f k .weight → differs fs (f k) ≡ true
   pub all : (e : Edge) → List·Memᴰ e es → differs fs e ≡ true → (k : ℕ) × (k < g) × (f k ≡ e) × (0 < f k .weight)
   pub weighs : (e : Edge) → List·Memᴰ e es → 0 < e .weight
 
-pub record Net (es fs : List Edge) (xs : List ℕ) : Type 0 where
-  pub removed : Lists es fs (pairs xs) (before xs) (λ k. after xs k .weight)
-  pub added : Lists fs es (pairs xs) (after xs) (λ k. before xs k .weight)
+pub record Differences (es fs : List Edge) (xs : List ℕ) : Type 0 where
+  pub old : Lists es fs (pairs xs) (before xs) (λ k. after xs k .weight)
+  pub new : Lists fs es (pairs xs) (after xs) (λ k. before xs k .weight)
 
 -- ---- two tables
 

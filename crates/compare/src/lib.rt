@@ -11,7 +11,7 @@ ghost use lib.Dec.{eqb, ltb};
 ghost use Rattle.graph.specs.Limits.{maxEdges};
 ghost use Rattle.graph.specs.Arc.{arcHeads, arcWeights, arc};
 ghost use Rattle.graph.specs.Edge.{Edge, edge, reverse, edges, precedes};
-ghost use Rattle.compare.specs.Code.{Tables, Inside, Net};
+ghost use Rattle.compare.specs.Code.{Tables, Inside, Differences};
 
 // Words of a list of changes: two for each edge of both tables, at most.
 pub const NET_WORDS: usize = 4 * graph::MAX_EDGES;
@@ -90,7 +90,7 @@ pub fn differences(
 ) -> usize
     requires { ⌜ ((n : ℕ) × Tables n count1 (now tails1) (now heads1) (now weights1) count2 (now tails2) (now heads2) (now weights2)) × (2 * (count1 + count2) ≤ length (now list)) ⌝ }
     ensures { λ r. ⌜ (r ≤ length (now (list .exit))) × ((n : ℕ) → Tables n count1 (now (tails1 .entry)) (now (heads1 .entry)) (now (weights1 .entry)) count2 (now (tails2 .entry)) (now (heads2 .entry)) (now (weights2 .entry)) → Inside n (take r (now (list .exit)))) ⌝ }
-    ensures { λ r. ⌜ Net (edges (now (tails1 .entry)) (now (heads1 .entry)) (now (weights1 .entry)) count1) (edges (now (tails2 .entry)) (now (heads2 .entry)) (now (weights2 .entry)) count2) (take r (now (list .exit))) ⌝ }
+    ensures { λ r. ⌜ Differences (edges (now (tails1 .entry)) (now (heads1 .entry)) (now (weights1 .entry)) count1) (edges (now (tails2 .entry)) (now (heads2 .entry)) (now (weights2 .entry)) count2) (take r (now (list .exit))) ⌝ }
 {
     let mut size = 0;
     let mut i = 0;
@@ -111,7 +111,7 @@ pub fn differences(
 
 // The list for the reversed edges: tails and heads change over.
 pub fn turn(list: &mut [u32])
-    ensures { λ _. ⌜ ((n : ℕ) → Inside n (now (list .entry)) → Inside n (now (list .exit))) × ((es fs : List Edge) → Net es fs (now (list .entry)) → Net (map reverse es) (map reverse fs) (now (list .exit))) ⌝ }
+    ensures { λ _. ⌜ ((n : ℕ) → Inside n (now (list .entry)) → Inside n (now (list .exit))) × ((es fs : List Edge) → Differences es fs (now (list .entry)) → Differences (map reverse es) (map reverse fs) (now (list .exit))) ⌝ }
 {
     let size = list.len() / 2;
     let mut k = 0;

@@ -1,7 +1,7 @@
--- Lists of edges: those that pass a test, whether one does, membership by the three words, reversed lists. Assumes nothing.
+-- Lists of edges: those that pass a test, whether one does, membership by the three words, reversed lists; and pairs. Assumes nothing.
 use Rattle.property.proofs.Basics.{_≡_, refl, sym, ap, _∙_, ⊎-elim, Bool, true, false≢true, List, [], _∷_, _++_, map, List·Memᴰ, List·Memᴰ·head, List·Memᴰ·tail, List·Memᴰ·cases-cons, List·Memᴰ·not-nil, ℕ, eqb, eqb-true, eq-eqb}
 use Rattle.property.proofs.Tests.{by-test}
-use Rattle.graph.specs.Edge.{Edge, reverse, same, keepIf, keep, exists, among, leaving}
+use Rattle.graph.specs.Edge.{Edge, reverse, same, samePair, keepIf, keep, exists, among, leaving}
 use Rattle.graph.proofs.Tests.{both, and-true, or-right}
 
 -- ---- keep
@@ -36,6 +36,14 @@ unfolding exists
 true-exists f (List·Memᴰ·head p) q = rw (sym (ap f p) ∙ q)
 true-exists f (List·Memᴰ·tail {x = o} {xs = es} m) q = or-right (f o) (true-exists f m q)
 
+-- ---- pairs
+
+pub pair-ends : (e f : Edge) → samePair e f ≡ true → (e .tail ≡ f .tail) × (e .head ≡ f .head)
+pair-ends e f h = let z = both (eqb (e .tail) (f .tail)) _ h in (eqb-true _ _ (z .0), eqb-true _ _ (z .1))
+
+pub ends-pair : (e f : Edge) → e .tail ≡ f .tail → e .head ≡ f .head → samePair e f ≡ true
+ends-pair e f p q = and-true (eq-eqb _ _ p) (eq-eqb _ _ q)
+
 -- ---- membership by the three words
 
 pub same-eq : (e f : Edge) → same e f ≡ true → e ≡ f
@@ -49,10 +57,6 @@ same-eq e f h =
 
 pub among-mem : (es : List Edge) (e : Edge) → among es e ≡ true → List·Memᴰ e es
 among-mem es e h = let (x, m, q) = exists-true (same e) es h in rw (same-eq e x q) m
-
-pub mem-among : {es : List Edge} {e : Edge} → List·Memᴰ e es → among es e ≡ true
-mem-among {e = e} m = true-exists (same e) m
-    (and-true (eq-eqb (e .tail) (e .tail) refl) (and-true (eq-eqb (e .head) (e .head) refl) (eq-eqb (e .weight) (e .weight) refl)))
 
 -- ---- reversed lists
 

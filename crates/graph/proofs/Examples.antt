@@ -137,7 +137,7 @@ deletions-said = refl
 
 -- ---- tests and views of edges
 
--- absence from a table is by "same three words": an edge with another weight is not among them ..
+-- an edge is among others by its three words: with another weight it is not ..
 among-pair : map (among pair) (edge 1 0 7 ∷ edge 1 0 8 ∷ edge 0 1 7 ∷ []) ≡ true ∷ false ∷ false ∷ []
 unfolding exists
 among-pair = refl

@@ -10,17 +10,17 @@ use Rattle.graph.specs.Sorted.{Distinct}
 use Rattle.graph.specs.Sorted as order
 pub use Rattle.graph.specs.Within.{Within}
 use Rattle.graph.proofs.Tests.{both, and-true, neither, same-test}
-use Rattle.graph.proofs.Edges.{true-exists}
+use Rattle.graph.proofs.Edges.{true-exists, pair-ends, ends-pair}
 use Rattle.graph.proofs.Sorted.{Ordered, Sorted}
 use Rattle.graph.proofs.Sorted as sorted
 
 -- ---- the order of edges
 
 pub alike-pair : (e f : Edge) → alike e f ≡ true → (e .tail ≡ f .tail) × (e .head ≡ f .head)
-alike-pair e f h = let z = both (eqb (e .tail) (f .tail)) _ h in (eqb-true _ _ (z .0), eqb-true _ _ (z .1))
+alike-pair e f h = pair-ends e f h
 
 pub pair-alike : (e f : Edge) → e .tail ≡ f .tail → e .head ≡ f .head → alike e f ≡ true
-pair-alike e f p q = and-true (eq-eqb _ _ p) (eq-eqb _ _ q)
+pair-alike e f p q = ends-pair e f p q
 
 abbrev pub Less : Edge → Edge → Type 0
 Less e f = (e .tail < f .tail) ⊎ ((e .tail ≡ f .tail) × (e .head < f .head))

@@ -21,7 +21,7 @@ use Rattle.network.specs.Change.{Change, named, inserts, updates, edit, 
 use Rattle.network.specs.Batch.{longBatch}
 use Rattle.network.specs.Current.{turnedBack, after}
 use Rattle.network.specs.History.{moment, edgesNow}
-use Rattle.network.specs.Drift.{DriftLimit, RoutesStay, NearRows, RetuneLimit, zoneSlack, ZoneLimit}
+use Rattle.network.specs.Drift.{DriftLimit, RoutesStay, NearRows, NearAnswers, RetuneLimit, zoneSlack, ZoneLimit}
 use Rattle.network.proofs.Moment.{good-within, moment-good}
 use Rattle.network.proofs.Never.{open-judged}
 use Rattle.network.proofs.History.{best-over-routes}
@@ -51,24 +51,25 @@ zone-limit p k d n es fs h j z s t v w a b = pick (ℕ-discrete p 1)
     pick (yes q) = rw (eq-eqb p 1 q) (subst (λ l. Near l v w) (ap (λ x. slack x k) q) summed)
     pick (no q) = rw (ne-eqb p 1 q) (retuned-near (property-even p d q) (zone-retuned z) a b)
 
--- ---- the standing words
+-- ---- standing words and answers
 
 -- the network at a moment keeps the rules
 weighed : (n : ℕ) (ls : List ℕ) (w : Network) → faults n ls w ≡ accept → (bs : List (List Change)) → Weighed (edgesNow n w bs)
 weighed n ls w g bs =
     let z = moment-good n ls w (open-judged n ls w ∙ g) bs in subst Weighed (z .1) ((good-within n ls (moment n ls w bs) (z .0)) .weights)
 
--- The rows at a moment hold best values of the network as it is then. So the limit for best values is one for words.
-rows-near : (d n : ℕ) (ls : List ℕ) (w : Network) → faults n ls w ≡ accept → (bs cs : List (List Change)) → Moved d (edgesNow n w bs) (edgesNow n w cs)
-    → NearRows d n ls (moment n ls w bs) (moment n ls w cs)
-rows-near d n ls w g bs cs m =
-    let a = (best-over-routes n ls w g bs) .rows in
-    let b = (best-over-routes n ls w g cs) .rows in
-    record { forward = λ r t l k. near r _ _ _ _ (a .forward r t l k) (b .forward r t l k); backward = λ r t l k. near r _ _ _ _ (a .backward r t l k) (b .backward r t l k) }
+-- The rows at a moment hold best values of the network as it is then, and so do the answers. So the limit for best values is one for words.
+words-near : (d n : ℕ) (ls : List ℕ) (w : Network) → faults n ls w ≡ accept → (bs cs : List (List Change)) → Moved d (edgesNow n w bs) (edgesNow n w cs)
+    → NearRows d n ls (moment n ls w bs) (moment n ls w cs) × NearAnswers d n ls (moment n ls w bs) (moment n ls w cs)
+words-near d n ls w g bs cs m =
+    let a = best-over-routes n ls w g bs in
+    let b = best-over-routes n ls w g cs in (
+      record { forward = λ r t l k. near (suc (r % properties)) _ _ _ _ (a .rows .forward r t l k) (b .rows .forward r t l k); backward = λ r t l k. near (suc (r % properties)) _ _ _ _ (a .rows .backward r t l k) (b .rows .backward r t l k) },
+      λ q out i j e f t k. near (q .property) _ _ _ _ (a .query q out i e t k) (b .query q out j f t k),
+    )
   where
-    near : (r s t u v : ℕ) → Best (property (suc (r % properties))) (edgesNow n w bs) s t u → Best (property (suc (r % properties))) (edgesNow n w cs) s t v
-        → Near (slack (suc (r % properties)) d) u v
-    near r s t u v a b = moved-near (property-laws (suc (r % properties))) (property-steady (suc (r % properties)) d) (weighed n ls w g bs) (weighed n ls w g cs) m a b
+    near : (p s t u v : ℕ) → Best (property p) (edgesNow n w bs) s t u → Best (property p) (edgesNow n w cs) s t v → Near (slack p d) u v
+    near p s t u v a b = moved-near (property-laws p) (property-steady p d) (weighed n ls w g bs) (weighed n ls w g cs) m a b
 
 -- an update of a pair that is there moves one weight
 update-moved : (d : ℕ) (e : Edge) (es : List Edge) → present es e ≡ true → Near d (counterpart es e) (e .weight) → Moved d es (update e es)
@@ -108,6 +109,6 @@ fold-last f a (x ∷ bs) b = fold-last f (f a x) bs b
 -- The network after the update is the one before it with one weight moved.
 pub retune-limit : RetuneLimit
 retune-limit d n ls w g bs c h a near =
-    rows-near d n ls w g bs (bs ++ (c ∷ []) ∷ [])
+    words-near d n ls w g bs (bs ++ (c ∷ []) ∷ [])
     (subst (Moved d (edgesNow n w bs)) (sym (fold-last (after n) _ bs (c ∷ []) ∙ update-after n (edgesNow n w bs) c h a))
     (update-moved d (named c) (edgesNow n w bs) (update-present n (edgesNow n w bs) c h a) near))

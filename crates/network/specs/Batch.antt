@@ -1,4 +1,4 @@
--- A batch: document 01, "Batch". Assumes nothing.
+-- A batch: document 01, "Batch"; document 02, One. Assumes nothing.
 --
 -- es is the list of edges before the batch, fs the list after it, xs a row list before it.
 --

@@ -1,6 +1,6 @@
 -- The changes of a batch: document 01, "Batch" and numbers 6 to 12; document 02, One. Assumes nothing.
 --
---   Change              == a change record: kind (1 add, 2 take, 3 retune), tail, head, weight; an add inserts, a take deletes, a retune updates
+--   Change              == a change record: kind (1 add, 2 take, 3 update), tail, head, weight; an add inserts, a take deletes
 --   named c             == the edge that a change names
 --   inserts c           == c is of kind 1
 --   deletes c           == c is of kind 2

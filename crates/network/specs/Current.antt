@@ -1,4 +1,4 @@
--- The network as it is now: document 01, by that name. It is reckoned from the opening's edges and the change records alone,
+-- The network as it is now: document 01, by that name; document 02, One. It is reckoned from the opening's edges and the change records alone,
 -- never from the program's words. Assumes nothing.
 --
 --   turnedBack n es b   == what "Turned back" says of the batch b where the edges are es: 1, and 6 to 12 of its items. (On a network

@@ -18,7 +18,7 @@
 --   TotalStores .. rs k      == the runs of the rows rs, each from its start and with rounds while any waits, store k words in all
 --   Reported .. r            == the report r has the affected vertices of all rows and the stores of all their runs, no more and no fewer,
 --                               and how many edges there are now
---   BatchHolds n ls es w b   == what the batch b does to w: it is turned back as document 01 says, and then hands on words and
+--   BatchHolds n ls es w b   == what the batch b does to w: it is turned back as the documents say, and then hands on words and
 --                               count as it found them; no word gets worse that is not affected; and what it reports
 --   moment n ls w bs         == the network after the opening on w and the batches bs
 --   edgesNow n w bs          == the network as it is now, at that moment

@@ -20,7 +20,7 @@ use Rattle.run.proofs.States.{marks-set, marks-clear}
 use Rattle.affected.specs.Net.{counterpart, lost, removed}
 use Rattle.affected.specs.Affected.{held, marked, affected}
 use Rattle.compare.specs.Code.{before, after, pairs, Lists}
-use Rattle.prepare.specs.Code.{arcEdge, holds, Going, Grown, marksHead, isLost, Gone, HeadsMarked, Along, Covered, Spreads}
+use Rattle.prepare.specs.Code.{arcEdge, holds, Going, Grown, marksHead, edgeLost, Gone, HeadsMarked, Along, Covered, Spreads}
 use Rattle.prepare.proofs.Bits.{raise-keeps, raise-only, raise-count, bits-all, bits-length, marks-if}
 use Rattle.affected.proofs.Closure.{touches-named}
 use Rattle.affected.proofs.Sweeps.{closed-exact}
@@ -212,20 +212,20 @@ spreads-then p q = record { keeps = λ t k. q .keeps t (p .keeps t k); named = �
 
 module _ {P : Property} (L : Laws P) {es fs : List Edge} {g : ℕ} {f : ℕ → Edge} {o : ℕ → ℕ} (d : Lists es fs g f o) where
   -- each that is lost by what the list says is one of es that is
-  pub listed-lost : (i : ℕ) → i < g → isLost P (f i .weight) (o i) ≡ true → List·Memᴰ (f i) es × (lost P (counterpart fs (f i)) (f i .weight) ≡ true)
+  pub listed-lost : (i : ℕ) → i < g → edgeLost P (f i .weight) (o i) ≡ true → List·Memᴰ (f i) es × (lost P (f i .weight) (counterpart fs (f i)) ≡ true)
   listed-lost i l h =
-      let z = both (ltb 0 (f i .weight)) (lost P (o i) (f i .weight)) h in
+      let z = both (ltb 0 (f i .weight)) (lost P (f i .weight) (o i)) h in
       let w = ltb-true _ _ (z .0) in
       (d .among i l w, rw (d .other i l w) (z .1))
 
   -- an edge of es that is lost differs, since no weight is worse than itself: so it is listed
-  pub lost-listed : (e : Edge) → List·Memᴰ e es → lost P (counterpart fs e) (e .weight) ≡ true → (i : ℕ) × (i < g) × (f i ≡ e) × (isLost P (f i .weight) (o i) ≡ true)
+  pub lost-listed : (e : Edge) → List·Memᴰ e es → lost P (e .weight) (counterpart fs e) ≡ true → (i : ℕ) × (i < g) × (f i ≡ e) × (edgeLost P (f i .weight) (o i) ≡ true)
   lost-listed e m h =
       let y = d .all e m (by-test (eqb (counterpart fs e) (e .weight)) (λ q. absurd (true≢false (sym h ∙ still (eqb-true _ _ q)))) (λ q. ap not q)) in
       let w = y .3 in
       (y .0, y .1, y .2, and-true (lt-ltb _ _ w) (rw (sym (d .other (y .0) (y .1) w), y .2) h))
     where
-      still : counterpart fs e ≡ e .weight → lost P (counterpart fs e) (e .weight) ≡ false
+      still : counterpart fs e ≡ e .weight → lost P (e .weight) (counterpart fs e) ≡ false
       still q = let l = d .weighs e m in rw q (or-false (ne-eqb (e .weight) 0 (λ z. omega arith)) (L .worse-irreflexive (e .weight)))
 
 -- ---- the affected vertices

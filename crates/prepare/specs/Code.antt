@@ -7,7 +7,7 @@
 --   Grown ms ds ms′ ds′          == marks ms with the vertices ds to do became ms′ and ds′: none was taken away, and each new mark is to do
 --   holds P s v w h x            == an edge's words as a test, as `held`: v at its tail, weight w, head h with x
 --   marksHead P s ws ms e        == e marks its head: it holds it up, and the head has no mark yet
---   isLost P w c                 == an edge of weight w, 0 for none, is lost to the property where its pair has the weight c, 0 for none
+--   edgeLost P w c               == there is an edge, of weight w (0 for none), and it is lost to the property where c stands in its place
 --   marksChange P s ws ms e c    == e marks its head where it is lost so
 --   Gone P n s f on j k vs bs ds bs′ ds′ == the edges f i, of i from j to k - 1, that pass the test on marked the heads that they hold up
 --   HeadsMarked P n s xs k vs bs ds bs′ ds′ == so the removed edges of the first k changes of xs
@@ -33,7 +33,7 @@ use Rattle.graph.specs.Index.{Own}
 use Rattle.run.specs.Code.{Marks}
 use Rattle.affected.specs.Net.{lost, removed}
 use Rattle.affected.specs.Affected.{Named, held, marked}
-use Rattle.compare.specs.Code.{before, after, Net}
+use Rattle.compare.specs.Code.{before, after, Differences}
 
 -- ---- what is asked
 
@@ -45,7 +45,7 @@ pub record Batched (n : ℕ) (es fs : List Edge) (is rs xs : List ℕ) : Type 0 
   pub into : (e : Edge) → List·Memᴰ e fs → e .head < n
   pub old : Own n is es
   pub new : Own n rs (map reverse fs)
-  pub net : Net es fs xs
+  pub net : Differences es fs xs
 
 -- ---- how marks go on
 
@@ -67,11 +67,11 @@ pub record Grown (ms ds ms′ ds′ : List Bool) : Type 0 where
 abbrev pub marksHead : Property → ℕ → List ℕ → List Bool → Edge → Bool
 marksHead P s ws ms e = not (marked ms (e .head)) && held P s ws e
 
-abbrev pub isLost : Property → ℕ → ℕ → Bool
-isLost P w c = ltb 0 w && lost P c w
+abbrev pub edgeLost : Property → ℕ → ℕ → Bool
+edgeLost P w c = ltb 0 w && lost P w c
 
 abbrev pub marksChange : Property → ℕ → List ℕ → List Bool → Edge → ℕ → Bool
-marksChange P s ws ms e c = isLost P (e .weight) c && marksHead P s ws ms e
+marksChange P s ws ms e c = edgeLost P (e .weight) c && marksHead P s ws ms e
 
 pub record Gone (P : Property) (n s : ℕ) (f : ℕ → Edge) (on : ℕ → Bool) (j k : ℕ) (vs bs ds bs′ ds′ : List ℕ) : Type 0 where
   pub going : Going n bs′ ds′
@@ -81,7 +81,7 @@ pub record Gone (P : Property) (n s : ℕ) (f : ℕ → Edge) (on : ℕ → Bool
   pub heads : (i : ℕ) → j ≤ i → i < k → on i ≡ true → held P s vs (f i) ≡ true → marked (waitingOf bs′) (f i .head) ≡ true
 
 abbrev pub HeadsMarked : Property → ℕ → ℕ → List ℕ → ℕ → List ℕ → List ℕ → List ℕ → List ℕ → List ℕ → Type 0
-HeadsMarked P n s xs k = Gone P n s (before xs) (λ i. isLost P (before xs i .weight) (after xs i .weight)) 0 k
+HeadsMarked P n s xs k = Gone P n s (before xs) (λ i. edgeLost P (before xs i .weight) (after xs i .weight)) 0 k
 
 abbrev pub Along : Property → ℕ → ℕ → List ℕ → ℕ → ℕ → ℕ → List ℕ → List ℕ → List ℕ → List ℕ → List ℕ → Type 0
 Along P n s is u = Gone P n s (arcEdge is u) (λ i. true)
@@ -106,7 +106,7 @@ abbrev pub Reached : (ℕ → ℕ) → (ℕ → Bool) → ℕ → ℕ → ℕ �
 Reached f on j k t = (i : ℕ) × (j ≤ i) × (i < k) × (on i ≡ true) × (f i ≡ t)
 
 abbrev pub Woken : Property → List ℕ → ℕ → ℕ → Type 0
-Woken P xs k = Reached (λ i. after xs i .tail) (λ i. isLost P (after xs i .weight) (before xs i .weight)) 0 k
+Woken P xs k = Reached (λ i. after xs i .tail) (λ i. edgeLost P (after xs i .weight) (before xs i .weight)) 0 k
 
 abbrev pub Entering : List ℕ → ℕ → ℕ → ℕ → Type 0
 Entering is = Reached (λ i. arcHead (getD is i 0)) (λ i. true)

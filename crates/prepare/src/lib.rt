@@ -18,7 +18,7 @@ ghost use Rattle.run.specs.Code.{bits, Marks};
 ghost use Rattle.affected.specs.Affected as spec;
 ghost use Rattle.affected.specs.Prepared as start;
 ghost use Rattle.compare.specs.Code.{before, after, pairs, Inside};
-ghost use Rattle.prepare.specs.Code.{Batched, Going, holds, marksHead, isLost, marksChange, HeadsMarked, Along, Spreads, Raised, Woken, Entering};
+ghost use Rattle.prepare.specs.Code.{Batched, Going, holds, marksHead, edgeLost, marksChange, HeadsMarked, Along, Spreads, Raised, Woken, Entering};
 
 // ---- what the changes do
 
@@ -61,7 +61,7 @@ fn mark_head(
 // Whether an edge of weight `w` is lost to the property where its pair has the weight `other`, 0 for none: there is such an edge, and nothing or
 // a worse weight in its place. So an old edge is removed by the new weight, and a new one added by the old.
 fn is_lost(p: u32, w: u32, other: u32) -> bool
-    ensures { λ r. ⌜ r ≡ isLost (property p) w other ⌝ }
+    ensures { λ r. ⌜ r ≡ edgeLost (property p) w other ⌝ }
 {
     0 < w && (other == 0 || property::worse(p, other, w))
 }
@@ -94,7 +94,7 @@ fn mark_change(
 // The tail of change `k` waits where it added an edge.
 fn wake_change(p: u32, k: usize, net: &[u32], waiting: &mut Words)
     requires { ⌜ (2 * k + 1 < length (now net)) × Inside maxVertices (now net) ⌝ }
-    ensures { λ _. ⌜ waitingOf (now (waiting .exit)) ≡ cond (isLost (property p) (after (now (net .entry)) k .weight) (before (now (net .entry)) k .weight)) (set (waitingOf (now (waiting .entry))) (after (now (net .entry)) k .tail) true) (waitingOf (now (waiting .entry))) ⌝ }
+    ensures { λ _. ⌜ waitingOf (now (waiting .exit)) ≡ cond (edgeLost (property p) (after (now (net .entry)) k .weight) (before (now (net .entry)) k .weight)) (set (waitingOf (now (waiting .entry))) (after (now (net .entry)) k .tail) true) (waitingOf (now (waiting .entry))) ⌝ }
 {
     let at = 2 * k;
     let t = arc::head(net[at]) as usize;

@@ -1,9 +1,8 @@
--- The five properties of routes: document 01, "Network", the table of properties. Assumes nothing.
+-- The five properties of routes: document 01, "Network", the table of properties; document 02, One (`worse`). Assumes nothing.
 --
 --   M               == 4,294,967,295: the greatest word of 32 bits
 --   plus a b        == the sum of two words; M where it is above 4,294,967,294
---   Property        == a row of the table: value at the source, no-route word, along an edge, better, how values join,
---                      and which weights are worse
+--   Property        == a row of the table: value at the source, no-route word, along an edge, better; how values join, and which weights are worse
 --   sssp            == time: sums of weights, less is better
 --   bfs             == handovers: edges counted, less is better
 --   sswp            == headroom: the least weight, greater is better

@@ -2,7 +2,7 @@
 use Rattle.property.proofs.Basics.{_≡_, refl, ap, List, [], _∷_, map, ℕ}
 use Rattle.graph.specs.Edge.{Edge, reverse}
 use Rattle.graph.proofs.Edges.{reverse-mem}
-use Rattle.compare.specs.Code.{Net}
+use Rattle.compare.specs.Code.{Differences}
 use Rattle.rows.specs.Code.{Sided}
 use Rattle.sides.specs.Code.{Sides}
 
@@ -17,7 +17,7 @@ module _ (n : ℕ) (es fs : List Edge) (xs is ris ns rns : List ℕ) (s : Sides 
     new = s .new;
   }
 
-  pub side-backward : (ys : List ℕ) → Net (map reverse es) (map reverse fs) ys → Sided n (map reverse es) (map reverse fs) ys ris rns ns
+  pub side-backward : (ys : List ℕ) → Differences (map reverse es) (map reverse fs) ys → Sided n (map reverse es) (map reverse fs) ys ris rns ns
   side-backward ys d = record {
     batch = record {
       heads = λ e m. s .before (reverse e) (reverse-mem es e m) .0;

@@ -13,7 +13,7 @@ use Rattle.graph.specs.Limits.{maxVertices}
 use Rattle.graph.specs.Refusal.{over}
 use Rattle.graph.specs.Edge.{Edge, reverse}
 use Rattle.graph.specs.Index.{Fit, Own}
-use Rattle.compare.specs.Code.{Inside, Net}
+use Rattle.compare.specs.Code.{Inside, Differences}
 use Rattle.rows.specs.declared.Rowed.{Rowed}
 use Rattle.network.specs.Network.{Network, rowCount, flat, storesOf}
 use Rattle.network.specs.Batch.{batchRows, affectedOf}
@@ -40,7 +40,7 @@ pub record Sides (n : ℕ) (es fs : List Edge) (xs is ris ns rns : List ℕ) : T
   pub rold : Own n ris (map reverse es)
   pub new : Own n ns fs
   pub rnew : Own n rns (map reverse fs)
-  pub net : Net es fs xs
+  pub net : Differences es fs xs
 
 module _ (n : ℕ) (ls : List ℕ) (es fs : List Edge) (f b : List ℕ) where
   pub record SidesDone (f′ b′ : List ℕ) (a : Rowed) : Type 0 where

@@ -5,7 +5,7 @@
 --   Retuned d es fs        == es and fs have the same pairs, and any of their weights may have moved, each by at most d
 --   Close P k es s t v     == there is a route along es from s to t whose value is near v
 --   rest                   == the edges of es but the one whose weight moves
-use Rattle.property.proofs.Basics.{_≡_, refl, sym, ap, subst, _∙_, _⊎_, inl, inr, ⊎-elim, Bool, true, false, not, true≢false, List, _∷_, List·Memᴰ, List·Memᴰ·head, List·Memᴰ·tail, List·Memᴰ·cases-cons, List·Memᴰ·not-nil, ℕ, _+_, _≤_, max, arith, eqb, eqb-true, eq-eqb}
+use Rattle.property.proofs.Basics.{_≡_, refl, sym, ap, subst, _∙_, _⊎_, inl, inr, ⊎-elim, Bool, true, false, not, true≢false, List, _∷_, List·Memᴰ, List·Memᴰ·head, List·Memᴰ·tail, List·Memᴰ·cases-cons, List·Memᴰ·not-nil, ℕ, _+_, _≤_, max, arith, eq-eqb}
 use Rattle.property.specs.Property.{M, Property}
 use Rattle.property.specs.Laws.{Laws}
 use Rattle.property.specs.Drift.{Near}
@@ -13,8 +13,8 @@ use Rattle.property.proofs.Drift.{Meets, Steady, Even, near-self, near-back, ne
 use Rattle.graph.specs.Edge.{Edge, same, samePair, keep}
 use Rattle.graph.specs.Route.{Route, here, step, Best}
 use Rattle.graph.specs.Moved.{Moved, Zone, ends, next}
-use Rattle.graph.proofs.Tests.{both, and-true}
-use Rattle.graph.proofs.Edges.{keep-in, in-keep, same-eq}
+use Rattle.graph.proofs.Tests.{and-true}
+use Rattle.graph.proofs.Edges.{keep-in, in-keep, pair-ends, ends-pair, same-eq}
 use Rattle.theory.specs.Best.{Weighed}
 use Rattle.theory.proofs.Value.{Way, Attained}
 use Rattle.theory.proofs.Exists.{Through, route-map, way-join, once, best-some, best-same}
@@ -32,14 +32,8 @@ pub record Retuned (d : ℕ) (es fs : List Edge) : Type 0 where
 
 -- ---- pairs, and moves the other way
 
-pair-ends : (e f : Edge) → samePair e f ≡ true → (e .tail ≡ f .tail) × (e .head ≡ f .head)
-pair-ends e f h = let z = both (eqb (e .tail) (f .tail)) (eqb (e .head) (f .head)) h in (eqb-true _ _ (z .0), eqb-true _ _ (z .1))
-
 pub pair-back : (e f : Edge) → samePair e f ≡ true → samePair f e ≡ true
-pair-back e f h = let (p, q) = pair-ends e f h in and-true (eq-eqb _ _ (sym p)) (eq-eqb _ _ (sym q))
-
-pair-self : (e : Edge) → samePair e e ≡ true
-pair-self e = and-true (eq-eqb (e .tail) (e .tail) refl) (eq-eqb (e .head) (e .head) refl)
+pair-back e f h = let z = pair-ends e f h in ends-pair f e (sym (z .0)) (sym (z .1))
 
 same-self : (e : Edge) → same e e ≡ true
 same-self e = and-true (eq-eqb (e .tail) (e .tail) refl) (and-true (eq-eqb (e .head) (e .head) refl) (eq-eqb (e .weight) (e .weight) refl))
@@ -57,7 +51,7 @@ moved-back {d = d} m = record {
 }
 
 answered : {d : ℕ} {es fs : List Edge} → Moved d es fs → Answered d es fs
-answered {d = d} m e k = ⊎-elim (λ p. rw p (m .new, m .come, m .pair, m .near)) (λ j. (e, j, pair-self e, near-self d (e .weight))) (m .kept e k)
+answered {d = d} m e k = ⊎-elim (λ p. rw p (m .new, m .come, m .pair, m .near)) (λ j. (e, j, ends-pair e e refl refl, near-self d (e .weight))) (m .kept e k)
 
 -- one moved weight is a retuning
 pub moved-retuned : {d : ℕ} {es fs : List Edge} → Moved d es fs → Retuned d es fs

@@ -1,4 +1,4 @@
--- Small calls, computed: document 01, "Network", "Runs", "Turned back" and "Near the edges". Each line says which sentence it shows and
+-- Small calls, computed: document 01, "Network", "Runs", "Turned back" and "Near the edges"; document 02, One. Each line says which sentence it shows and
 -- which nearby reading it shuts out; the numbers are worked out by hand. Assumes nothing.
 --
 -- A table of examples lists what a definition gives beside what the documents say; one equation holds for all of its lines.

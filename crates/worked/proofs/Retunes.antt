@@ -23,8 +23,8 @@ use Rattle.worked.proofs.Examples.{dusty, forwardOf0, backwardOf0, swep
 -- ---- what a batch leaves in lent memory
 
 -- forward rows of landmark 0 with these words for time, headroom and worst stretch; handovers and reach are those of deck A
-abbrev rowsOf : List ℕ → List ℕ → List ℕ → List ℕ
-rowsOf t h w = t ++ (0 ∷ 1 ∷ 2 ∷ 1 ∷ []) ++ h ++ w ++ (1 ∷ 1 ∷ 1 ∷ 1 ∷ [])
+abbrev sideOf : List ℕ → List ℕ → List ℕ → List ℕ
+sideOf t h w = t ++ (0 ∷ 1 ∷ 2 ∷ 1 ∷ []) ++ h ++ w ++ (1 ∷ 1 ∷ 1 ∷ 1 ∷ [])
 
 abbrev batchOnA : List Change → Outcome Report Memory
 batchOnA b = batchCall 4 (0 ∷ []) (dusty forwardOf0 backwardOf0) b
@@ -39,17 +39,17 @@ batches =
     -- got better": two stores for time and one for worst stretch
     (
       batchOnA (retunes 0 1 3 ∷ []),
-      leaves (report 5 2 5) (3 ∷ 9 ∷ 4 ∷ 4 ∷ 2 ∷ []) (rowsOf (0 ∷ 3 ∷ 7 ∷ 9 ∷ []) (M ∷ 3 ∷ 3 ∷ 9 ∷ []) (0 ∷ 3 ∷ 4 ∷ 9 ∷ [])),
+      leaves (report 5 2 5) (3 ∷ 9 ∷ 4 ∷ 4 ∷ 2 ∷ []) (sideOf (0 ∷ 3 ∷ 7 ∷ 9 ∷ []) (M ∷ 3 ∷ 3 ∷ 9 ∷ []) (0 ∷ 3 ∷ 4 ∷ 9 ∷ [])),
     )
     -- "a batch's net effect" is that of its tables: a take and an add leave what the retune leaves
     ∷ (
       batchOnA (takes 0 1 ∷ adds 0 1 3 ∷ []),
-      leaves (report 5 2 5) (3 ∷ 9 ∷ 4 ∷ 4 ∷ 2 ∷ []) (rowsOf (0 ∷ 3 ∷ 7 ∷ 9 ∷ []) (M ∷ 3 ∷ 3 ∷ 9 ∷ []) (0 ∷ 3 ∷ 4 ∷ 9 ∷ [])),
+      leaves (report 5 2 5) (3 ∷ 9 ∷ 4 ∷ 4 ∷ 2 ∷ []) (sideOf (0 ∷ 3 ∷ 7 ∷ 9 ∷ []) (M ∷ 3 ∷ 3 ∷ 9 ∷ []) (0 ∷ 3 ∷ 4 ∷ 9 ∷ [])),
     )
     -- from 4 to 5, "more is worse for time and worst stretch": 1 and 2 are affected in both; headroom of 1 gets better, 2 has 4 by 1→2
     ∷ (
       batchOnA (retunes 0 1 5 ∷ []),
-      leaves (report 5 4 5) (5 ∷ 9 ∷ 4 ∷ 4 ∷ 2 ∷ []) (rowsOf (0 ∷ 5 ∷ 9 ∷ 9 ∷ []) (M ∷ 5 ∷ 4 ∷ 9 ∷ []) (0 ∷ 5 ∷ 5 ∷ 9 ∷ [])),
+      leaves (report 5 4 5) (5 ∷ 9 ∷ 4 ∷ 4 ∷ 2 ∷ []) (sideOf (0 ∷ 5 ∷ 9 ∷ 9 ∷ []) (M ∷ 5 ∷ 4 ∷ 9 ∷ []) (0 ∷ 5 ∷ 5 ∷ 9 ∷ [])),
     )
     -- "its own present figure changes nothing", at once or in the end; records past the count become zero all the same
     ∷ (batchOnA (retunes 0 1 4 ∷ []), leaves (report 5 0 0) (4 ∷ 9 ∷ 4 ∷ 4 ∷ 2 ∷ []) forwardOf0)
@@ -59,13 +59,13 @@ batches =
     ∷ (batchOnA (retunes 3 2 1 ∷ []), leaves (report 5 0 0) (4 ∷ 9 ∷ 4 ∷ 4 ∷ 1 ∷ []) forwardOf0)
     ∷ (
       batchOnA (retunes 3 2 9 ∷ []),
-      leaves (report 5 0 1) (4 ∷ 9 ∷ 4 ∷ 4 ∷ 9 ∷ []) (rowsOf (0 ∷ 4 ∷ 8 ∷ 9 ∷ []) (M ∷ 4 ∷ 9 ∷ 9 ∷ []) (0 ∷ 4 ∷ 4 ∷ 9 ∷ [])),
+      leaves (report 5 0 1) (4 ∷ 9 ∷ 4 ∷ 4 ∷ 9 ∷ []) (sideOf (0 ∷ 4 ∷ 8 ∷ 9 ∷ []) (M ∷ 4 ∷ 9 ∷ 9 ∷ []) (0 ∷ 4 ∷ 4 ∷ 9 ∷ [])),
     )
     -- a segment that got better is "not removed", and passes suspicion on by its old figure: for time and worst stretch 2 is affected by
     -- 1→2, which is 3 now
     ∷ (
       batchOnA (retunes 0 1 5 ∷ retunes 1 2 3 ∷ []),
-      leaves (report 5 6 6) (5 ∷ 9 ∷ 3 ∷ 4 ∷ 2 ∷ []) (rowsOf (0 ∷ 5 ∷ 8 ∷ 9 ∷ []) (M ∷ 5 ∷ 3 ∷ 9 ∷ []) (0 ∷ 5 ∷ 5 ∷ 9 ∷ [])),
+      leaves (report 5 6 6) (5 ∷ 9 ∷ 3 ∷ 4 ∷ 2 ∷ []) (sideOf (0 ∷ 5 ∷ 8 ∷ 9 ∷ []) (M ∷ 5 ∷ 3 ∷ 9 ∷ []) (0 ∷ 5 ∷ 5 ∷ 9 ∷ [])),
     )
     -- a pair that the batch itself adds is added with its last figure: 1, 2 and 3 get a way to 0
     ∷ (

@@ -1,1 +1,1 @@
-// No code: the worked lines of documents 01 and 02, computed from the definitions of the calls.
+// No code: document 01's worked lines and some of request One, computed from the definitions of the calls.

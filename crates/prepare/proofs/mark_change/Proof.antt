@@ -3,7 +3,7 @@ use Rattle.property.proofs.Basics.{arith, _≡_, sym, ap₂, _∙_, _+_, _*_, n
 use Rattle.property.specs.Property.{property}
 use Rattle.frontier.specs.Waiting.{waitingOf}
 use Rattle.compare.specs.Code.{before, after}
-use Rattle.prepare.specs.Code.{isLost}
+use Rattle.prepare.specs.Code.{edgeLost}
 use Rattle.prepare.proofs.Spreading.{marked-as}
 use Rattle.prepare.proofs.mark_change.Statement.{statement}
 use Rattle.prepare.proofs.mark_change.Tie as tie
@@ -21,8 +21,8 @@ abbrev head : tie.After-is-lost → tie.After-head2
 head c = c .before
 
 -- whether the change removed an edge
-removes : (c : tie.After-is-lost) → let a = start c .args in c .is-lost .result ≡ isLost (property (a .p)) (before (a .net .now) (a .k) .weight) (after (a .net .now) (a .k) .weight)
-removes c = c .is-lost .ensures ∙ ap₂ (isLost (property (start c .args .p))) (weight c .weight .ensures) (c .before .before .before .weight2 .ensures)
+removes : (c : tie.After-is-lost) → let a = start c .args in c .is-lost .result ≡ edgeLost (property (a .p)) (before (a .net .now) (a .k) .weight) (after (a .net .now) (a .k) .weight)
+removes c = c .is-lost .ensures ∙ ap₂ (edgeLost (property (start c .args .p))) (weight c .weight .ensures) (c .before .before .before .weight2 .ensures)
 
 mark-head-requires : tie.Need-mark-head-requires
 mark-head-requires c κs =

@@ -38,8 +38,8 @@ returns c =
     let ms = g .spread .last .1 .1 .1 .1 .1 .0 in
     let k = bits-count (a .n) ms m in (
       (λ es fs d.
-          let f = marks-found (property (a .p)) (a .n) (a .s) (a .net .now) (a .words .now) _ _ _ _ _ _ (b .before .before .before .before .before .before .before .empty .ensures) (b .before .before .before .before .before .before .empty2 .ensures) (w .take-changes .ensures .0) (e .1 .0) (e .1 .1) es fs (e .0 es (d .old)) (property-laws (a .p)) (d .heads) (d .net .removed) in
-          let q = reopen-done (property (a .p)) (a .n) (a .net .now) (a .into .now) ms m _ _ _ (b .before .before .before .before .clear .ensures) (w .take-changes .ensures .1 .0) (r .1 .0) (r .1 .1) (λ v on. marks-within (a .n) ms v m on) (property-laws (a .p)) es fs (d .into) (d .net .added) (d .new) in
+          let f = marks-found (property (a .p)) (a .n) (a .s) (a .net .now) (a .words .now) _ _ _ _ _ _ (b .before .before .before .before .before .before .before .empty .ensures) (b .before .before .before .before .before .before .empty2 .ensures) (w .take-changes .ensures .0) (e .1 .0) (e .1 .1) es fs (e .0 es (d .old)) (property-laws (a .p)) (d .heads) (d .net .old) in
+          let q = reopen-done (property (a .p)) (a .n) (a .net .now) (a .into .now) ms m _ _ _ (b .before .before .before .before .clear .ensures) (w .take-changes .ensures .1 .0) (r .1 .0) (r .1 .1) (λ v on. marks-within (a .n) ms v m on) (property-laws (a .p)) es fs (d .into) (d .net .new) (d .new) in
           (prepared-made (property (a .p)) es fs (a .s) (a .n) (a .words .now) f (r .0) q, c .count .ensures ∙ k ∙ ap countOf f)),
       (r .1 .1, (let x = count-le (bits (a .n) ms) in let y = bits-length (a .n) ms m in omega (arith, c .count .ensures, k, s .pre .1 .few))),
     )

@@ -5,7 +5,7 @@ use Rattle.property.specs.Property.{property}
 use Rattle.frontier.specs.Waiting.{waitingOf}
 use Rattle.run.specs.Code.{Marks}
 use Rattle.compare.specs.Code.{before, after, pairs}
-use Rattle.prepare.specs.Code.{isLost, HeadsMarked, Raised, Woken}
+use Rattle.prepare.specs.Code.{edgeLost, HeadsMarked, Raised, Woken}
 use Rattle.prepare.proofs.Bits.{marks-if}
 use Rattle.prepare.proofs.Spreading.{gone-start, gone-turn, gone-as}
 use Rattle.prepare.proofs.Starts.{raised-none, raised-turn}
@@ -32,7 +32,7 @@ loop-again c =
     let y = s .pre .0 (2 * k + 1) (omega (arith, t .loop-test .taken, v .4)) in
     let m = c .before .before .mark-change .ensures in
     let w = c .wake-change .ensures in
-    (gone-turn (v .0) (omega arith) y _ _ (m .0) (m .1), raised-turn (v .1) (omega (arith, x, v .2 .few, v .2 .bits)) (omega arith) _ w, marks-if _ _ _ _ (isLost (property (s .args .p)) (after (s .args .net .now) k .weight) (before (s .args .net .now) k .weight)) x w (v .2), omega arith, v .4)
+    (gone-turn (v .0) (omega arith) y _ _ (m .0) (m .1), raised-turn (v .1) (omega (arith, x, v .2 .few, v .2 .bits)) (omega arith) _ w, marks-if _ _ _ _ (edgeLost (property (s .args .p)) (after (s .args .net .now) k .weight) (before (s .args .net .now) k .weight)) x w (v .2), omega arith, v .4)
 
 returns : tie.Need-returns Inv-loop μ-loop
 returns c =
