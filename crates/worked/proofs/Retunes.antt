@@ -1,5 +1,5 @@
--- Retuned segments, computed: document 02, One. Each line says which sentence it shows and which nearby reading it shuts out; the numbers are
--- worked out by hand. What a retune is refused for stands in `Refusals`. Assumes nothing.
+-- Retuned segments, computed: document 02, One. Each line says which sentence it shows and which nearby reading it shuts out; the numbers
+-- are those of a model written from the documents alone, apart from these definitions. What a retune is refused for stands in `Refusals`. Assumes nothing.
 use Rattle.property.proofs.Basics.{_≡_, refl, List, [], _∷_, _++_, map, ℕ}
 use Rattle.property.specs.Property.{M, property}
 use Rattle.frontier.specs.Waiting.{anyOf, countOf}
