@@ -12,6 +12,7 @@
 --   size n            == number 1: n is 0 or over 256
 --   shortTable cs     == number 2: a list of the table has fewer than 2,048 words, whatever the count
 --   table n cs m      == number 4: a count over 2,048, at 0; or the first record that breaks the rules
+--   bareFaults n cs m v == numbers 1, 2 and 4 of a call that takes a table and no landmarks, with what that call judges between 2 and 4
 --   insert e es       == es with e put in, in table order
 --   delete e es       == es with the edge alike e struck
 --   update e es       == es with e in the place of the edge alike e: that edge has the weight of e now
@@ -61,6 +62,9 @@ shortTable cs = refuseIf (ltb (length (cs .tails)) maxEdges || (ltb (length (cs 
 
 abbrev pub table : ℕ → Columns → ℕ → Verdict
 table n cs m = refuseIf (ltb maxEdges m) 4 0 ▷ rules n (edgesOf cs m)
+
+abbrev pub bareFaults : ℕ → Columns → ℕ → Verdict → Verdict
+bareFaults n cs m v = size n ▷ shortTable cs ▷ v ▷ table n cs m
 
 -- ---- one edge more, one edge less, another weight
 

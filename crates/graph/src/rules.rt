@@ -10,7 +10,7 @@ ghost use lib.Dec.{eqb, ltb};
 ghost use Rattle.graph.specs.Limits.{maxEdges};
 ghost use Rattle.graph.specs.Refusal.{accept, refuseIf};
 ghost use Rattle.graph.specs.Edge.{edge, edges, precedes};
-ghost use Rattle.graph.specs.Table.{isWeight, isEdge, rules, size, shortTable, table};
+ghost use Rattle.graph.specs.Table.{isWeight, isEdge, rules, size, shortTable, table, bareFaults};
 ghost use Rattle.graph.specs.Code.{told, Room, columns, keeps};
 
 // Number `k` at place `i` where the test holds.
@@ -138,4 +138,29 @@ pub fn judge_table(n: u32, tails: &[u32], heads: &[u32], weights: &[u32], count:
         return Judged::Refused(4, 0);
     }
     judge_records(n, tails, heads, weights, records)
+}
+
+// Numbers 1, 2 and 4 of a call that takes a table and no landmarks, with what that call judges between 2 and 4.
+pub fn judge_bare(
+    n: u32,
+    tails: &[u32],
+    heads: &[u32],
+    weights: &[u32],
+    count: u32,
+    between: Judged,
+) -> Judged
+    ensures { λ r. ⌜ told r ≡ bareFaults n (columns (now (tails .entry)) (now (heads .entry)) (now (weights .entry))) count (told between) ⌝ }
+{
+    let size = judge_size(n);
+    let Judged::Fine = size else {
+        return size;
+    };
+    let lengths = judge_lengths(tails, heads, weights);
+    let Judged::Fine = lengths else {
+        return lengths;
+    };
+    let Judged::Fine = between else {
+        return between;
+    };
+    judge_table(n, tails, heads, weights, count)
 }

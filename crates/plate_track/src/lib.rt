@@ -10,10 +10,12 @@ ghost use Rattle.network.specs.Query.{queryCall};
 ghost use Rattle.network.specs.Batch.{batchCall};
 ghost use Rattle.network.specs.Settled.{settledCall};
 ghost use Rattle.network.specs.Choice.{choiceCall};
+ghost use Rattle.answers.specs.Routing.{routeCall};
 ghost use Rattle.dimacs.specs.Call.{readCall, writeCall, sourcesCall};
 ghost use Rattle.graph.specs.Code.{columns};
 ghost use Rattle.calls.specs.Code.{rowLists, lists, network};
 ghost use Rattle.query.specs.Code.{asking, wordsOf};
+ghost use Rattle.routing.specs.Code.{requesting, answerOf};
 ghost use Rattle.spelling.specs.Code.{openWords, tallyWords, reportWords, checkWords, choiceWords, sizeWords, oneWord, changesOf};
 ghost use Rattle.plate_track.specs.Code.{spelled, alone, lookupStart, version};
 
@@ -263,4 +265,39 @@ pub extern "C" fn plate_track_read_sources(
     }
     let r = reader::sources::read_sources(n, text, sources);
     spell::spell_sources(r, reply)
+}
+
+// Route.
+#[no_mangle]
+pub extern "C" fn plate_track_route(
+    n: u32,
+    tails: &[u32],
+    heads: &[u32],
+    weights: &[u32],
+    count: u32,
+    property: u32,
+    source: u32,
+    target: u32,
+    vertices: &mut [u32],
+    marks: &mut [u32],
+    reply: &mut [u64],
+) -> u32
+    ensures { λ k. ⌜ record { number = k; reply = now (reply .exit); memory = answerOf (now (vertices .exit)) (now (marks .exit)) } ≡ spelled oneWord (routeCall n (columns (now (tails .entry)) (now (heads .entry)) (now (weights .entry))) count (requesting property source target) (answerOf (now (vertices .entry)) (now (marks .entry)))) (answerOf (now (vertices .entry)) (now (marks .entry))) (now (reply .entry)) ⌝ }
+{
+    if reply.len() < REPLY_WORDS {
+        return 2;
+    }
+    let r = routing::route(
+        n,
+        tails,
+        heads,
+        weights,
+        count,
+        property,
+        source,
+        target,
+        vertices,
+        marks,
+    );
+    spell::spell_route(r, reply)
 }

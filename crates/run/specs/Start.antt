@@ -1,6 +1,7 @@
 -- Where the run of a row or a query starts: document 01, "Opening" and "Query". Assumes nothing.
 --
 --   opened P n s        == the state in which a row of landmark s is opened: no route but for s, which has its value and waits
+--   valuesFrom P es n s == the values from the vertex s, a word for each vertex: opened, and settled on the edges es
 --   Landmark            == a landmark: its vertex, which says which one it is, and what its two rows tell a query: the word from the source
 --                          to it, and the row on from it
 --   finer P a b         == the better of two words
@@ -12,11 +13,14 @@ use Prim.Native.Nat.{ℕ}
 use lib.ListN.{set, replicate}
 use lib.Dec.{eqb}
 use Rattle.property.specs.Property.{Property}
-use Rattle.graph.specs.Edge.{range}
-use Rattle.run.specs.Run.{State, noTally, word}
+use Rattle.graph.specs.Edge.{Edge, range}
+use Rattle.run.specs.Run.{State, noTally, word, settle}
 
 unfoldable pub opened : Property → ℕ → ℕ → State
 opened P n s = record { words = set (replicate n (P .none)) s (P .start); waiting = set (replicate n false) s true; tally = noTally }
+
+abbrev pub valuesFrom : Property → List Edge → ℕ → ℕ → List ℕ
+valuesFrom P es n s = (settle P es n n (opened P n s)) .words
 
 pub record Landmark : Type 0 where
   pub vertex : ℕ

@@ -13,7 +13,7 @@ ghost use Rattle.graph.specs.Limits.{maxVertices, maxEdges};
 ghost use Rattle.graph.specs.Edge.{Edge};
 ghost use Rattle.graph.specs.Index.{Fit, Own};
 ghost use Rattle.run.specs.Run as spec;
-ghost use Rattle.run.specs.Start.{opened};
+ghost use Rattle.run.specs.Start.{opened, valuesFrom};
 ghost use Rattle.run.specs.Code.{bits, noCounts, state, Marks, Sized, Low, Ready, Ran, Scheduled};
 
 // A count has 64 bits. A run asks for counts below 2 ^ 31, and each step within it for a bit or more above its caller's (`Ready` 32, 38 and 39,
@@ -299,4 +299,15 @@ pub fn open_row(p: u32, n: usize, s: usize, words: &mut [u32], waiting: &mut Wor
     graph::words::fill(words, property::none(p));
     words[s] = property::start(p);
     start_at(n, s, waiting);
+}
+
+// The values from vertex `s`, a word for each vertex: opened, then rounds.
+pub fn values_from(p: u32, n: usize, s: usize, index: &[u32], words: &mut [u32])
+    requires { ⌜ (s < n) × Fit n (now index) × (length (now words) ≡ n) ⌝ }
+    ensures { λ _. ⌜ ((es : List Edge) → Own n (now (index .entry)) es → now (words .exit) ≡ valuesFrom (property p) es n s) ⌝ }
+    ensures { λ _. ⌜ length (now (words .exit)) ≡ n ⌝ }
+{
+    let mut waiting = frontier::empty();
+    open_row(p, n, s, words, &mut waiting);
+    run_unscheduled(p, n, index, words, &mut waiting);
 }

@@ -7,6 +7,7 @@ use open::Opened;
 use query::Answered;
 use reader::network_text::ReadReply;
 use reader::sources::SourcesReply;
+use routing::Routed;
 use writer::WriteReply;
 ghost use mathlib.Core.Path.{_≡_};
 ghost use mathlib.Core.List.{List};
@@ -20,6 +21,7 @@ ghost use Rattle.inspect.specs.Code.{checking, choosing, chosenOf};
 ghost use Rattle.reader.specs.NetworkCode as network;
 ghost use Rattle.reader.specs.SourcesCode as sources;
 ghost use Rattle.writer.specs.Code.{writing};
+ghost use Rattle.routing.specs.Code.{routing};
 ghost use Rattle.spelling.specs.Code.{replyWords, Tells, openWords, tallyWords, reportWords, checkWords, choiceWords, sizeWords, oneWord};
 
 // The reply to an opening.
@@ -164,6 +166,23 @@ pub fn spell_sources(r: SourcesReply, reply: &mut [u64]) -> u32
             0
         }
         SourcesReply::Refused(number, place) => {
+            reply[0] = place as u64;
+            number
+        }
+    }
+}
+
+// The reply to a request for a route.
+pub fn spell_route(r: Routed, reply: &mut [u64]) -> u32
+    requires { ⌜ replyWords ≤ length (now reply) ⌝ }
+    ensures { λ k. ⌜ Tells oneWord (routing r) k (now (reply .entry)) (now (reply .exit)) ⌝ }
+{
+    match r {
+        Routed::Vertices(count) => {
+            reply[0] = count as u64;
+            0
+        }
+        Routed::Refused(number, place) => {
             reply[0] = place as u64;
             number
         }

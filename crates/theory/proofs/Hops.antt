@@ -1,6 +1,5 @@
 -- The values that a run from one vertex finds; and how few edges a best route needs. Assumes nothing.
 --
---   valuesFrom P es n s == the words of a row of source s, opened and settled on the edges es of n vertices
 --   Level j      == some vertex below n has the word j
 --   under j      == which of the n vertices have a word below j, as a list
 use Rattle.property.proofs.Basics.{_≡_, refl, sym, _∙_, ⊎-elim, Bool, true, false, true≢false, false≢true, List, [], _∷_, map, ℕ, zero, suc, _≤_, _<_, decLt, arith, getD, set, length, List·getD-eq-default, ltb, eqb-true, ltb-true, lt-ltb, le-ltb}
@@ -15,8 +14,8 @@ use Rattle.graph.specs.Route.{Best}
 use Rattle.graph.proofs.Lists.{at-set, length-table, table-at}
 use Rattle.graph.proofs.Edges.{keep-in}
 use Rattle.graph.proofs.Order.{Within}
-use Rattle.run.specs.Run.{word, tight, settle}
-use Rattle.run.specs.Start.{opened}
+use Rattle.run.specs.Run.{word, tight}
+use Rattle.run.specs.Start.{opened, valuesFrom}
 use Rattle.theory.proofs.Walk.{Walk, stay, go}
 use Rattle.theory.proofs.Value.{opened-best}
 use Rattle.theory.proofs.Tight.{tight-walk, source-word}
@@ -24,9 +23,6 @@ use Rattle.theory.proofs.Chains.{settle-rests}
 use Rattle.theory.proofs.Fits.{opened-words}
 
 -- ---- the values from one vertex are best
-
-abbrev pub valuesFrom : Property → List Edge → ℕ → ℕ → List ℕ
-valuesFrom P es n s = (settle P es n n (opened P n s)) .words
 
 -- from any words nothing waits after n rounds, and where nothing waits the words of an opened row are best values
 pub values-best : {P : Property} (L : Laws P) (es : List Edge) (s n : ℕ) → Within n es → s < n → (t : ℕ) → Best P es s t (word P (valuesFrom P es n s) t)

@@ -15,10 +15,11 @@ use Rattle.graph.specs.Route.{Route, here, step, Best}
 use Rattle.graph.specs.Routed.{Routed}
 use Rattle.graph.proofs.Order.{Sound, Within, within, sound-fit, rules-accept}
 use Rattle.run.specs.Run.{word}
+use Rattle.run.specs.Start.{valuesFrom}
 use Rattle.theory.specs.Routed.{BestRouted}
 use Rattle.theory.proofs.Walk.{walk-of}
 use Rattle.theory.proofs.Value.{Attained, value-fits}
-use Rattle.theory.proofs.Hops.{valuesFrom, values-best, hops-few}
+use Rattle.theory.proofs.Hops.{values-best, hops-few}
 
 pub record Lasting (P : Property) (n w : ℕ) : Type 0 where
   pub floor : ℕ → ℕ
