@@ -1,4 +1,4 @@
--- The run of a row as its functions leave it, and the opening's outcome. Assumes nothing.
+-- A row as its function leaves it, and the opening's outcome. Assumes nothing.
 use Rattle.property.proofs.Basics.{_≡_, sym, ap, _∙_, List, map, ℕ, suc, _/_, _%_, getD}
 use Rattle.property.specs.Property.{property, properties}
 use Rattle.graph.specs.declared.Judged.{Judged}
@@ -7,10 +7,7 @@ use Rattle.graph.specs.Refusal.{accept, over}
 use Rattle.graph.specs.Edge.{Edge, reverse}
 use Rattle.graph.specs.Code.{told}
 use Rattle.graph.proofs.Verdicts.{outcome-refused, outcome-accepted}
-use Rattle.run.specs.declared.Tally.{Tally}
-use Rattle.run.specs.Run.{settle}
-use Rattle.run.specs.Start.{opened}
-use Rattle.run.specs.Code.{noCounts, state}
+use Rattle.run.specs.Start.{valuesFrom}
 use Rattle.open.specs.declared.Opened.the-variants.{Accepted, Refused}
 use Rattle.network.specs.Network.{Network, edgesIn, faults, flat}
 use Rattle.network.specs.Open.{openRow, openRows, openVerdict, openCall}
@@ -20,14 +17,10 @@ use Rattle.network.proofs.Never.{open-verdict}
 
 -- ---- a row
 
--- row r, of property number p and the landmark at place i, is opened, and then settled
-module _ (n r : ℕ) {p i : ℕ} (ls : List ℕ) (es : List Edge) (ws bs ws′ bs′ : List ℕ) (t : Tally) (ep : p ≡ suc (r % properties)) (ei : i ≡ r / properties)
-    (start : state n ws bs noCounts ≡ opened (property p) n (getD ls i 0))
-    (run : state n ws′ bs′ t ≡ settle (property p) es n n (state n ws bs noCounts)) where
-  pub row-settled : ws′ ≡ openRow n ls es r .words
-  row-settled =
-      let e : state n ws′ bs′ t ≡ openRow n ls es r = run ∙ rw (start, ep, ei) in
-      ap (λ st. st .words) e
+-- row r is the values of property number p from the landmark at place i
+pub row-settled : (n r : ℕ) {p i : ℕ} (ls : List ℕ) (es : List Edge) {ws : List ℕ} → p ≡ suc (r % properties) → i ≡ r / properties
+    → ws ≡ valuesFrom (property p) es n (getD ls i 0) → ws ≡ openRow n ls es r .words
+row-settled n r ls es ep ei h = h ∙ rw (ep, ei)
 
 -- ---- the outcome: numbers 1 to 4 alone refuse, since nothing waits after n rounds
 

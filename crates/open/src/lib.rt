@@ -1,5 +1,4 @@
 // Opening a network: every row is run from where only its landmark has a route, in its place in the lent list. Nothing waits after n rounds.
-use frontier::Words;
 use graph::Judged;
 use graph::pack;
 ghost use mathlib.Core.Path.{_≡_};
@@ -21,14 +20,7 @@ pub enum Opened {
 }
 
 // Row `r` of a side is opened and settled in `part`.
-fn open_row(
-    r: usize,
-    n: usize,
-    landmarks: &[u32],
-    index: &[u32],
-    waiting: &mut Words,
-    part: &mut [u32],
-)
+fn open_row(r: usize, n: usize, landmarks: &[u32], index: &[u32], part: &mut [u32])
     requires { ⌜ Fit n (now index) × Placed n (now landmarks) ⌝ }
     requires { ⌜ (r < rowCount (now landmarks)) × (length (now part) ≡ n) ⌝ }
     ensures { λ _. ⌜ ((es : List Edge) → Own n (now (index .entry)) es → now (part .exit) ≡ openRow n (now (landmarks .entry)) es r .words) ⌝ }
@@ -36,8 +28,7 @@ fn open_row(
     let p = calls::row_property(r);
     let i = calls::row_landmark(r);
     let s = landmarks[i] as usize;
-    run::open_row(p, n, s, part, waiting);
-    run::run_unscheduled(p, n, index, part, waiting);
+    run::values_from(p, n, s, index, part);
 }
 
 // Every row of a side, one after the other in `out`; words past the rows stay.
@@ -47,12 +38,11 @@ fn open_rows(n: usize, landmarks: &[u32], index: &[u32], out: &mut [u32])
     ensures { λ _. ⌜ ((es : List Edge) → Own n (now (index .entry)) es → now (out .exit) ≡ over (flat (openRows n (now (landmarks .entry)) es)) (now (out .entry))) ⌝ }
 {
     let rows = landmarks.len() * property::PROPERTIES;
-    let mut waiting = frontier::empty();
     let mut r = 0;
     while r < rows {
         let start = r * n;
         let end = start + n;
-        open_row(r, n, landmarks, index, &mut waiting, &mut out[start..end]);
+        open_row(r, n, landmarks, index, &mut out[start..end]);
         r += 1;
     }
 }

@@ -89,15 +89,7 @@ fn put_arcs(
 fn judge_write(n: u32, tails: &[u32], heads: &[u32], weights: &[u32], count: u32) -> Judged
     ensures { λ r. ⌜ told r ≡ (size n ▷ shortTable (columns (now (tails .entry)) (now (heads .entry)) (now (weights .entry))) ▷ table n (columns (now (tails .entry)) (now (heads .entry)) (now (weights .entry))) count) ⌝ }
 {
-    let size = rules::judge_size(n);
-    let Judged::Fine = size else {
-        return size;
-    };
-    let lengths = rules::judge_lengths(tails, heads, weights);
-    let Judged::Fine = lengths else {
-        return lengths;
-    };
-    rules::judge_table(n, tails, heads, weights, count)
+    rules::judge_bare(n, tails, heads, weights, count, Judged::Fine)
 }
 
 // A network's text: refused, or written to the lent buffer; bytes past it stay. Only the buffer is judged last.

@@ -4,20 +4,19 @@ use Rattle.open.proofs.Opening.{row-settled}
 use Rattle.open.proofs.open_row.Statement.{statement}
 use Rattle.open.proofs.open_row.Tie as tie
 
-open-row-requires : tie.Need-open-row-requires
-open-row-requires c κs =
-    let i = c .before .before .before in
+values-from-requires : tie.Need-values-from-requires
+values-from-requires c κs =
+    let i = c .before .before in
     let s = i .before .before .before .before .before in
-    (s .pre .0 .1 .vertices (i .row-landmark .result) (omega (arith, i .row-landmark .ensures)), s .pre .0 .0 .few, s .pre .1 .1)
+    (s .pre .0 .1 .vertices (i .row-landmark .result) (omega (arith, i .row-landmark .ensures)), s .pre .0 .0, s .pre .1 .1)
 
 returns : tie.Need-returns
 returns c =
     let q = c .before .before in
-    let o = q .before .before .before .before .before in
-    let i = o .before .before .before .before in
+    let i = q .before .before .before in
     let p = i .before in
     let g = p .before .before .before .before .args in
-    λ es h. row-settled (g .n) (g .r) (g .landmarks .now) es _ _ _ _ (q .run-unscheduled .result) (p .row-property .ensures) (i .row-landmark .ensures) (o .open-row .ensures .0) (q .run-unscheduled .ensures .0 es h)
+    λ es h. row-settled (g .n) (g .r) (g .landmarks .now) es (p .row-property .ensures) (i .row-landmark .ensures) (q .values-from .ensures .0 es h)
 
 pub open-row-spec : {M : Type 1} → statement M
 open-row-spec =
@@ -28,7 +27,6 @@ open-row-spec =
     (λ c. search needs)
     (λ c. search needs)
     (λ c. omega (arith, c .shared-slice-known3 .given (c .before .row-landmark .result)))
-    open-row-requires
-    (λ c κs. search needs)
+    values-from-requires
     (λ c. search needs)
     returns)

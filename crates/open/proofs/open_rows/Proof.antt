@@ -13,15 +13,15 @@ use Rattle.open.proofs.open_rows.Statement.{statement}
 use Rattle.open.proofs.open_rows.Tie as tie
 
 abbrev Inv-loop : tie.InvT-loop
-Inv-loop n landmarks index out₀ rows waiting₀ r₀ out waiting r =
+Inv-loop n landmarks index out₀ rows r₀ out r =
     ((es : List Edge) → Own n index es → out ≡ over (flat (map (openRow n landmarks es) (range 0 r))) out₀)
     × (r ≤ rows) × (length out ≡ length out₀)
 
 abbrev μ-loop : tie.MeasureT-loop
-μ-loop n landmarks index out₀ rows waiting₀ r₀ out waiting r = rows - r
+μ-loop n landmarks index out₀ rows r₀ out r = rows - r
 
 abbrev begin : tie.At-loop Inv-loop μ-loop → tie.Start Inv-loop μ-loop
-begin l = l .before .before .before .before .before
+begin l = l .before .before .before .before
 
 -- the row of a turn ends within the list
 within : (c : tie.In-loop Inv-loop μ-loop) → let g = begin (c .before) .args in c .before .loop .r * g .n + g .n ≤ length (c .before .loop .out)
@@ -32,27 +32,27 @@ within c =
 
 loop-holds : tie.Need-loop-holds Inv-loop μ-loop
 loop-holds c =
-    let g = c .before .before .before .before .args in
+    let g = c .before .before .before .args in
     (λ es o. over-none (openRow (g .n) (g .landmarks .now) es) (g .out .now), omega arith, refl)
 
 open-row-requires : tie.Need-open-row-requires Inv-loop μ-loop
 open-row-requires c κs =
-    let l = c .before .before .before in
+    let l = c .before .before in
     let s = begin l in
-    (s .pre .0, (omega arith, row-size (s .args .n) (l .loop .r * s .args .n) (l .loop .out) (within (c .before .before))))
+    (s .pre .0, (omega arith, row-size (s .args .n) (l .loop .r * s .args .n) (l .loop .out) (within (c .before))))
 
 add-r : tie.Need-add-r Inv-loop μ-loop
-add-r c = omega (arith, begin (c .before .before .before .before .before .before) .pre .0 .1 .few, c .before .before .before .before .before .loop-test .taken)
+add-r c = omega (arith, begin (c .before .before .before .before .before) .pre .0 .1 .few, c .before .before .before .before .loop-test .taken)
 
 loop-again : tie.Need-loop-again Inv-loop μ-loop
 loop-again c =
-    let t = c .before .before .before .before .before in
+    let t = c .before .before .before .before in
     let l = t .before in
     let g = begin l .args in
     let a = l .loop .r * g .n in
     let call = c .before .before .open-row in
-    let part = call .last .1 .1 .1 .1 .1 .0 in
-    let size = call .kept .1 .1 .1 .1 .1 .0 in (
+    let part = call .last .1 .1 .1 .1 .0 in
+    let size = call .kept .1 .1 .1 .1 .0 in (
       λ es o. over-turn (openRow (g .n) (g .landmarks .now) es) (g .n) (open-sized (g .n) (g .landmarks .now) es) (l .loop .r) (g .out .now) _ _ (l .loop .inv .0 es o) (call .ensures es o),
       omega (arith, t .loop-test .taken),
       same-len-mid a (a + g .n - a) (l .loop .out) part size ∙ l .loop .inv .2,
@@ -72,17 +72,16 @@ open-rows-spec =
     Inv-loop
     μ-loop
     (λ c. search needs)
-    (λ c κs. search needs)
     loop-holds
     (λ c. omega (arith, within c))
     (λ c. omega (arith, within c))
-    (λ c. omega (arith, within (c .before)))
+    (λ c. omega (arith, within c))
     (λ c. omega arith)
     (λ c. omega arith)
-    (λ c. omega (arith, within (c .before)))
+    (λ c. omega (arith, within c))
     open-row-requires
     add-r
-    (λ c. omega (arith, c .before .before .before .before .before .loop-test .taken))
+    (λ c. omega (arith, c .before .before .before .before .loop-test .taken))
     loop-again
     (λ c. c .before .loop .inv .2)
     returns)
