@@ -1,0 +1,24 @@
+-- `plate_track::plate_track_route` meets its contract. Assumes nothing.
+use Rattle.property.proofs.Basics.{needs}
+use Rattle.spelling.specs.Code.{oneWord}
+use Rattle.plate_track.proofs.Spelling.{spelled-short, spelled-told}
+use Rattle.plate_track.proofs.plate_track_route.Statement.{statement}
+use Rattle.plate_track.proofs.plate_track_route.Tie as tie
+
+returns-2 : tie.Need-returns-2
+returns-2 c =
+    let t = c .before .before in
+    let o = t .before .before .before .before .before .before in
+    spelled-told oneWord _ _ _ _ (o .before .before .before .if1 .left) (o .route .ensures) (t .spell-route .ensures)
+
+pub plate-track-route-spec : {M : Type 1} → statement M
+plate-track-route-spec =
+    tie.close
+    (tie.spec
+    (λ c. spelled-short oneWord _ _ _ (c .if1 .taken))
+    (λ c κs. search needs)
+    (λ c κs. search needs)
+    (λ c. search needs)
+    (λ c. search needs)
+    (λ c. search needs)
+    returns-2)
