@@ -9,8 +9,7 @@ returns : tie.Need-returns
 returns c =
     let q = c .before .before in
     let o = q .before .before .before .before .before in
-    let g = o .before .before .before .before .before .before .args in
-    (
+    let g = o .before .before .before .before .before .before .args in (
       λ es h. ap (λ st. st .words) (q .run-unscheduled .ensures .0 es h ∙ ap (settle (property (g .p)) es (g .n) (g .n)) (o .open-row .ensures .0)),
       q .run-unscheduled .ensures .1 .sized .words,
     )
