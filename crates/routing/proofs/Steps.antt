@@ -1,5 +1,5 @@
 -- Steps of a search: a vertex is found, a vertex is expanded, and the search goes on or stops. Assumes nothing.
-use Rattle.property.proofs.Basics.{_≡_, refl, sym, ap, ap₂, _∙_, _≢_, _⊎_, ⊎-elim, Bool, true, false, _&&_, List, [], _∷_, _++_, foldl, not, ℕ, zero, suc, _+_, _-_, _≤_, _<_, add-one, arith, length, getD, set, take, replicate, eqb, ltb, leb, length-set, length-replicate, length-take-le, take-suc-set, getD-take, sub-zero, getD-set-same, lt-ltb, le-ltb, eq-eqb, ne-eqb, eqb-true, le-leb, lt-leb}
+use Rattle.property.proofs.Basics.{_≡_, refl, sym, ap, ap₂, _∙_, _≢_, _⊎_, ⊎-elim, Bool, true, false, _&&_, List, [], _∷_, _++_, foldl, not, ℕ, zero, suc, _+_, _-_, _≤_, _<_, add-one, arith, length, getD, set, take, replicate, eqb, ltb, leb, length-set, length-replicate, length-take-le, take-suc-set, getD-take, sub-zero, getD-set-same, lt-ltb, le-ltb, eq-eqb, ne-eqb, eqb-true, eqb-false, le-leb, lt-leb}
 use mathlib.Core.Bool.{and-false}
 use Rattle.property.proofs.Tests.{by-test}
 use Rattle.property.specs.Property.{property}
@@ -160,7 +160,8 @@ module _ (n s t : ℕ) (es : List Edge) (ws : List ℕ) where
   -- for handovers and reach every edge is, as each is eligible for reach
   pub searched-all : (p : ℕ) → 0 < p → ((Unit {0} × (p ≡ 1 → ⊥)) × (p ≡ 3 → ⊥)) × (p ≡ 4 → ⊥) → search (eligible 5 ws 1) es t n 0 (begun n s) ≡ searched p es n s t
   unfolding property
-  searched-all p l h = along-same (eligible 5 ws 1) (passes p (valuesFrom (property p) es n s) t) (λ x. ?)
+  searched-all p l h = along-same (eligible 5 ws 1) (passes p (valuesFrom (property p) es n s) t)
+      (λ x. by-test (eqb p 2) (λ a. rw a) (λ a. let k = eqb-false p 2 a in let b = lt-ltb 4 p (omega (arith, h .0 .0 .1, h .0 .1, h .1)) in rw (a, b)))
 
 -- what is told of a search is told of one that equals it
 pub told-of : (t : ℕ) (vs : List ℕ) (r : Bool) (a b : Search) → a ≡ b → (vs ≡ a .via) × (r ≡ not (isUnfound a t)) → (vs ≡ b .via) × (r ≡ not (isUnfound b t))
