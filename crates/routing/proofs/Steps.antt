@@ -1,5 +1,9 @@
--- Steps of a search: a vertex is found, a vertex is expanded, and the search goes on or stops. Assumes nothing.
-use Rattle.property.proofs.Basics.{_≡_, refl, sym, ap, ap₂, _∙_, _≢_, _⊎_, ⊎-elim, Bool, true, false, _&&_, List, [], _∷_, _++_, foldl, not, ℕ, zero, suc, _+_, _-_, _≤_, _<_, add-one, arith, length, getD, set, take, replicate, eqb, ltb, leb, length-set, length-replicate, length-take-le, take-suc-set, getD-take, sub-zero, getD-set-same, lt-ltb, le-ltb, eq-eqb, ne-eqb, eqb-true, eqb-false, le-leb, lt-leb}
+-- Steps of a search, as the code makes them: a vertex is found, a vertex is expanded, the search begins, goes on and stops. Assumes nothing.
+--
+-- A vertex is put at the end of the queue when it is found, and then its word is an arc's, which is never `unfound`. So the words that are
+-- `unfound` fall by one whenever the queue grows by one: together they stay as many as there are vertices. Where one more is found, some word was
+-- `unfound`, so the queue has room for it; and the entry that is expanded is always below the number of vertices, so that number of steps suffices.
+use Rattle.property.proofs.Basics.{_≡_, refl, sym, ap, ap₂, _∙_, _≢_, _⊎_, inl, inr, ⊎-elim, Bool, true, false, _&&_, List, [], _∷_, foldl, not, ℕ, zero, suc, _+_, _-_, _≤_, _<_, add-one, arith, length, getD, set, take, replicate, eqb, ltb, length-set, length-replicate, length-take-le, take-suc-set, getD-take, sub-zero, getD-set-same, lt-ltb, le-ltb, eq-eqb, ne-eqb, eqb-true, eqb-false, le-leb, lt-leb}
 use mathlib.Core.Bool.{and-false}
 use Rattle.property.proofs.Tests.{by-test}
 use Rattle.property.specs.Property.{property}
@@ -17,6 +21,7 @@ use Rattle.routing.specs.Code.{isEligible, searchOf, Searching}
 -- ---- whether an edge can lie on a best route
 
 module _ (p v x w y : ℕ) where
+  -- by how the code decides it, for 1 and 2 and for the others
   pub eligible-low : (a : ℕ) → p ≤ 2 → a ≡ property p .along x w → eqb a y ≡ isEligible p v x w y
   eligible-low a l e = rw (le-leb p 2 l, e)
 
@@ -50,44 +55,51 @@ equal-replicate (suc n) x = rw (eq-eqb x x refl) (ap suc (equal-replicate n x))
 
 -- ---- a vertex is found
 
-module _ (h by m : ℕ) (qs vs : List ℕ) (l : h < length vs) (b : by ≢ unfound) (s : Searching m qs vs) where
-  -- the edge does not pass, or its head is found already
-  pub reach-keeps : (f : Edge → Bool) (e : Edge) (t : Bool) → f e ≡ t → e .head ≡ h → t && eqb (getD vs h 0) unfound ≡ false
-      → searchOf m qs vs ≡ reach f (searchOf m qs vs) e
+-- one of two tests fails
+either-false : (a b : Bool) → (a ≡ false) ⊎ (b ≡ false) → (a && b) ≡ false
+either-false a b (inl p) = rw p
+either-false a b (inr p) = rw (p, and-false)
+
+-- the edge does not pass, or its head is found already
+pub reach-keeps : (h m : ℕ) (qs vs : List ℕ) (f : Edge → Bool) (e : Edge) (t : Bool) → f e ≡ t → e .head ≡ h → (t ≡ false) ⊎ (eqb (getD vs h 0) unfound ≡ false)
+    → searchOf m qs vs ≡ reach f (searchOf m qs vs) e
+unfolding reach finds
+reach-keeps h m qs vs f e t q p g =
+    let r : f e && isUnfound (searchOf m qs vs) (e .head) ≡ false = ap₂ _&&_ q (ap (λ (x : ℕ). eqb (getD vs x 0) unfound) p) ∙ either-false t _ g in
+    rw r
+
+module _ (h by m : ℕ) (qs vs : List ℕ) (l : h < length vs) (b : by ≢ unfound) (s : Searching m qs vs) (t : eqb (getD vs h 0) unfound ≡ true) where
+  -- what is not found yet is counted, so the queue has room for one more
+  pub queue-room : m < length vs
+  queue-room = let z = equal-set unfound vs h by l (eqb-true _ _ t) b in omega (arith, s .once)
+
+  -- it is found once, and found and not found are still all
+  pub searching-found : Searching (m + 1) (set qs m h) (set vs h by)
+  searching-found =
+      let r = queue-room in
+      let x = length-set vs h by in
+      let y = length-set qs m h in
+      record {
+        few = omega (arith, s .few);
+        room = omega (arith, s .room);
+        once = let z = equal-set unfound vs h by l (eqb-true _ _ t) b in omega (arith, s .once);
+        inside = λ i j.
+            ⊎-elim (λ q. let e = q .1 in omega arith) (λ q. let e = q .1 in let n = q .0 in let k = s .inside i (omega arith) in omega arith)
+            (at-set qs m h i 0 (omega (arith, s .room)));
+      }
+
+  -- the edge passes and its head is found by it
+  pub reach-finds : (f : Edge → Bool) (e : Edge) → f e ≡ true → e .head ≡ h → arc (e .tail) (e .weight) ≡ by
+      → searchOf (m + 1) (set qs m h) (set vs h by) ≡ reach f (searchOf m qs vs) e
   unfolding reach finds
-  reach-keeps f e t q p g =
-      let r : f e && isUnfound (searchOf m qs vs) (e .head) ≡ false = ap₂ _&&_ q (ap (λ (x : ℕ). eqb (getD vs x 0) unfound) p) ∙ g in
-      rw r
-
-  module _ (t : eqb (getD vs h 0) unfound ≡ true) where
-    -- what is not found yet is counted, so the queue has room for one more
-    pub queue-room : m < length vs
-    queue-room = let z = equal-set unfound vs h by l (eqb-true _ _ t) b in omega (arith, s .once)
-
-    pub searching-found : Searching (m + 1) (set qs m h) (set vs h by)
-    searching-found =
-        let r = queue-room in
-        let x = length-set vs h by in
-        let y = length-set qs m h in
-        record {
-          few = omega (arith, s .few);
-          room = omega (arith, s .room);
-          once = let z = equal-set unfound vs h by l (eqb-true _ _ t) b in omega (arith, s .once);
-          inside = λ i j.
-              ⊎-elim (λ q. let e = q .1 in omega arith) (λ q. let e = q .1 in let n = q .0 in let k = s .inside i (omega arith) in omega arith)
-              (at-set qs m h i 0 (omega (arith, s .room)));
-        }
-
-    pub reach-finds : (f : Edge → Bool) (e : Edge) → f e ≡ true → e .head ≡ h → arc (e .tail) (e .weight) ≡ by
-        → searchOf (m + 1) (set qs m h) (set vs h by) ≡ reach f (searchOf m qs vs) e
-    unfolding reach finds
-    reach-finds f e q p a =
-        let z = queue-room in
-        let r : f e && isUnfound (searchOf m qs vs) (e .head) ≡ true = ap₂ _&&_ q (ap (λ (x : ℕ). eqb (getD vs x 0) unfound) p ∙ t) in
-        rw (r, add-one, take-suc-set qs m h (omega (arith, s .room)), p, a)
+  reach-finds f e q p a =
+      let z = queue-room in
+      let r : f e && isUnfound (searchOf m qs vs) (e .head) ≡ true = ap₂ _&&_ q (ap (λ (x : ℕ). eqb (getD vs x 0) unfound) p ∙ t) in
+      rw (r, add-one, take-suc-set qs m h (omega (arith, s .room)), p, a)
 
 -- ---- a vertex is expanded
 
+-- an index has the edges of a vertex
 pub expand-own : (f : Edge → Bool) (es : List Edge) (is : List ℕ) (st : Search) (u : ℕ) → own is u ≡ leaving u es → foldl (reach f) st (own is u) ≡ expand f es st u
 unfolding expand
 expand-own f es is st u e = ap (foldl (reach f) st) e
@@ -95,6 +107,7 @@ expand-own f es is st u e = ap (foldl (reach f) st) e
 -- ---- the search begins
 
 module _ (n s : ℕ) (qs fs : List ℕ) (e : fs ≡ replicate n unfound) (l : s < n) (few : n ≤ maxVertices) (room : n ≤ length qs) where
+  -- the source alone is found
   pub searching-begun : Searching 1 (set qs 0 s) (set fs s noArc)
   searching-begun =
       let z = ap length e ∙ length-replicate n unfound in
@@ -125,24 +138,23 @@ module _ (f : Edge → Bool) (es : List Edge) (t i m : ℕ) (qs vs : List ℕ) (
   queue-size : length (take m qs) ≡ m
   queue-size = length-take-le m qs (omega (arith, s .once, s .room))
 
+  -- entry i is there and t is not found: it is expanded
   pub search-turn : (n : ℕ) (st : Search) → n ≡ length vs → i < m → eqb (getD vs t 0) unfound ≡ true → st ≡ expand f es (searchOf m qs vs) (getD qs i 0)
       → search f es t (n - i) i (searchOf m qs vs) ≡ search f es t (n - (i + 1)) (i + 1) st
   unfolding search
   search-turn n st z l u e =
       let k : n - i ≡ suc (n - (i + 1)) = omega (arith, s .once) in
-      let b : ltb i (length (take m qs)) && eqb (getD vs t 0) unfound ≡ true = ap₂ _&&_ (lt-ltb i _ (omega (arith, queue-size))) u in
+      let b : ltb i (length (take m qs)) && eqb (getD vs t 0) unfound ≡ true = ap₂ _&&_ (lt-ltb i (length (take m qs)) (omega (arith, queue-size))) u in
       rw (k, e)
       (ap (next (n - (i + 1))) b
       ∙ ap₂ (λ (j u : ℕ). search f es t (n - (i + 1)) j (expand f es (searchOf m qs vs) u)) (sym (add-one i)) (getD-take m qs i 0 l))
 
+  -- no entry is left, or t is found: nothing more is done
   pub search-stops : (k : ℕ) → (m ≤ i) ⊎ (eqb (getD vs t 0) unfound ≡ false) → search f es t k i (searchOf m qs vs) ≡ searchOf m qs vs
   unfolding search
   search-stops zero h = refl
   search-stops (suc k) h =
-      let b : ltb i (length (take m qs)) && eqb (getD vs t 0) unfound ≡ false =
-      ⊎-elim (λ l. ap (λ (x : Bool). x && eqb (getD vs t 0) unfound) (le-ltb i _ (omega (arith, queue-size))))
-      (λ u. ap (λ (x : Bool). ltb i (length (take m qs)) && x) u ∙ and-false (ltb i (length (take m qs)))) h in
-      ap (next k) b
+      ap (next k) (either-false _ _ (⊎-elim (λ l. inl (le-ltb i (length (take m qs)) (omega (arith, queue-size)))) inr h))
 
 -- ---- the whole search
 

@@ -67,7 +67,8 @@ loop-again c =
     let e = edge (g .u) (arcHead arcAt) (arcWeight arcAt) in
     let F = eligible (g .p) (g .row .now) (g .v) in
     let i = s .pre .1 .inside (at .j) (omega arith) (omega arith) in
-    let z = eligible-word (g .p) (g .v) (g .u) (h .head .result) (w .weight .result) arcAt (g .row .now) (a .before .is-eligible .result) (omega (arith, s .pre .0, s .pre .2)) (omega (arith, s .pre .2)) (h .head .ensures) (w .weight .ensures) (a .before .is-eligible .ensures) in
+    let z = eligible-word (g .p) (g .v) (g .u) (h .head .result) (w .weight .result) arcAt (g .row .now) _
+    (omega (arith, s .pre .0, s .pre .2)) (omega (arith, s .pre .2)) (h .head .ensures) (w .weight .ensures) (a .before .is-eligible .ensures) in
     let q = r .reach .ensures .0 F e z (sym (h .head .ensures)) (ap (arc (g .u)) (sym (w .weight .ensures)) ∙ sym (a .arc .ensures)) in (
       fold-turn (reach F) e (part-more _ _ _ _ (t .loop-test .taken)) q (at .inv .0),
       omega arith,

@@ -1,7 +1,5 @@
 -- `search::reach` meets its contract. Assumes nothing.
-use Rattle.property.proofs.Basics.{_≡_, ap, ⊎-elim, Bool, false, _∙_, _&&_, eqb, getD, arith, needs}
-use mathlib.Core.Bool.{and-false}
-use Rattle.routing.specs.Search.{unfound}
+use Rattle.property.proofs.Basics.{inl, inr, ⊎-elim, _∙_, arith, needs}
 use Rattle.routing.proofs.Steps.{reach-keeps, reach-finds, queue-room, searching-found}
 use Rattle.routing.proofs.search.reach.Statement.{statement}
 use Rattle.routing.proofs.search.reach.Tie as tie
@@ -23,12 +21,8 @@ returns c =
 returns-2 : tie.Need-returns-2
 returns-2 c =
     let s = c .before in
-    let w = c .if1 .came in
-    let g : s .args .passes && eqb (getD (s .args .via .now) (s .args .h) 0) unfound ≡ false =
-    ⊎-elim (λ q. ap (λ (b : Bool). s .args .passes && b) (q .2 .left) ∙ and-false (s .args .passes)) (λ q. ap (λ (b : Bool). b && eqb (getD (s .args .via .now) (s .args .h) 0) unfound) (q .left)) w in (
-      λ f e q p a. reach-keeps _ _ _ _ _ (s .pre .0) (s .pre .1) (s .pre .2) f e _ q p g,
-      s .pre .2,
-    )
+    let g = s .args in
+    (λ f e q p a. reach-keeps (g .h) (g .count) (g .queue .now) (g .via .now) f e (g .passes) q p (⊎-elim (λ w. inr (w .2 .left)) (λ w. inl (w .left)) (c .if1 .came)), s .pre .2)
 
 pub reach-spec : {M : Type 1} → statement M
 reach-spec =

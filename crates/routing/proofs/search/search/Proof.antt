@@ -1,6 +1,6 @@
 -- `search::search` meets its contract. The loop's invariant: the steps that are left, from the search now, come to what `n` steps come to from the
 -- search before its first. Assumes nothing.
-use Rattle.property.proofs.Basics.{_≡_, refl, sym, ap, subst, _∙_, inl, inr, ⊎-elim, not, List, ℕ, _-_, _≤_, length, length-set, arith, needs}
+use Rattle.property.proofs.Basics.{_≡_, refl, sym, ap, subst, _∙_, inl, inr, ⊎-elim, not, List, ℕ, _-_, length, length-set, arith, needs}
 use Rattle.graph.specs.Edge.{Edge}
 use Rattle.graph.specs.Index.{Fit, Own}
 use Rattle.answers.specs.Routing.{eligible}
@@ -86,10 +86,10 @@ returns c =
     let at = l .loop in
     let z = size l in
     let w = c .before .loop-test .came in (
-      λ es o.
-          let F = eligible (g .p) (g .row .now) (g .v) in
-          let e = sym (search-stops F es (g .t) (at .i) (at .count) (at .queue) (at .via) (at .inv .3) (length (g .via .now) - at .i) (⊎-elim (λ q. inr (q .2 .left)) (λ q. inl (q .left)) w)) ∙ at .inv .0 (length (g .via .now)) z es o in
-          (ap (λ st. st .via) e, ap (λ st. not (isUnfound st (g .t))) e)
+    λ es o.
+    let F = eligible (g .p) (g .row .now) (g .v) in
+    let e = sym (search-stops F es (g .t) (at .i) (at .count) (at .queue) (at .via) (at .inv .3) (length (g .via .now) - at .i) (⊎-elim (λ q. inr (q .2 .left)) (λ q. inl (q .left)) w)) ∙ at .inv .0 (length (g .via .now)) z es o in
+    (ap (λ st. st .via) e, ap (λ st. not (isUnfound st (g .t))) e)
     )
 
 pub search-spec : {M : Type 1} → statement M

@@ -1,5 +1,5 @@
 -- `search::search_by` meets its contract: each arm is the search of its number. Assumes nothing.
-use Rattle.property.proofs.Basics.{refl, length, getD, arith, needs}
+use Rattle.property.proofs.Basics.{refl, length, arith, needs}
 use Rattle.routing.proofs.Steps.{searched-best, searched-all, told-of}
 use Rattle.routing.proofs.search.search_by.Statement.{statement}
 use Rattle.routing.proofs.search.search_by.Tie as tie
@@ -11,10 +11,10 @@ returns c =
     let m = w .before .before in
     let s = m .before .before .before .before .before in
     let g = s .args in (
-      λ es o.
-          told-of (g .t) _ _ _ _
-          (searched-best (length (g .via .now)) (g .s) (g .t) es (w .values-from .last .1 .1 .1 .1 .0) (g .p) 1 (m .match .keys1) refl refl (omega (arith, w .values-from .ensures .1, s .pre .2)) (w .values-from .ensures .0 es o))
-          (x .search .ensures es o)
+    λ es o.
+    told-of (g .t) _ _ _ _
+    (searched-best (length (g .via .now)) (g .s) (g .t) es (w .values-from .last .1 .1 .1 .1 .0) (g .p) 1 (m .match .keys1) refl refl (omega (arith, w .values-from .ensures .1, s .pre .2)) (w .values-from .ensures .0 es o))
+    (x .search .ensures es o)
     )
 
 returns-2 : tie.Need-returns-2
@@ -24,10 +24,10 @@ returns-2 c =
     let m = w .before .before in
     let s = m .before .before .before .before .before in
     let g = s .args in (
-      λ es o.
-          told-of (g .t) _ _ _ _
-          (searched-best (length (g .via .now)) (g .s) (g .t) es (w .values-from2 .last .1 .1 .1 .1 .0) (g .p) 3 (m .match .keys2) refl refl (omega (arith, w .values-from2 .ensures .1, s .pre .2)) (w .values-from2 .ensures .0 es o))
-          (x .search2 .ensures es o)
+    λ es o.
+    told-of (g .t) _ _ _ _
+    (searched-best (length (g .via .now)) (g .s) (g .t) es (w .values-from2 .last .1 .1 .1 .1 .0) (g .p) 3 (m .match .keys2) refl refl (omega (arith, w .values-from2 .ensures .1, s .pre .2)) (w .values-from2 .ensures .0 es o))
+    (x .search2 .ensures es o)
     )
 
 returns-3 : tie.Need-returns-3
@@ -37,10 +37,10 @@ returns-3 c =
     let m = w .before .before in
     let s = m .before .before .before .before .before in
     let g = s .args in (
-      λ es o.
-          told-of (g .t) _ _ _ _
-          (searched-best (length (g .via .now)) (g .s) (g .t) es (w .values-from3 .last .1 .1 .1 .1 .0) (g .p) 4 (m .match .keys3) refl refl (omega (arith, w .values-from3 .ensures .1, s .pre .2)) (w .values-from3 .ensures .0 es o))
-          (x .search3 .ensures es o)
+    λ es o.
+    told-of (g .t) _ _ _ _
+    (searched-best (length (g .via .now)) (g .s) (g .t) es (w .values-from3 .last .1 .1 .1 .1 .0) (g .p) 4 (m .match .keys3) refl refl (omega (arith, w .values-from3 .ensures .1, s .pre .2)) (w .values-from3 .ensures .0 es o))
+    (x .search3 .ensures es o)
     )
 
 returns-4 : tie.Need-returns-4
