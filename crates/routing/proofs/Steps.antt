@@ -1,0 +1,180 @@
+-- Steps of a search, as the code makes them: a vertex is found, a vertex is expanded, the search begins, goes on and stops. Assumes nothing.
+--
+-- A vertex is put at the end of the queue when it is found, and then its word is an arc's, which is never `unfound`. So the words that are
+-- `unfound` fall by one whenever the queue grows by one: together they stay as many as there are vertices. Where one more is found, some word was
+-- `unfound`, so the queue has room for it; and the entry that is expanded is always below the number of vertices, so that number of steps suffices.
+use Rattle.property.proofs.Basics.{_≡_, refl, sym, ap, ap₂, _∙_, _≢_, _⊎_, inl, inr, ⊎-elim, Bool, true, false, _&&_, List, [], _∷_, foldl, not, ℕ, zero, suc, _+_, _-_, _≤_, _<_, add-one, arith, length, getD, set, take, replicate, eqb, ltb, length-set, length-replicate, length-take-le, take-suc-set, getD-take, sub-zero, getD-set-same, lt-ltb, le-ltb, eq-eqb, ne-eqb, eqb-true, eqb-false, le-leb, lt-leb}
+use mathlib.Core.Bool.{and-false}
+use Rattle.property.proofs.Tests.{by-test}
+use Rattle.property.specs.Property.{property}
+use Rattle.graph.specs.Limits.{maxVertices}
+use Rattle.graph.specs.Arc.{arc, arcHead, arcWeight}
+use Rattle.graph.specs.Edge.{Edge, edge, leaving}
+use Rattle.graph.specs.Code.{equal}
+use Rattle.graph.specs.Index.{own}
+use Rattle.graph.proofs.Lists.{at-set, getD-within, replicate-at}
+use Rattle.run.specs.Start.{valuesFrom}
+use Rattle.answers.specs.Routing.{eligible}
+use Rattle.routing.specs.Search.{unfound, noArc, Search, isUnfound, finds, reach, expand, begun, search, passes, searched}
+use Rattle.routing.specs.Code.{isEligible, searchOf, Searching}
+
+-- ---- whether an edge can lie on a best route
+
+module _ (p v x w y : ℕ) where
+  -- by how the code decides it, for 1 and 2 and for the others
+  pub eligible-low : (a : ℕ) → p ≤ 2 → a ≡ property p .along x w → eqb a y ≡ isEligible p v x w y
+  eligible-low a l e = rw (le-leb p 2 l, e)
+
+  pub eligible-high : (s a : ℕ) (b : Bool) → 2 < p → s ≡ property p .start → a ≡ property p .along s w → b ≡ property p .better v a
+      → not b ≡ isEligible p v x w y
+  eligible-high s a b l d e f = rw (lt-leb p 2 l, f, e, d)
+
+-- the edge of an arc, by the words that its ends have in the row
+pub eligible-word : (p v u h w a : ℕ) (ws : List ℕ) (r : Bool) → u < length ws → arcHead a < length ws → h ≡ arcHead a → w ≡ arcWeight a
+    → r ≡ isEligible p v (getD ws u 0) w (getD ws h 0) → eligible p ws v (edge u (arcHead a) (arcWeight a)) ≡ r
+eligible-word p v u h w a ws r i j f g e =
+    let P = property p in
+    let k : getD ws (arcHead a) (P .none) ≡ getD ws h 0 = getD-within ws (arcHead a) (P .none) 0 j ∙ ap (λ (x : ℕ). getD ws x 0) (sym f) in
+    rw (e, getD-within ws u (P .none) 0 i, k, g)
+
+-- ---- how many words are equal
+
+-- one of those that are x is stored over
+equal-set : (x : ℕ) (ks : List ℕ) (i v : ℕ) → i < length ks → getD ks i 0 ≡ x → v ≢ x → suc (equal x (set ks i v)) ≡ equal x ks
+unfolding equal
+equal-set x [] i v h e n = absurd (omega arith)
+equal-set x (k ∷ ks) zero v h e n = rw (eq-eqb k x e, ne-eqb v x n)
+equal-set x (k ∷ ks) (suc i) v h e n =
+    let z = equal-set x ks i v (omega arith) e n in
+    by-test (eqb k x) (λ p. rw p (ap suc z)) (λ p. rw p z)
+
+equal-replicate : (n x : ℕ) → equal x (replicate n x) ≡ n
+unfolding equal
+equal-replicate zero x = refl
+equal-replicate (suc n) x = rw (eq-eqb x x refl) (ap suc (equal-replicate n x))
+
+-- ---- a vertex is found
+
+-- one of two tests fails
+either-false : (a b : Bool) → (a ≡ false) ⊎ (b ≡ false) → (a && b) ≡ false
+either-false a b (inl p) = rw p
+either-false a b (inr p) = rw (p, and-false)
+
+-- the edge does not pass, or its head is found already
+pub reach-keeps : (h m : ℕ) (qs vs : List ℕ) (f : Edge → Bool) (e : Edge) (t : Bool) → f e ≡ t → e .head ≡ h → (t ≡ false) ⊎ (eqb (getD vs h 0) unfound ≡ false)
+    → searchOf m qs vs ≡ reach f (searchOf m qs vs) e
+unfolding reach finds
+reach-keeps h m qs vs f e t q p g =
+    let r : f e && isUnfound (searchOf m qs vs) (e .head) ≡ false = ap₂ _&&_ q (ap (λ (x : ℕ). eqb (getD vs x 0) unfound) p) ∙ either-false t _ g in
+    rw r
+
+module _ (h by m : ℕ) (qs vs : List ℕ) (l : h < length vs) (b : by ≢ unfound) (s : Searching m qs vs) (t : eqb (getD vs h 0) unfound ≡ true) where
+  -- what is not found yet is counted, so the queue has room for one more
+  pub queue-room : m < length vs
+  queue-room = let z = equal-set unfound vs h by l (eqb-true _ _ t) b in omega (arith, s .once)
+
+  -- it is found once, and found and not found are still all
+  pub searching-found : Searching (m + 1) (set qs m h) (set vs h by)
+  searching-found =
+      let r = queue-room in
+      let x = length-set vs h by in
+      let y = length-set qs m h in
+      record {
+        few = omega (arith, s .few);
+        room = omega (arith, s .room);
+        once = let z = equal-set unfound vs h by l (eqb-true _ _ t) b in omega (arith, s .once);
+        inside = λ i j.
+            ⊎-elim (λ q. let e = q .1 in omega arith) (λ q. let e = q .1 in let n = q .0 in let k = s .inside i (omega arith) in omega arith)
+            (at-set qs m h i 0 (omega (arith, s .room)));
+      }
+
+  -- the edge passes and its head is found by it
+  pub reach-finds : (f : Edge → Bool) (e : Edge) → f e ≡ true → e .head ≡ h → arc (e .tail) (e .weight) ≡ by
+      → searchOf (m + 1) (set qs m h) (set vs h by) ≡ reach f (searchOf m qs vs) e
+  unfolding reach finds
+  reach-finds f e q p a =
+      let z = queue-room in
+      let r : f e && isUnfound (searchOf m qs vs) (e .head) ≡ true = ap₂ _&&_ q (ap (λ (x : ℕ). eqb (getD vs x 0) unfound) p ∙ t) in
+      rw (r, add-one, take-suc-set qs m h (omega (arith, s .room)), p, a)
+
+-- ---- a vertex is expanded
+
+-- an index has the edges of a vertex
+pub expand-own : (f : Edge → Bool) (es : List Edge) (is : List ℕ) (st : Search) (u : ℕ) → own is u ≡ leaving u es → foldl (reach f) st (own is u) ≡ expand f es st u
+unfolding expand
+expand-own f es is st u e = ap (foldl (reach f) st) e
+
+-- ---- the search begins
+
+module _ (n s : ℕ) (qs fs : List ℕ) (e : fs ≡ replicate n unfound) (l : s < n) (few : n ≤ maxVertices) (room : n ≤ length qs) where
+  -- the source alone is found
+  pub searching-begun : Searching 1 (set qs 0 s) (set fs s noArc)
+  searching-begun =
+      let z = ap length e ∙ length-replicate n unfound in
+      let x = length-set fs s noArc in
+      let y = length-set qs 0 s in
+      let r = length-replicate n unfound in
+      let a = equal-set unfound (replicate n unfound) s noArc (omega arith) (getD-within (replicate n unfound) s 0 unfound (omega arith) ∙ replicate-at n s unfound) (λ q. omega arith) in
+      record {
+        few = omega arith;
+        room = omega arith;
+        once = let b = equal-replicate n unfound in let c = ap (λ (l : List ℕ). equal unfound (set l s noArc)) e in omega arith;
+        inside = λ i j. let k : i ≡ 0 = omega arith in rw (k, getD-set-same qs 0 s 0 (omega arith)) (omega arith);
+      }
+
+  pub search-begins : (k : ℕ) → k ≡ length (set fs s noArc) → (f : Edge → Bool) (es : List Edge) (t : ℕ)
+      → search f es t (k - 0) 0 (searchOf 1 (set qs 0 s) (set fs s noArc)) ≡ search f es t k 0 (begun k s)
+  search-begins k h f es t =
+      let z : k ≡ n = h ∙ length-set fs s noArc ∙ ap length e ∙ length-replicate n unfound in
+      rw (z, sub-zero, e, take-suc-set qs 0 s (omega arith))
+
+-- ---- the search goes on or stops
+
+module _ (f : Edge → Bool) (es : List Edge) (t i m : ℕ) (qs vs : List ℕ) (s : Searching m qs vs) where
+  -- the search from its entry i on, k + 1 steps at most, by whether it goes on
+  abbrev next : ℕ → Bool → Search
+  next k b = elim b [ true ↦ search f es t k (suc i) (expand f es (searchOf m qs vs) (getD (take m qs) i 0)) | false ↦ searchOf m qs vs ]
+
+  queue-size : length (take m qs) ≡ m
+  queue-size = length-take-le m qs (omega (arith, s .once, s .room))
+
+  -- entry i is there and t is not found: it is expanded
+  pub search-turn : (n : ℕ) (st : Search) → n ≡ length vs → i < m → eqb (getD vs t 0) unfound ≡ true → st ≡ expand f es (searchOf m qs vs) (getD qs i 0)
+      → search f es t (n - i) i (searchOf m qs vs) ≡ search f es t (n - (i + 1)) (i + 1) st
+  unfolding search
+  search-turn n st z l u e =
+      let k : n - i ≡ suc (n - (i + 1)) = omega (arith, s .once) in
+      let b : ltb i (length (take m qs)) && eqb (getD vs t 0) unfound ≡ true = ap₂ _&&_ (lt-ltb i (length (take m qs)) (omega (arith, queue-size))) u in
+      rw (k, e)
+      (ap (next (n - (i + 1))) b
+      ∙ ap₂ (λ (j u : ℕ). search f es t (n - (i + 1)) j (expand f es (searchOf m qs vs) u)) (sym (add-one i)) (getD-take m qs i 0 l))
+
+  -- no entry is left, or t is found: nothing more is done
+  pub search-stops : (k : ℕ) → (m ≤ i) ⊎ (eqb (getD vs t 0) unfound ≡ false) → search f es t k i (searchOf m qs vs) ≡ searchOf m qs vs
+  unfolding search
+  search-stops zero h = refl
+  search-stops (suc k) h =
+      ap (next k) (either-false _ _ (⊎-elim (λ l. inl (le-ltb i (length (take m qs)) (omega (arith, queue-size)))) inr h))
+
+-- ---- the whole search
+
+module _ (n s t : ℕ) (es : List Edge) (ws : List ℕ) where
+  -- a search along the edges that pass one of two tests that agree
+  along-same : (f g : Edge → Bool) → ((e : Edge) → f e ≡ g e) → search f es t n 0 (begun n s) ≡ search g es t n 0 (begun n s)
+  along-same f g h = ap (λ (x : Edge → Bool). search x es t n 0 (begun n s)) (λ i e. h e i)
+
+  -- for time, headroom and worst stretch the eligible edges are searched
+  pub searched-best : (p k : ℕ) → p ≡ k → eqb k 2 ≡ false → ltb 4 k ≡ false → t < length ws → ws ≡ valuesFrom (property k) es n s
+      → search (eligible k ws (getD ws t 0)) es t n 0 (begun n s) ≡ searched p es n s t
+  searched-best p k q a b l e =
+      rw (q, ← e) (along-same (eligible k ws (getD ws t 0)) (passes k ws t) (λ x. rw (a, b, getD-within ws t (property k .none) 0 l)))
+
+  -- for handovers and reach every edge is, as each is eligible for reach
+  pub searched-all : (p : ℕ) → 0 < p → ((Unit {0} × (p ≡ 1 → ⊥)) × (p ≡ 3 → ⊥)) × (p ≡ 4 → ⊥) → search (eligible 5 ws 1) es t n 0 (begun n s) ≡ searched p es n s t
+  unfolding property
+  searched-all p l h = along-same (eligible 5 ws 1) (passes p (valuesFrom (property p) es n s) t)
+      (λ x. by-test (eqb p 2) (λ a. rw a) (λ a. let k = eqb-false p 2 a in let b = lt-ltb 4 p (omega (arith, h .0 .0 .1, h .0 .1, h .1)) in rw (a, b)))
+
+-- what is told of a search is told of one that equals it
+pub told-of : (t : ℕ) (vs : List ℕ) (r : Bool) (a b : Search) → a ≡ b → (vs ≡ a .via) × (r ≡ not (isUnfound a t)) → (vs ≡ b .via) × (r ≡ not (isUnfound b t))
+told-of t vs r a b e h = (h .0 ∙ ap (λ st. st .via) e, h .1 ∙ ap (λ st. not (isUnfound st t)) e)
