@@ -1,0 +1,143 @@
+-- The search finds its target where a route of the searched edges leads there, and then by the first such route in the order of the search. What it
+-- writes leads back along that route. Assumes nothing.
+--
+--   Entry               == a vertex of the queue with the route by which it was found
+--   entry gs j          == entry j of gs
+--   key g               == the number of g's route
+--   Reached gs k v      == an entry of gs is of vertex v, and its route's number is at most k
+--   Grows gs hs         == hs is gs with entries put after it
+--   Rising c ls         == the heads of ls ascend from c on
+--   Entered vs j g      == g, entry j, is found: its route leads to its vertex, has at most j edges, and vs has the arc of each of its edges
+--   Under gs st i b     == the search st has the entries gs: all routes' numbers ascend and are below b, and the edges of the first i entries are gone over
+use Rattle.property.proofs.Basics.{_≡_, refl, sym, ap, subst, _∙_, _⊎_, inl, inr, ⊎-elim, _≢_, Bool, true, false, true≢false, false≢true, _&&_, List, [], _∷_, _++_, map, foldl, List·Memᴰ, List·Memᴰ·head, List·Memᴰ·tail, List·Memᴰ·cases-cons, List·Memᴰ·not-nil, ℕ, zero, suc, _+_, _*_, _≤_, _<_, arith, length, getD, set, replicate, length-set, length-append, length-replicate, length-map, List·getD-map, List·getD-append, getD-set-same, getD-set-other, ltb, eqb, ltb-true, ltb-false, eqb-true, eqb-false, eq-eqb, ne-eqb}
+use mathlib.Core.List.{map-append}
+use lib.ListN.{getD-replicate}
+use lib.Seq.{getD-append-seam}
+use Rattle.property.proofs.Tests.{by-test}
+use Rattle.graph.specs.Limits.{maxVertices}
+use Rattle.graph.specs.Arc.{arc}
+use Rattle.graph.specs.Edge.{Edge, edge, keepIf, keep, leaving}
+use Rattle.graph.specs.Code.{equal}
+use Rattle.graph.specs.Table.{isEdge}
+use Rattle.graph.specs.Trail.{Leads, stop, on, visited}
+use Rattle.graph.proofs.Tests.{both}
+use Rattle.graph.proofs.Lists.{at-set, getD-mem, mem-index}
+use Rattle.graph.proofs.Edges.{keep-in, in-leaving, leaving-in, in-keep}
+use Rattle.graph.proofs.Sorted.{sorted-before}
+use Rattle.graph.proofs.Order.{Less, less-of, table-ordered, Sound, EdgeFacts, sound-fit}
+use Rattle.routing.specs.Search.{unfound, noArc, Search, isUnfound, finds, reach, expand, begun, search}
+use Rattle.routing.specs.Code.{weightAt, Trace}
+use Rattle.routing.proofs.Routes.{rank, Narrow, NoLater, rank-on, rank-most, rank-no-later, leads-mem, leads-on, leads-last, leads-tail}
+
+-- ---- how many words are a number
+
+pub equal-all : (a n : ℕ) → equal a (replicate n a) ≡ n
+unfolding equal
+equal-all a zero = refl
+equal-all a (suc n) = rw (eq-eqb a a refl, equal-all a n)
+
+-- one fewer where another is stored over it
+pub equal-set : (a : ℕ) (vs : List ℕ) (h v : ℕ) → h < length vs → getD vs h 0 ≡ a → v ≢ a → suc (equal a (set vs h v)) ≡ equal a vs
+unfolding equal
+equal-set a [] h v l p q = absurd (omega arith)
+equal-set a (x ∷ vs) zero v l p q = rw (ne-eqb v a q, eq-eqb x a p)
+equal-set a (x ∷ vs) (suc h) v l p q = let z = equal-set a vs h v (omega arith) p q in by-test (eqb x a) (λ r. rw r (ap suc z)) (λ r. rw r z)
+
+-- ---- entries
+
+pub record Entry : Type 0 where
+  pub vertex : ℕ
+  pub route : List Edge
+
+abbrev pub entry : List Entry → ℕ → Entry
+entry gs j = getD gs j (record { vertex = 0; route = [] })
+
+abbrev pub key : Entry → ℕ
+key g = rank 1 (g .route)
+
+abbrev pub Reached : List Entry → ℕ → ℕ → Type 0
+Reached gs k v = (j : ℕ) × (j < length gs) × ((entry gs j) .vertex ≡ v) × (key (entry gs j) ≤ k)
+
+pub record Grows (gs hs : List Entry) : Type 0 where
+  pub longer : length gs ≤ length hs
+  pub same : (j : ℕ) → j < length gs → entry hs j ≡ entry gs j
+
+grows-none : (gs : List Entry) → Grows gs gs
+grows-none gs = record { longer = omega arith; same = λ j h. refl }
+
+grows-on : {gs hs is : List Entry} → Grows gs hs → Grows hs is → Grows gs is
+grows-on a b = let p = a .longer in let q = b .longer in record { longer = omega arith; same = λ j h. b .same j (omega arith) ∙ a .same j h }
+
+grows-one : (gs : List Entry) (g : Entry) → Grows gs (gs ++ g ∷ [])
+grows-one gs g = let p = length-append gs (g ∷ []) in record { longer = omega arith; same = λ j h. List·getD-append gs (g ∷ []) _ j h }
+
+reached-grows : {gs hs : List Entry} {k v : ℕ} → Grows gs hs → Reached gs k v → Reached hs k v
+reached-grows a (j, h, p, q) = let l = a .longer in (j, omega arith, ap (λ (g : Entry). g .vertex) (a .same j h) ∙ p, (rw (a .same j h) q))
+
+-- what holds of each entry and of one more
+each-on : (P : ℕ → Entry → Type 0) (gs : List Entry) (g : Entry) → ((j : ℕ) → j < length gs → P j (entry gs j)) → P (length gs) g
+    → (j : ℕ) → j < length (gs ++ g ∷ []) → P j (entry (gs ++ g ∷ []) j)
+each-on P [] g a b zero h = b
+each-on P [] g a b (suc j) h = absurd (omega arith)
+each-on P (x ∷ gs) g a b zero h = a 0 (omega arith)
+each-on P (x ∷ gs) g a b (suc j) h = each-on (λ k. P (suc k)) gs g (λ k l. a (suc k) (omega arith)) b j (omega arith)
+
+-- ---- the edges of one tail ascend by head
+
+abbrev Rising : ℕ → List Edge → Type 0
+Rising c [] = Unit {0}
+Rising c (e ∷ ls) = (c ≤ e .head) × Rising (suc (e .head)) ls
+
+leaving-rising : (n u : ℕ) (es : List Edge) → Sound n es → (c : ℕ) → ((e : Edge) → List·Memᴰ e es → e .tail ≡ u → c ≤ e .head) → Rising c (leaving u es)
+unfolding keep keepIf
+leaving-rising n u [] h c b = tt
+leaving-rising n u (x ∷ es) h c b = by-test (eqb (x .tail) u)
+    (λ q. rw q (b x (List·Memᴰ·head refl) (eqb-true _ _ q), leaving-rising n u es (h .2) (suc (x .head)) (after (eqb-true _ _ q))))
+    (λ q. rw q (leaving-rising n u es (h .2) c (λ e m p. b e (List·Memᴰ·tail m) p)))
+  where
+    after : x .tail ≡ u → (e : Edge) → List·Memᴰ e es → e .tail ≡ u → x .head < e .head
+    after q e m p =
+        let (k, l, r) = mem-index x m in
+        let z : Less x e = subst (λ (y : Edge). Less x y) r (less-of x (getD es k x) (sorted-before table-ordered (isEdge n) x (x ∷ es) h 0 (suc k) (omega arith) (omega arith))) in
+        ⊎-elim (λ a. absurd (omega arith)) (λ a. a .1) z
+
+module _ (f : Edge → Bool) (es : List Edge) (n s : ℕ) (sound : Sound n es) (small : n ≤ maxVertices) (home : s < n) where
+  kept-fit : (e : Edge) → List·Memᴰ e (keep f es) → EdgeFacts n e
+  kept-fit e m = sound-fit n es sound e ((keep-in f es e m) .0)
+
+  leads-narrow : {ps : List Edge} {t : ℕ} → Leads (keep f es) s ps t → Narrow ps
+  leads-narrow l e m = let z = (kept-fit e (leads-mem l m)) .head-below in omega (arith, small)
+
+  -- no arc of an edge is the word of a vertex that is not found
+  arc-found : (e : Edge) → List·Memᴰ e (keep f es) → arc (e .tail) (e .weight) ≢ unfound
+  arc-found e m q = let z = kept-fit e m in let a = z .tail-below in let b = z .weight-most in omega (arith, small)
+
+  pub record Entered (vs : List ℕ) (j : ℕ) (g : Entry) : Type 0 where
+    pub leads : Leads (keep f es) s (g .route) (g .vertex)
+    pub found : getD vs (g .vertex) 0 ≢ unfound
+    pub traced : (e : Edge) → List·Memᴰ e (g .route) → getD vs (e .head) 0 ≡ arc (e .tail) (e .weight)
+    pub few : length (g .route) ≤ j
+
+  pub record Under (gs : List Entry) (st : Search) (i b : ℕ) : Type 0 where
+    pub queued : st .queue ≡ map (λ g. g .vertex) gs
+    pub sized : length (st .via) ≡ n
+    pub source : getD (st .via) s 0 ≡ noArc
+    pub once : length gs + equal unfound (st .via) ≡ n
+    pub entered : (j : ℕ) → j < length gs → Entered (st .via) j (entry gs j)
+    pub known : (u : ℕ) → u < n → getD (st .via) u 0 ≢ unfound → (j : ℕ) × (j < length gs) × ((entry gs j) .vertex ≡ u)
+    pub ascending : (j k : ℕ) → j < k → k < length gs → key (entry gs j) < key (entry gs k)
+    pub bounded : (j : ℕ) → j < length gs → key (entry gs j) < b
+    pub closed : (j : ℕ) → j < i → j < length gs → (e : Edge) → List·Memᴰ e (keep f es) → e .tail ≡ (entry gs j) .vertex → Reached gs (key (entry gs j) * maxVertices + e .head) (e .head)
+
+  under-raise : {gs : List Entry} {st : Search} {i b : ℕ} (c : ℕ) → b ≤ c → Under gs st i b → Under gs st i c
+  under-raise c l u = record {
+    queued = u .queued;
+    sized = u .sized;
+    source = u .source;
+    once = u .once;
+    entered = u .entered;
+    known = u .known;
+    ascending = u .ascending;
+    bounded = λ j h. (let z = u .bounded j h in omega arith);
+    closed = u .closed;
+  }
