@@ -82,6 +82,10 @@ each-on P [] g a b (suc j) h = absurd (omega arith)
 each-on P (x ∷ gs) g a b zero h = a 0 (omega arith)
 each-on P (x ∷ gs) g a b (suc j) h = each-on (λ k. P (suc k)) gs g (λ k l. a (suc k) (omega arith)) b j (omega arith)
 
+mem-on : {x e : Edge} (ps : List Edge) → List·Memᴰ x (ps ++ e ∷ []) → List·Memᴰ x ps ⊎ (x ≡ e)
+mem-on [] m = ⊎-elim inr (λ k. absurd (List·Memᴰ·not-nil k)) (List·Memᴰ·cases-cons m)
+mem-on (y ∷ ps) m = ⊎-elim (λ q. inl (List·Memᴰ·head q)) (λ k. ⊎-elim (λ a. inl (List·Memᴰ·tail a)) inr (mem-on ps k)) (List·Memᴰ·cases-cons m)
+
 -- ---- the edges of one tail ascend by head
 
 abbrev Rising : ℕ → List Edge → Type 0
@@ -141,3 +145,77 @@ module _ (f : Edge → Bool) (es : List Edge) (n s : ℕ) (sound : Sound n es) (
     bounded = λ j h. (let z = u .bounded j h in omega arith);
     closed = u .closed;
   }
+
+  -- ---- one edge
+
+  -- An edge from entry i whose head is not found yet: its route goes on along the edge, and comes after all others.
+  module _ (gs : List Entry) (st : Search) (i b : ℕ) (u : Under gs st i b) (l : i < length gs) (e : Edge) (m : List·Memᴰ e (keep f es)) (p : e .tail ≡ (entry gs i) .vertex)
+      (c : b ≤ key (entry gs i) * maxVertices + e .head) (o : getD (st .via) (e .head) 0 ≡ unfound) where
+    abbrev next : Entry
+    next = record { vertex = e .head; route = (entry gs i) .route ++ e ∷ [] }
+
+    abbrev later : List ℕ
+    later = set (st .via) (e .head) (arc (e .tail) (e .weight))
+
+    inside : e .head < length (st .via)
+    inside = let z = (kept-fit e m) .head-below in omega (arith, u .sized)
+
+    at-later : (v : ℕ) → ((v ≡ e .head) × (getD later v 0 ≡ arc (e .tail) (e .weight))) ⊎ ((v ≢ e .head) × (getD later v 0 ≡ getD (st .via) v 0))
+    at-later v = at-set (st .via) (e .head) (arc (e .tail) (e .weight)) v 0 inside
+
+    stays : (j : ℕ) (g : Entry) → Entered (st .via) j g → Entered later j g
+    stays j g h = record {
+      leads = h .leads;
+      found = λ q. ⊎-elim (λ a. arc-found e m (sym (a .1) ∙ q)) (λ a. h .found (sym (a .1) ∙ q)) (at-later (g .vertex));
+      traced = λ x k. ⊎-elim (λ a. absurd (arc-found x (leads-mem (h .leads) k) (sym (h .traced x k) ∙ (ap (λ (v : ℕ). getD (st .via) v 0) (a .0) ∙ o)))) (λ a. a .1 ∙ h .traced x k) (at-later (x .head));
+      few = h .few;
+    }
+
+    entered-next : Entered later (length gs) next
+    entered-next =
+        let h = u .entered i l in
+        let h′ = stays i (entry gs i) h in
+        let t : getD later (e .head) 0 ≡ arc (e .tail) (e .weight) = getD-set-same (st .via) (e .head) (arc (e .tail) (e .weight)) 0 inside in
+        record {
+          leads = leads-on (h .leads) m p;
+          found = λ q. arc-found e m (sym t ∙ q);
+          traced = λ x k. ⊎-elim (λ a. h′ .traced x a) (λ q. rw q t) (mem-on ((entry gs i) .route) k);
+          few = (let a = h .few in let d = length-append ((entry gs i) .route) (e ∷ []) in omega arith);
+        }
+
+    key-next : key next ≡ key (entry gs i) * maxVertices + e .head
+    key-next = rank-on 1 ((entry gs i) .route) e
+
+    long : length (gs ++ next ∷ []) ≡ suc (length gs)
+    long = length-append gs (next ∷ []) ∙ omega arith
+
+    grown : Grows gs (gs ++ next ∷ [])
+    grown = grows-one gs next
+
+    last-next : entry (gs ++ next ∷ []) (length gs) ≡ next
+    last-next = getD-append-seam gs next [] _
+
+    under-finds : Under (gs ++ next ∷ []) (finds true st e) i (key (entry gs i) * maxVertices + suc (e .head))
+    unfolding finds
+    under-finds = record {
+      queued = (rw (u .queued, map-append (λ (g : Entry). g .vertex) gs (next ∷ [])));
+      sized = length-set (st .via) (e .head) (arc (e .tail) (e .weight)) ∙ u .sized;
+      source = ⊎-elim (λ a. absurd (let z = sym (u .source) ∙ (ap (λ (v : ℕ). getD (st .via) v 0) (a .0) ∙ o) in omega arith)) (λ a. a .1 ∙ u .source) (at-later s);
+      once = (let z = equal-set unfound (st .via) (e .head) (arc (e .tail) (e .weight)) inside o (arc-found e m) in omega (arith, long, u .once));
+      entered = each-on (Entered later) gs next (λ j h. stays j (entry gs j) (u .entered j h)) entered-next;
+      known = λ v h q. ⊎-elim (λ a. (length gs, (omega (arith, long)), ap (λ (g : Entry). g .vertex) last-next ∙ sym (a .0)))
+          (λ a. let (j, k, r) = u .known v h (λ z. q (a .1 ∙ z)) in (j, (omega (arith, long)), ap (λ (g : Entry). g .vertex) (grown .same j k) ∙ r))
+          (at-later v);
+      ascending = up;
+      bounded = each-on (λ j g. key g < key (entry gs i) * maxVertices + suc (e .head)) gs next (λ j h. let z = u .bounded j h in omega (arith, c)) (let z = key-next in omega arith);
+      closed = λ j h k x a q. (let z = grown .same j (omega (arith, l)) in rw z (reached-grows grown (u .closed j h (omega (arith, l)) x a (q ∙ ap (λ (g : Entry). g .vertex) z))));
+    }
+      where
+        up : (j k : ℕ) → j < k → k < length (gs ++ next ∷ []) → key (entry (gs ++ next ∷ []) j) < key (entry (gs ++ next ∷ []) k)
+        up j k h r = by-test (eqb k (length gs))
+            (λ q. let y = eqb-true k (length gs) q in
+            let z = u .bounded j (omega arith) in
+            rw (y, grown .same j (omega arith), last-next) (let w = key-next in omega (arith, c)))
+            (λ q. let y = eqb-false k (length gs) q in
+            let t = long in
+            rw (grown .same j (omega arith), grown .same k (omega arith)) (u .ascending j k h (omega arith)))
