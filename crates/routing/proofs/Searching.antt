@@ -4,6 +4,7 @@
 --   Entry               == a vertex of the queue with the route by which it was found
 --   entry gs j          == entry j of gs
 --   key g               == the number of g's route
+--   Before g h          == g's route comes before h's, and leads to another vertex
 --   Reached gs k v      == an entry of gs is of vertex v, and its route's number is at most k
 --   Grows gs hs         == hs is gs with entries put after it
 --   Rising c ls         == the heads of ls ascend from c on
@@ -54,6 +55,9 @@ entry gs j = getD gs j (record { vertex = 0; route = [] })
 
 abbrev pub key : Entry → ℕ
 key g = rank 1 (g .route)
+
+abbrev pub Before : Entry → Entry → Type 0
+Before g h = (key g < key h) × (g .vertex ≢ h .vertex)
 
 abbrev pub Reached : List Entry → ℕ → ℕ → Type 0
 Reached gs k v = (j : ℕ) × (j < length gs) × ((entry gs j) .vertex ≡ v) × (key (entry gs j) ≤ k)
@@ -129,7 +133,7 @@ module _ (f : Edge → Bool) (es : List Edge) (n s : ℕ) (sound : Sound n es) (
     pub once : length gs + equal unfound (st .via) ≡ n
     pub entered : (j : ℕ) → j < length gs → Entered (st .via) j (entry gs j)
     pub known : (u : ℕ) → u < n → getD (st .via) u 0 ≢ unfound → (j : ℕ) × (j < length gs) × ((entry gs j) .vertex ≡ u)
-    pub ascending : (j k : ℕ) → j < k → k < length gs → key (entry gs j) < key (entry gs k)
+    pub ascending : (j k : ℕ) → j < k → k < length gs → Before (entry gs j) (entry gs k)
     pub bounded : (j : ℕ) → j < length gs → key (entry gs j) < b
     pub closed : (j : ℕ) → j < i → j < length gs → (e : Edge) → List·Memᴰ e (keep f es) → e .tail ≡ (entry gs j) .vertex → Reached gs (key (entry gs j) * maxVertices + e .head) (e .head)
 
@@ -147,6 +151,10 @@ module _ (f : Edge → Bool) (es : List Edge) (n s : ℕ) (sound : Sound n es) (
   }
 
   -- ---- one edge
+
+  -- what an edge of entry i comes to, where the entry is of number k
+  abbrev Gone : List Entry → Search → ℕ → ℕ → ℕ → (Edge → Type 0) → Type 0
+  Gone gs st i k c P = (hs : List Entry) × Grows gs hs × Under hs st i (k * maxVertices + c) × ((e : Edge) → P e → f e ≡ true → Reached hs (k * maxVertices + e .head) (e .head))
 
   -- An edge from entry i whose head is not found yet: its route goes on along the edge, and comes after all others.
   module _ (gs : List Entry) (st : Search) (i b : ℕ) (u : Under gs st i b) (l : i < length gs) (e : Edge) (m : List·Memᴰ e (keep f es)) (p : e .tail ≡ (entry gs i) .vertex)
@@ -211,11 +219,38 @@ module _ (f : Edge → Bool) (es : List Edge) (n s : ℕ) (sound : Sound n es) (
       closed = λ j h k x a q. (let z = grown .same j (omega (arith, l)) in rw z (reached-grows grown (u .closed j h (omega (arith, l)) x a (q ∙ ap (λ (g : Entry). g .vertex) z))));
     }
       where
-        up : (j k : ℕ) → j < k → k < length (gs ++ next ∷ []) → key (entry (gs ++ next ∷ []) j) < key (entry (gs ++ next ∷ []) k)
+        up : (j k : ℕ) → j < k → k < length (gs ++ next ∷ []) → Before (entry (gs ++ next ∷ []) j) (entry (gs ++ next ∷ []) k)
         up j k h r = by-test (eqb k (length gs))
             (λ q. let y = eqb-true k (length gs) q in
-            let z = u .bounded j (omega arith) in
-            rw (y, grown .same j (omega arith), last-next) (let w = key-next in omega (arith, c)))
+            let g : j < length gs = omega arith in
+            let z = u .bounded j g in
+            let x = u .entered j g in
+            rw (y, grown .same j g, last-next) ((let w = key-next in omega (arith, c)), λ t. x .found (ap (λ (v : ℕ). getD (st .via) v 0) t ∙ o)))
             (λ q. let y = eqb-false k (length gs) q in
             let t = long in
             rw (grown .same j (omega arith), grown .same k (omega arith)) (u .ascending j k h (omega arith)))
+
+    gone-finds : Gone gs (finds true st e) i (key (entry gs i)) (suc (e .head)) (λ x. x ≡ e)
+    gone-finds = (
+      gs ++ next ∷ [],
+      grown,
+      under-finds,
+      λ x r _. rw r (length gs, (omega (arith, long)), ap (λ (g : Entry). g .vertex) last-next, (rw last-next (omega (arith, key-next)))),
+    )
+
+  -- The head of an edge is found already, by a route that is before this one since all are, or it is found now.
+  reach-gone : (gs : List Entry) (st : Search) (i k c : ℕ) → i < length gs → key (entry gs i) ≡ k → Under gs st i (k * maxVertices + c)
+      → (e : Edge) → List·Memᴰ e es → e .tail ≡ (entry gs i) .vertex → c ≤ e .head → Gone gs (reach f st e) i k (suc (e .head)) (λ x. x ≡ e)
+  unfolding reach finds
+  reach-gone gs st i k c l q u e m p a = by-test (f e)
+      (λ t. by-test (isUnfound st (e .head))
+      (λ o. rw (t, o) (subst (λ x. Gone gs (finds true st e) i x (suc (e .head)) (λ y. y ≡ e)) q
+          (gone-finds gs st i _ u l e (in-keep f m t) p (omega (arith, q, a)) (eqb-true (getD (st .via) (e .head) 0) unfound o))))
+      (λ o. rw (t, o) (gs, grows-none gs, raised, λ x r _. rw r (
+        let (j, h, z) = u .known (e .head) ((sound-fit n es sound e m) .head-below) (eqb-false _ _ o) in
+        let y = u .bounded j h in
+        (j, h, z, omega (arith, a))))))
+      (λ t. rw t (gs, grows-none gs, raised, λ x r y. absurd (true≢false (sym y ∙ (ap f r ∙ t)))))
+    where
+      raised : Under gs st i (k * maxVertices + suc (e .head))
+      raised = under-raise _ (omega (arith, a)) u
