@@ -21,7 +21,7 @@ use Rattle.graph.specs.Edge.{Edge, edge, keepIf, keep, leaving}
 use Rattle.graph.specs.Code.{equal}
 use Rattle.graph.specs.Table.{isEdge}
 use Rattle.graph.specs.Trail.{Leads, stop, on, visited}
-use Rattle.graph.proofs.Tests.{both}
+use Rattle.graph.proofs.Tests.{both, and-true}
 use Rattle.graph.proofs.Lists.{at-set, getD-mem, mem-index}
 use Rattle.graph.proofs.Edges.{keep-in, in-leaving, leaving-in, in-keep}
 use Rattle.graph.proofs.Sorted.{sorted-before}
@@ -108,6 +108,22 @@ leaving-rising n u (x ∷ es) h c b = by-test (eqb (x .tail) u)
         let (k, l, r) = mem-index x m in
         let z : Less x e = subst (λ (y : Edge). Less x y) r (less-of x (getD es k x) (sorted-before table-ordered (isEdge n) x (x ∷ es) h 0 (suc k) (omega arith) (omega arith))) in
         ⊎-elim (λ a. absurd (omega arith)) (λ a. a .1) z
+
+-- ---- the turns of a search
+
+module _ (f : Edge → Bool) (es : List Edge) (t : ℕ) where
+  pub search-none : (i : ℕ) (st : Search) → search f es t 0 i st ≡ st
+  unfolding search
+  search-none i st = refl
+
+  pub search-more : (k i : ℕ) (st : Search) → (ltb i (length (st .queue)) && isUnfound st t) ≡ true
+      → search f es t (suc k) i st ≡ search f es t k (suc i) (expand f es st (getD (st .queue) i 0))
+  unfolding search
+  search-more k i st q = rw (q, search)
+
+  pub search-stops : (k i : ℕ) (st : Search) → (ltb i (length (st .queue)) && isUnfound st t) ≡ false → search f es t (suc k) i st ≡ st
+  unfolding search
+  search-stops k i st q = rw (q, search)
 
 module _ (f : Edge → Bool) (es : List Edge) (n s : ℕ) (sound : Sound n es) (small : n ≤ maxVertices) (home : s < n) where
   kept-fit : (e : Edge) → List·Memᴰ e (keep f es) → EdgeFacts n e
@@ -254,3 +270,76 @@ module _ (f : Edge → Bool) (es : List Edge) (n s : ℕ) (sound : Sound n es) (
     where
       raised : Under gs st i (k * maxVertices + suc (e .head))
       raised = under-raise _ (omega (arith, a)) u
+
+  -- ---- the edges of one entry
+
+  edges-gone : (ls : List Edge) (gs : List Entry) (st : Search) (i k v c : ℕ) → i < length gs → key (entry gs i) ≡ k → (entry gs i) .vertex ≡ v → Under gs st i (k * maxVertices + c)
+      → ((e : Edge) → List·Memᴰ e ls → List·Memᴰ e es × (e .tail ≡ v)) → Rising c ls → c ≤ maxVertices → Gone gs (foldl (reach f) st ls) i k maxVertices (λ e. List·Memᴰ e ls)
+  edges-gone [] gs st i k v c l q p u own r h = (gs, grows-none gs, under-raise _ (omega (arith, h)) u, λ e m _. absurd (List·Memᴰ·not-nil m))
+  edges-gone (e ∷ ls) gs st i k v c l q p u own r h =
+      let o = own e (List·Memᴰ·head refl) in
+      let b = (sound-fit n es sound e (o .0)) .head-below in
+      let (hs, g, w, a) = reach-gone gs st i k c l q u e (o .0) (o .1 ∙ sym p) (r .0) in
+      let d = g .longer in
+      let (is, g′, w′, a′) = edges-gone ls hs (reach f st e) i k v (suc (e .head)) (omega arith) (ap key (g .same i l) ∙ q) (ap (λ (x : Entry). x .vertex) (g .same i l) ∙ p) w
+              (λ x m. own x (List·Memᴰ·tail m)) (r .1) (omega (arith, small)) in
+      (is, grows-on g g′, w′, λ x m t. ⊎-elim (λ y. reached-grows g′ (a x y t)) (λ y. a′ x y t) (List·Memᴰ·cases-cons m))
+
+  -- the vertex in turn is expanded
+  expand-under : (gs : List Entry) (st : Search) (i b : ℕ) → Under gs st i b → i < length gs → b ≤ key (entry gs i) * maxVertices
+      → (hs : List Entry) × Grows gs hs × Under hs (expand f es st (getD (st .queue) i 0)) (suc i) (key (entry gs i) * maxVertices + maxVertices)
+  unfolding expand
+  expand-under gs st i b u l c =
+      let v = (entry gs i) .vertex in
+      let q : getD (st .queue) i 0 ≡ v = ap (λ (x : List ℕ). getD x i 0) (u .queued) ∙ List·getD-map (λ (g : Entry). g .vertex) gs i _ in
+      let (hs, g, w, a) = edges-gone (leaving v es) gs st i (key (entry gs i)) v 0 l refl refl (under-raise _ (omega (arith, c)) u) (leaving-in v es) (leaving-rising n v es sound 0 (λ e m p. omega arith)) (omega arith) in
+      rw q (hs, g, record {
+        queued = w .queued;
+        sized = w .sized;
+        source = w .source;
+        once = w .once;
+        entered = w .entered;
+        known = w .known;
+        ascending = w .ascending;
+        bounded = w .bounded;
+        closed = λ j h k e m p. by-test (eqb j i)
+            (λ t. let y = eqb-true j i t in let x = keep-in f es e m in
+            rw (y, g .same i l) (a e (in-leaving v (x .0) (p ∙ (rw (y, g .same i l) refl))) (x .1)))
+            (λ t. let y = eqb-false j i t in w .closed j (omega arith) k e m p);
+      })
+
+  -- ---- the whole search
+
+  abbrev Ready : List Entry → ℕ → ℕ → Type 0
+  Ready gs i b = i < length gs → b ≤ key (entry gs i) * maxVertices
+
+  -- a search that is done: what is left in its queue comes after all that is found, and nothing is left where t is not found
+  pub record Done (t : ℕ) (st : Search) : Type 0 where
+    pub entries : List Entry
+    pub index : ℕ
+    pub bound : ℕ
+    pub under : Under entries st index bound
+    pub ready : Ready entries index bound
+    pub spent : isUnfound st t ≡ true → length entries ≤ index
+
+  queue-long : {gs : List Entry} {st : Search} {i b : ℕ} → Under gs st i b → length (st .queue) ≡ length gs
+  queue-long {gs} u = ap length (u .queued) ∙ length-map gs (λ (g : Entry). g .vertex)
+
+  under-done : (t i : ℕ) (st : Search) (gs : List Entry) (b : ℕ) → Under gs st i b → Ready gs i b → (isUnfound st t ≡ true → length gs ≤ i) → Done t st
+  under-done t i st gs b u r h = record { entries = gs; index = i; bound = b; under = u; ready = r; spent = h }
+
+  -- the queue has at most n entries, so as many turns are enough
+  search-done : (t k i : ℕ) (st : Search) (gs : List Entry) (b : ℕ) → Under gs st i b → Ready gs i b → n ≤ k + i → Done t (search f es t k i st)
+  search-done t zero i st gs b u r h = subst (Done t) (sym (search-none f es t i st)) (under-done t i st gs b u r (λ _. let z = u .once in omega (arith, h)))
+  search-done t (suc k) i st gs b u r h = by-test (ltb i (length (st .queue)) && isUnfound st t)
+      (λ q.
+      let z = both (ltb i (length (st .queue))) (isUnfound st t) q in
+      let l : i < length gs = (let y = ltb-true i (length (st .queue)) (z .0) in omega (arith, queue-long u)) in
+      let (hs, g, w) = expand-under gs st i b u l (r l) in
+      subst (Done t) (sym (search-more f es t k i st q))
+          (search-done t k (suc i) _ hs _ w (λ d. let a = (w .ascending i (suc i) (omega arith) d) .0 in let e = ap key (g .same i l) in omega arith) (omega (arith, h))))
+      (λ q. subst (Done t) (sym (search-stops f es t k i st q))
+          (under-done t i st gs b u r (λ o. let y = ltb-false i (length (st .queue)) (unmet q o) in omega (arith, queue-long u))))
+    where
+      unmet : {x y : Bool} → (x && y) ≡ false → y ≡ true → x ≡ false
+      unmet {x} q o = by-test x (λ p. absurd (true≢false (sym (and-true p o) ∙ q))) (λ p. p)
