@@ -88,3 +88,7 @@ pub leads-tail : {es ps : List Edge} {s t : ℕ} → Leads es s ps t → (d : Ed
 leads-tail stop d i h = absurd (omega arith)
 leads-tail (on m l) d zero h = refl
 leads-tail (on m l) d (suc i) h = leads-tail l d i (omega arith)
+
+pub leads-none : {es ps : List Edge} {s t : ℕ} → Leads es s ps t → length ps ≤ 0 → (ps ≡ []) × (s ≡ t)
+leads-none stop h = (refl, refl)
+leads-none (on i l) h = absurd (omega arith)

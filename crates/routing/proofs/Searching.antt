@@ -28,7 +28,10 @@ use Rattle.graph.proofs.Sorted.{sorted-before}
 use Rattle.graph.proofs.Order.{Less, less-of, table-ordered, Sound, EdgeFacts, sound-fit}
 use Rattle.routing.specs.Search.{unfound, noArc, Search, isUnfound, finds, reach, expand, begun, search}
 use Rattle.routing.specs.Code.{weightAt, Trace}
-use Rattle.routing.proofs.Routes.{rank, Narrow, NoLater, rank-on, rank-most, rank-no-later, leads-mem, leads-on, leads-last, leads-tail}
+use Rattle.routing.proofs.Routes.{rank, Narrow, NoLater, rank-on, rank-most, rank-no-later, leads-mem, leads-on, leads-last, leads-tail, leads-none}
+
+abbrev pub Found : List Edge → ℕ → ℕ → List ℕ → Type 0
+Found ks s t vs = (ps : List Edge) × Leads ks s ps t × Trace s t vs ps × ((qs : List Edge) → Leads ks s qs t → NoLater s ps qs)
 
 -- ---- how many words are a number
 
@@ -343,3 +346,137 @@ module _ (f : Edge → Bool) (es : List Edge) (n s : ℕ) (sound : Sound n es) (
     where
       unmet : {x y : Bool} → (x && y) ≡ false → y ≡ true → x ≡ false
       unmet {x} q o = by-test x (λ p. absurd (true≢false (sym (and-true p o) ∙ q))) (λ p. p)
+
+  -- before the first step the source is found, by no edge
+  begun-under : Under (record { vertex = s; route = [] } ∷ []) (begun n s) 0 maxVertices
+  begun-under = record {
+    queued = refl;
+    sized = length-set (replicate n unfound) s noArc ∙ length-replicate n unfound;
+    source = getD-set-same (replicate n unfound) s noArc 0 inner;
+    once = (let z = equal-set unfound (replicate n unfound) s noArc inner (getD-replicate n s unfound 0 home) (λ q. omega arith) in let y = equal-all unfound n in omega arith);
+    entered = first;
+    known = λ u h q. ⊎-elim (λ a. (0, (omega arith), sym (a .0))) (λ a. absurd (q (a .1 ∙ getD-replicate n u unfound 0 h))) (at-set (replicate n unfound) s noArc u 0 inner);
+    ascending = λ j k h l. absurd (omega arith);
+    bounded = λ j h. (let z : j ≡ 0 = omega arith in rw z (omega arith));
+    closed = λ j h. absurd (omega arith);
+  }
+    where
+      inner : s < length (replicate n unfound)
+      inner = let z = length-replicate n unfound in omega (arith, home)
+
+      first : (j : ℕ) → j < 1 → Entered ((begun n s) .via) j (entry (record { vertex = s; route = [] } ∷ []) j)
+      first zero h = record {
+        leads = stop;
+        found = λ q. (let z = getD-set-same (replicate n unfound) s noArc 0 inner in omega arith);
+        traced = λ e m. absurd (List·Memᴰ·not-nil m);
+        few = (omega arith);
+      }
+      first (suc j) h = absurd (omega arith)
+
+  searched-done : (t : ℕ) → Done t (search f es t n 0 (begun n s))
+  searched-done t = search-done t n 0 (begun n s) _ _ begun-under (λ l. omega arith) (omega arith)
+
+  -- ---- what routes come to at the end
+
+  module _ (gs : List Entry) (st : Search) (i b : ℕ) (u : Under gs st i b) (r : Ready gs i b) where
+    -- entry 0 has at most 0 edges, so it is the source's
+    start-reached : Reached gs 1 s
+    start-reached =
+        let (j, h, _) = u .known s home (λ q. let z = u .source in omega arith) in
+        let l : 0 < length gs = omega arith in
+        let e = u .entered 0 l in
+        let (p, q) = leads-none (e .leads) (e .few) in
+        (0, l, sym q, (rw p (omega arith)))
+
+    abbrev Covered : ℕ → ℕ → Type 0
+    Covered k v = Reached gs k v ⊎ ((j : ℕ) → j < length gs → key (entry gs j) ≤ k)
+
+    -- Along each route of number k to v, v is found by a route of a number that is at most k, or all that is found is. For where v's entry is expanded,
+    -- the head of an edge from it is found by a route that is no later; and where it is not, all that is found comes before what would follow on it.
+    leads-covered : {v x : ℕ} {qs : List Edge} (k : ℕ) → Leads (keep f es) v qs x → Covered k v → Covered (rank k qs) x
+    leads-covered k stop c = c
+    leads-covered k (on {e = e} m l) c = leads-covered (k * maxVertices + e .head) l (⊎-elim found past c)
+      where
+        past : ((j : ℕ) → j < length gs → key (entry gs j) ≤ k) → Covered (k * maxVertices + e .head) (e .head)
+        past a = inr (λ j h. let z = a j h in omega arith)
+
+        found : Reached gs k (e .tail) → Covered (k * maxVertices + e .head) (e .head)
+        found (j, h, p, q) = by-test (ltb j i)
+            (λ t. let (d, g, y, z) = u .closed j (ltb-true _ _ t) h e m (sym p) in inl (d, g, y, omega (arith, q)))
+            (λ t. let a = ltb-false j i t in let y = r (omega arith) in let z = least j h a in inr (λ d g. let w = u .bounded d g in omega (arith, q)))
+          where
+            least : (j : ℕ) → j < length gs → i ≤ j → key (entry gs i) ≤ key (entry gs j)
+            least j h a = by-test (eqb i j) (λ t. rw (eqb-true i j t) (omega arith)) (λ t. let y = eqb-false i j t in let z = (u .ascending i j (omega arith) h) .0 in omega arith)
+
+    -- the one entry of a vertex comes before each route to it
+    entry-first : (j : ℕ) → j < length gs → (qs : List Edge) → Leads (keep f es) s qs ((entry gs j) .vertex) → key (entry gs j) ≤ rank 1 qs
+    entry-first j h qs l = ⊎-elim (λ c. let (k, g, p, q) = c in rw (sole j k h g (sym p)) q) (λ c. c j h) (leads-covered 1 l (inl start-reached))
+      where
+        sole : (j k : ℕ) → j < length gs → k < length gs → (entry gs j) .vertex ≡ (entry gs k) .vertex → j ≡ k
+        sole j k h g p = by-test (ltb j k) (λ t. absurd ((u .ascending j k (ltb-true _ _ t) g) .1 p))
+            (λ t. by-test (ltb k j) (λ o. absurd ((u .ascending k j (ltb-true _ _ o) h) .1 (sym p))) (λ o. let y = ltb-false j k t in let z = ltb-false k j o in omega arith))
+
+    -- where all is expanded, each route leads to what is found
+    leads-known : length gs ≤ i → {v x : ℕ} {qs : List Edge} → Leads (keep f es) v qs x → (j : ℕ) × (j < length gs) × ((entry gs j) .vertex ≡ v) → (j : ℕ) × (j < length gs) × ((entry gs j) .vertex ≡ x)
+    leads-known a stop c = c
+    leads-known a (on {e = e} m l) (j, h, p) = let (d, g, q, _) = u .closed j (omega arith) h e m (sym p) in leads-known a l (d, g, q)
+
+    -- the words lead back along the route of each entry
+    module _ (j : ℕ) (h : j < length gs) where
+      abbrev ps : List Edge
+      ps = (entry gs j) .route
+
+      abbrev step : ℕ → Edge
+      step k = getD ps k (edge 0 0 0)
+
+      o : Entered (st .via) j (entry gs j)
+      o = u .entered j h
+
+      step-in : (k : ℕ) → k < length ps → List·Memᴰ (step k) ps
+      step-in k l = getD-mem ps k _ l
+
+      step-fit : (k : ℕ) → k < length ps → EdgeFacts n (step k)
+      step-fit k l = kept-fit (step k) (leads-mem (o .leads) (step-in k l))
+
+      step-head : (k : ℕ) → getD (visited s ps) (suc k) 0 ≡ (step k) .head
+      step-head k = List·getD-map (λ (e : Edge). e .head) ps k (edge 0 0 0)
+
+      step-weight : (k : ℕ) → weightAt ps k ≡ (step k) .weight
+      step-weight k = List·getD-map (λ (e : Edge). e .weight) ps k (edge 0 0 0)
+
+      visited-below : (k : ℕ) → k ≤ length ps → getD (visited s ps) k 0 < n
+      visited-below zero l = home
+      visited-below (suc k) l = rw (step-head k) ((step-fit k (omega arith)) .head-below)
+
+      entry-trace : Trace s ((entry gs j) .vertex) (st .via) ps
+      entry-trace = record {
+        most = (omega (arith, u .sized, small));
+        few = (let z = o .few in let y = u .once in omega (arith, u .sized, h));
+        last = leads-last (o .leads);
+        inside = λ k l. (let z = visited-below k l in omega (arith, u .sized));
+        back = λ k l. rw (step-head k, leads-tail (o .leads) (edge 0 0 0) k l, step-weight k) (o .traced (step k) (step-in k l));
+        light = λ k l. (let z = (step-fit k l) .weight-most in let y = step-weight k in omega arith);
+        away = λ k l q.
+            let z = (step-fit k l) .some-weight in
+            let y = sym (u .source) ∙ (ap (λ (v : ℕ). getD (st .via) v 0) (sym q ∙ step-head k) ∙ o .traced (step k) (step-in k l)) in
+            omega arith;
+      }
+
+      entry-found : Found (keep f es) s ((entry gs j) .vertex) (st .via)
+      entry-found = (ps, o .leads, entry-trace, λ qs l. rank-no-later s ps qs (leads-narrow l) (entry-first j h qs l))
+
+  -- ---- the theorems
+
+  -- t is found by its entry's route.
+  pub search-finds : (t : ℕ) → t < n → isUnfound (search f es t n 0 (begun n s)) t ≡ false → Found (keep f es) s t ((search f es t n 0 (begun n s)) .via)
+  search-finds t h q =
+      let d = searched-done t in
+      let (j, l, p) = d .under .known t h (eqb-false _ _ q) in
+      subst (λ x. Found (keep f es) s x ((search f es t n 0 (begun n s)) .via)) p (entry-found (d .entries) _ (d .index) (d .bound) (d .under) (d .ready) j l)
+
+  pub search-lacks : (t : ℕ) → isUnfound (search f es t n 0 (begun n s)) t ≡ true → (qs : List Edge) → Leads (keep f es) s qs t → ⊥
+  search-lacks t q qs l =
+      let d = searched-done t in
+      let (j, g, p, _) = start-reached (d .entries) _ (d .index) (d .bound) (d .under) (d .ready) in
+      let (k, c, r) = leads-known (d .entries) _ (d .index) (d .bound) (d .under) (d .ready) (d .spent q) l (j, g, p) in
+      (d .under .entered k c) .found (rw r (eqb-true _ _ q))
