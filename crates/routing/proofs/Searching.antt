@@ -1,132 +1,35 @@
--- The search finds its target where a route of the searched edges leads there, and then by the first such route in the order of the search. What it
--- writes leads back along that route. Assumes nothing.
+-- The search finds its target where a route of the searched edges leads there, and then by the first such route: with the fewest edges, and of those
+-- the lowest. Its words lead back along that route. Assumes nothing.
 --
---   Entry               == a vertex of the queue with the route by which it was found
---   entry gs j          == entry j of gs
---   key g               == the number of g's route
---   Before g h          == g's route comes before h's, and leads to another vertex
---   Reached gs k v      == an entry of gs is of vertex v, and its route's number is at most k
---   Grows gs hs         == hs is gs with entries put after it
---   Rising c ls         == the heads of ls ascend from c on
---   Entered vs j g      == g, entry j, is found: its route leads to its vertex, has at most j edges, and vs has the arc of each of its edges
---   Under gs st i b     == the search st has the entries gs: all routes' numbers ascend and are below b, and the edges of the first i entries are gone over
-use Rattle.property.proofs.Basics.{_≡_, refl, sym, ap, subst, _∙_, _⊎_, inl, inr, ⊎-elim, _≢_, Bool, true, false, true≢false, false≢true, _&&_, List, [], _∷_, _++_, map, foldl, List·Memᴰ, List·Memᴰ·head, List·Memᴰ·tail, List·Memᴰ·cases-cons, List·Memᴰ·not-nil, ℕ, zero, suc, _+_, _*_, _≤_, _<_, arith, length, getD, set, replicate, length-set, length-append, length-replicate, length-map, List·getD-map, List·getD-append, getD-set-same, getD-set-other, ltb, eqb, ltb-true, ltb-false, eqb-true, eqb-false, eq-eqb, ne-eqb}
-use mathlib.Core.List.{map-append}
+--   Found ks s t vs  == a route of ks from s to t is no later than any other, and the words vs lead back along it
+--   Entered vs j g   == entry j is g: its route leads to its vertex and has at most j edges, and vs has the arc of each of them
+--   Held gs st       == the search st has the entries gs, one for each vertex found, in the order of their routes
+--   Under gs st i b  == and their routes' numbers are below b, and the heads of all edges from the first i entries are found by routes that are no later
+--   Gone ..          == and then entries are put after gs, so that the edges that P names are gone over too
+--   Ready gs i b     == what follows on the route of entry i, which is in turn, comes after all that is found
+--   Done t st        == the end of a search: all is expanded, or t is found
+--   Covered gs k v   == v is found by a route whose number is at most k, or all that is found is
+use Rattle.property.proofs.Basics.{_≡_, refl, sym, ap, subst, _∙_, _⊎_, inl, inr, ⊎-elim, _≢_, Bool, true, false, true≢false, _&&_, List, [], _∷_, _++_, map, foldl, List·Memᴰ, List·Memᴰ·head, List·Memᴰ·tail, List·Memᴰ·cases-cons, List·Memᴰ·not-nil, ℕ, zero, suc, _+_, _*_, _≤_, _<_, arith, length, getD, set, replicate, length-set, length-append, length-replicate, length-map, List·getD-map, getD-set-same, ltb, eqb, ltb-true, ltb-false, eqb-true, eqb-false}
+use mathlib.Core.List.{map-append, List·Memᴰ·append-cases}
 use lib.ListN.{getD-replicate}
 use lib.Seq.{getD-append-seam}
 use Rattle.property.proofs.Tests.{by-test}
 use Rattle.graph.specs.Limits.{maxVertices}
 use Rattle.graph.specs.Arc.{arc}
-use Rattle.graph.specs.Edge.{Edge, edge, keepIf, keep, leaving}
+use Rattle.graph.specs.Edge.{Edge, edge, keep, leaving}
 use Rattle.graph.specs.Code.{equal}
-use Rattle.graph.specs.Table.{isEdge}
 use Rattle.graph.specs.Trail.{Leads, stop, on, visited}
 use Rattle.graph.proofs.Tests.{both, and-true}
-use Rattle.graph.proofs.Lists.{at-set, getD-mem, mem-index}
-use Rattle.graph.proofs.Edges.{keep-in, in-leaving, leaving-in, in-keep}
-use Rattle.graph.proofs.Sorted.{sorted-before}
-use Rattle.graph.proofs.Order.{Less, less-of, table-ordered, Sound, EdgeFacts, sound-fit}
+use Rattle.graph.proofs.Lists.{at-set, getD-mem}
+use Rattle.graph.proofs.Edges.{keep-in, in-keep, leaving-in, in-leaving}
+use Rattle.graph.proofs.Order.{Sound, EdgeFacts, sound-fit}
 use Rattle.routing.specs.Search.{unfound, noArc, Search, isUnfound, finds, reach, expand, begun, search}
 use Rattle.routing.specs.Code.{weightAt, Trace}
-use Rattle.routing.proofs.Routes.{rank, Narrow, NoLater, rank-on, rank-most, rank-no-later, leads-mem, leads-on, leads-last, leads-tail, leads-none}
+use Rattle.routing.proofs.Routes.{rank, Narrow, NoLater, rank-on, rank-no-later, leads-mem, leads-on, leads-last, leads-tail, leads-none}
+use Rattle.routing.proofs.Entries.{Entry, entry, key, Before, Known, Reached, Grows, Rising, each-on, grows-none, grows-then, grows-one, reached-grows, equal-all, equal-set, leaving-rising, search-none, search-more, search-stops}
 
 abbrev pub Found : List Edge → ℕ → ℕ → List ℕ → Type 0
 Found ks s t vs = (ps : List Edge) × Leads ks s ps t × Trace s t vs ps × ((qs : List Edge) → Leads ks s qs t → NoLater s ps qs)
-
--- ---- how many words are a number
-
-pub equal-all : (a n : ℕ) → equal a (replicate n a) ≡ n
-unfolding equal
-equal-all a zero = refl
-equal-all a (suc n) = rw (eq-eqb a a refl, equal-all a n)
-
--- one fewer where another is stored over it
-pub equal-set : (a : ℕ) (vs : List ℕ) (h v : ℕ) → h < length vs → getD vs h 0 ≡ a → v ≢ a → suc (equal a (set vs h v)) ≡ equal a vs
-unfolding equal
-equal-set a [] h v l p q = absurd (omega arith)
-equal-set a (x ∷ vs) zero v l p q = rw (ne-eqb v a q, eq-eqb x a p)
-equal-set a (x ∷ vs) (suc h) v l p q = let z = equal-set a vs h v (omega arith) p q in by-test (eqb x a) (λ r. rw r (ap suc z)) (λ r. rw r z)
-
--- ---- entries
-
-pub record Entry : Type 0 where
-  pub vertex : ℕ
-  pub route : List Edge
-
-abbrev pub entry : List Entry → ℕ → Entry
-entry gs j = getD gs j (record { vertex = 0; route = [] })
-
-abbrev pub key : Entry → ℕ
-key g = rank 1 (g .route)
-
-abbrev pub Before : Entry → Entry → Type 0
-Before g h = (key g < key h) × (g .vertex ≢ h .vertex)
-
-abbrev pub Reached : List Entry → ℕ → ℕ → Type 0
-Reached gs k v = (j : ℕ) × (j < length gs) × ((entry gs j) .vertex ≡ v) × (key (entry gs j) ≤ k)
-
-pub record Grows (gs hs : List Entry) : Type 0 where
-  pub longer : length gs ≤ length hs
-  pub same : (j : ℕ) → j < length gs → entry hs j ≡ entry gs j
-
-grows-none : (gs : List Entry) → Grows gs gs
-grows-none gs = record { longer = omega arith; same = λ j h. refl }
-
-grows-on : {gs hs is : List Entry} → Grows gs hs → Grows hs is → Grows gs is
-grows-on a b = let p = a .longer in let q = b .longer in record { longer = omega arith; same = λ j h. b .same j (omega arith) ∙ a .same j h }
-
-grows-one : (gs : List Entry) (g : Entry) → Grows gs (gs ++ g ∷ [])
-grows-one gs g = let p = length-append gs (g ∷ []) in record { longer = omega arith; same = λ j h. List·getD-append gs (g ∷ []) _ j h }
-
-reached-grows : {gs hs : List Entry} {k v : ℕ} → Grows gs hs → Reached gs k v → Reached hs k v
-reached-grows a (j, h, p, q) = let l = a .longer in (j, omega arith, ap (λ (g : Entry). g .vertex) (a .same j h) ∙ p, (rw (a .same j h) q))
-
--- what holds of each entry and of one more
-each-on : (P : ℕ → Entry → Type 0) (gs : List Entry) (g : Entry) → ((j : ℕ) → j < length gs → P j (entry gs j)) → P (length gs) g
-    → (j : ℕ) → j < length (gs ++ g ∷ []) → P j (entry (gs ++ g ∷ []) j)
-each-on P [] g a b zero h = b
-each-on P [] g a b (suc j) h = absurd (omega arith)
-each-on P (x ∷ gs) g a b zero h = a 0 (omega arith)
-each-on P (x ∷ gs) g a b (suc j) h = each-on (λ k. P (suc k)) gs g (λ k l. a (suc k) (omega arith)) b j (omega arith)
-
-mem-on : {x e : Edge} (ps : List Edge) → List·Memᴰ x (ps ++ e ∷ []) → List·Memᴰ x ps ⊎ (x ≡ e)
-mem-on [] m = ⊎-elim inr (λ k. absurd (List·Memᴰ·not-nil k)) (List·Memᴰ·cases-cons m)
-mem-on (y ∷ ps) m = ⊎-elim (λ q. inl (List·Memᴰ·head q)) (λ k. ⊎-elim (λ a. inl (List·Memᴰ·tail a)) inr (mem-on ps k)) (List·Memᴰ·cases-cons m)
-
--- ---- the edges of one tail ascend by head
-
-abbrev Rising : ℕ → List Edge → Type 0
-Rising c [] = Unit {0}
-Rising c (e ∷ ls) = (c ≤ e .head) × Rising (suc (e .head)) ls
-
-leaving-rising : (n u : ℕ) (es : List Edge) → Sound n es → (c : ℕ) → ((e : Edge) → List·Memᴰ e es → e .tail ≡ u → c ≤ e .head) → Rising c (leaving u es)
-unfolding keep keepIf
-leaving-rising n u [] h c b = tt
-leaving-rising n u (x ∷ es) h c b = by-test (eqb (x .tail) u)
-    (λ q. rw q (b x (List·Memᴰ·head refl) (eqb-true _ _ q), leaving-rising n u es (h .2) (suc (x .head)) (after (eqb-true _ _ q))))
-    (λ q. rw q (leaving-rising n u es (h .2) c (λ e m p. b e (List·Memᴰ·tail m) p)))
-  where
-    after : x .tail ≡ u → (e : Edge) → List·Memᴰ e es → e .tail ≡ u → x .head < e .head
-    after q e m p =
-        let (k, l, r) = mem-index x m in
-        let z : Less x e = subst (λ (y : Edge). Less x y) r (less-of x (getD es k x) (sorted-before table-ordered (isEdge n) x (x ∷ es) h 0 (suc k) (omega arith) (omega arith))) in
-        ⊎-elim (λ a. absurd (omega arith)) (λ a. a .1) z
-
--- ---- the turns of a search
-
-module _ (f : Edge → Bool) (es : List Edge) (t : ℕ) where
-  pub search-none : (i : ℕ) (st : Search) → search f es t 0 i st ≡ st
-  unfolding search
-  search-none i st = refl
-
-  pub search-more : (k i : ℕ) (st : Search) → (ltb i (length (st .queue)) && isUnfound st t) ≡ true
-      → search f es t (suc k) i st ≡ search f es t k (suc i) (expand f es st (getD (st .queue) i 0))
-  unfolding search
-  search-more k i st q = rw (q, search)
-
-  pub search-stops : (k i : ℕ) (st : Search) → (ltb i (length (st .queue)) && isUnfound st t) ≡ false → search f es t (suc k) i st ≡ st
-  unfolding search
-  search-stops k i st q = rw (q, search)
 
 module _ (f : Edge → Bool) (es : List Edge) (n s : ℕ) (sound : Sound n es) (small : n ≤ maxVertices) (home : s < n) where
   kept-fit : (e : Edge) → List·Memᴰ e (keep f es) → EdgeFacts n e
@@ -145,37 +48,31 @@ module _ (f : Edge → Bool) (es : List Edge) (n s : ℕ) (sound : Sound n es) (
     pub traced : (e : Edge) → List·Memᴰ e (g .route) → getD vs (e .head) 0 ≡ arc (e .tail) (e .weight)
     pub few : length (g .route) ≤ j
 
-  pub record Under (gs : List Entry) (st : Search) (i b : ℕ) : Type 0 where
+  pub record Held (gs : List Entry) (st : Search) : Type 0 where
     pub queued : st .queue ≡ map (λ g. g .vertex) gs
     pub sized : length (st .via) ≡ n
     pub source : getD (st .via) s 0 ≡ noArc
     pub once : length gs + equal unfound (st .via) ≡ n
     pub entered : (j : ℕ) → j < length gs → Entered (st .via) j (entry gs j)
-    pub known : (u : ℕ) → u < n → getD (st .via) u 0 ≢ unfound → (j : ℕ) × (j < length gs) × ((entry gs j) .vertex ≡ u)
+    pub known : (u : ℕ) → u < n → getD (st .via) u 0 ≢ unfound → Known gs u
     pub ascending : (j k : ℕ) → j < k → k < length gs → Before (entry gs j) (entry gs k)
+
+  pub record Under (gs : List Entry) (st : Search) (i b : ℕ) : Type 0 where
+    pub held : Held gs st
     pub bounded : (j : ℕ) → j < length gs → key (entry gs j) < b
     pub closed : (j : ℕ) → j < i → j < length gs → (e : Edge) → List·Memᴰ e (keep f es) → e .tail ≡ (entry gs j) .vertex → Reached gs (key (entry gs j) * maxVertices + e .head) (e .head)
 
   under-raise : {gs : List Entry} {st : Search} {i b : ℕ} (c : ℕ) → b ≤ c → Under gs st i b → Under gs st i c
-  under-raise c l u = record {
-    queued = u .queued;
-    sized = u .sized;
-    source = u .source;
-    once = u .once;
-    entered = u .entered;
-    known = u .known;
-    ascending = u .ascending;
-    bounded = λ j h. (let z = u .bounded j h in omega arith);
-    closed = u .closed;
-  }
+  under-raise c l u = record { held = u .held; bounded = λ j h. (let z = u .bounded j h in omega arith); closed = u .closed }
 
   -- ---- one edge
 
-  -- what an edge of entry i comes to, where the entry is of number k
+  -- the edges are of entry i, whose number is k, and numbers are below k's digit c afterwards
   abbrev Gone : List Entry → Search → ℕ → ℕ → ℕ → (Edge → Type 0) → Type 0
-  Gone gs st i k c P = (hs : List Entry) × Grows gs hs × Under hs st i (k * maxVertices + c) × ((e : Edge) → P e → f e ≡ true → Reached hs (k * maxVertices + e .head) (e .head))
+  Gone gs st i k c P = (gs′ : List Entry) × Grows gs gs′ × Under gs′ st i (k * maxVertices + c) × ((e : Edge) → P e → f e ≡ true → Reached gs′ (k * maxVertices + e .head) (e .head))
 
-  -- An edge from entry i whose head is not found yet: its route goes on along the edge, and comes after all others.
+  -- An edge from entry i whose head is not found yet. Its entry is put last: the route goes on along the edge, and its number is at least b, so it comes
+  -- after all others. Words that the invariant speaks of stay, for the word that is stored over is `unfound`, which no arc is.
   module _ (gs : List Entry) (st : Search) (i b : ℕ) (u : Under gs st i b) (l : i < length gs) (e : Edge) (m : List·Memᴰ e (keep f es)) (p : e .tail ≡ (entry gs i) .vertex)
       (c : b ≤ key (entry gs i) * maxVertices + e .head) (o : getD (st .via) (e .head) 0 ≡ unfound) where
     abbrev next : Entry
@@ -185,7 +82,7 @@ module _ (f : Edge → Bool) (es : List Edge) (n s : ℕ) (sound : Sound n es) (
     later = set (st .via) (e .head) (arc (e .tail) (e .weight))
 
     inside : e .head < length (st .via)
-    inside = let z = (kept-fit e m) .head-below in omega (arith, u .sized)
+    inside = let z = (kept-fit e m) .head-below in omega (arith, u .held .sized)
 
     at-later : (v : ℕ) → ((v ≡ e .head) × (getD later v 0 ≡ arc (e .tail) (e .weight))) ⊎ ((v ≢ e .head) × (getD later v 0 ≡ getD (st .via) v 0))
     at-later v = at-set (st .via) (e .head) (arc (e .tail) (e .weight)) v 0 inside
@@ -200,13 +97,13 @@ module _ (f : Edge → Bool) (es : List Edge) (n s : ℕ) (sound : Sound n es) (
 
     entered-next : Entered later (length gs) next
     entered-next =
-        let h = u .entered i l in
+        let h = u .held .entered i l in
         let h′ = stays i (entry gs i) h in
         let t : getD later (e .head) 0 ≡ arc (e .tail) (e .weight) = getD-set-same (st .via) (e .head) (arc (e .tail) (e .weight)) 0 inside in
         record {
           leads = leads-on (h .leads) m p;
           found = λ q. arc-found e m (sym t ∙ q);
-          traced = λ x k. ⊎-elim (λ a. h′ .traced x a) (λ q. rw q t) (mem-on ((entry gs i) .route) k);
+          traced = λ x k. ⊎-elim (λ a. h′ .traced x a) (λ a. ⊎-elim (λ q. rw q t) (λ z. absurd (List·Memᴰ·not-nil z)) (List·Memᴰ·cases-cons a)) (List·Memᴰ·append-cases ((entry gs i) .route) k);
           few = (let a = h .few in let d = length-append ((entry gs i) .route) (e ∷ []) in omega arith);
         }
 
@@ -222,20 +119,18 @@ module _ (f : Edge → Bool) (es : List Edge) (n s : ℕ) (sound : Sound n es) (
     last-next : entry (gs ++ next ∷ []) (length gs) ≡ next
     last-next = getD-append-seam gs next [] _
 
-    under-finds : Under (gs ++ next ∷ []) (finds true st e) i (key (entry gs i) * maxVertices + suc (e .head))
+    held-finds : Held (gs ++ next ∷ []) (finds true st e)
     unfolding finds
-    under-finds = record {
-      queued = (rw (u .queued, map-append (λ (g : Entry). g .vertex) gs (next ∷ [])));
-      sized = length-set (st .via) (e .head) (arc (e .tail) (e .weight)) ∙ u .sized;
-      source = ⊎-elim (λ a. absurd (let z = sym (u .source) ∙ (ap (λ (v : ℕ). getD (st .via) v 0) (a .0) ∙ o) in omega arith)) (λ a. a .1 ∙ u .source) (at-later s);
-      once = (let z = equal-set unfound (st .via) (e .head) (arc (e .tail) (e .weight)) inside o (arc-found e m) in omega (arith, long, u .once));
-      entered = each-on (Entered later) gs next (λ j h. stays j (entry gs j) (u .entered j h)) entered-next;
+    held-finds = record {
+      queued = (rw (u .held .queued, map-append (λ (g : Entry). g .vertex) gs (next ∷ [])));
+      sized = length-set (st .via) (e .head) (arc (e .tail) (e .weight)) ∙ u .held .sized;
+      source = ⊎-elim (λ a. absurd (let z = sym (u .held .source) ∙ (ap (λ (v : ℕ). getD (st .via) v 0) (a .0) ∙ o) in omega arith)) (λ a. a .1 ∙ u .held .source) (at-later s);
+      once = (let z = equal-set unfound (st .via) (e .head) (arc (e .tail) (e .weight)) inside o (arc-found e m) in omega (arith, long, u .held .once));
+      entered = each-on (Entered later) gs next (λ j h. stays j (entry gs j) (u .held .entered j h)) entered-next;
       known = λ v h q. ⊎-elim (λ a. (length gs, (omega (arith, long)), ap (λ (g : Entry). g .vertex) last-next ∙ sym (a .0)))
-          (λ a. let (j, k, r) = u .known v h (λ z. q (a .1 ∙ z)) in (j, (omega (arith, long)), ap (λ (g : Entry). g .vertex) (grown .same j k) ∙ r))
+          (λ a. let (j, k, r) = u .held .known v h (λ z. q (a .1 ∙ z)) in (j, (omega (arith, long)), ap (λ (g : Entry). g .vertex) (grown .same j k) ∙ r))
           (at-later v);
       ascending = up;
-      bounded = each-on (λ j g. key g < key (entry gs i) * maxVertices + suc (e .head)) gs next (λ j h. let z = u .bounded j h in omega (arith, c)) (let z = key-next in omega arith);
-      closed = λ j h k x a q. (let z = grown .same j (omega (arith, l)) in rw z (reached-grows grown (u .closed j h (omega (arith, l)) x a (q ∙ ap (λ (g : Entry). g .vertex) z))));
     }
       where
         up : (j k : ℕ) → j < k → k < length (gs ++ next ∷ []) → Before (entry (gs ++ next ∷ []) j) (entry (gs ++ next ∷ []) k)
@@ -243,11 +138,18 @@ module _ (f : Edge → Bool) (es : List Edge) (n s : ℕ) (sound : Sound n es) (
             (λ q. let y = eqb-true k (length gs) q in
             let g : j < length gs = omega arith in
             let z = u .bounded j g in
-            let x = u .entered j g in
+            let x = u .held .entered j g in
             rw (y, grown .same j g, last-next) ((let w = key-next in omega (arith, c)), λ t. x .found (ap (λ (v : ℕ). getD (st .via) v 0) t ∙ o)))
             (λ q. let y = eqb-false k (length gs) q in
             let t = long in
-            rw (grown .same j (omega arith), grown .same k (omega arith)) (u .ascending j k h (omega arith)))
+            rw (grown .same j (omega arith), grown .same k (omega arith)) (u .held .ascending j k h (omega arith)))
+
+    under-finds : Under (gs ++ next ∷ []) (finds true st e) i (key (entry gs i) * maxVertices + suc (e .head))
+    under-finds = record {
+      held = held-finds;
+      bounded = each-on (λ j g. key g < key (entry gs i) * maxVertices + suc (e .head)) gs next (λ j h. let z = u .bounded j h in omega (arith, c)) (let z = key-next in omega arith);
+      closed = λ j h k x a q. (let z = grown .same j (omega (arith, l)) in rw z (reached-grows grown (u .closed j h (omega (arith, l)) x a (q ∙ ap (λ (g : Entry). g .vertex) z))));
+    }
 
     gone-finds : Gone gs (finds true st e) i (key (entry gs i)) (suc (e .head)) (λ x. x ≡ e)
     gone-finds = (
@@ -257,18 +159,23 @@ module _ (f : Edge → Bool) (es : List Edge) (n s : ℕ) (sound : Sound n es) (
       λ x r _. rw r (length gs, (omega (arith, long)), ap (λ (g : Entry). g .vertex) last-next, (rw last-next (omega (arith, key-next)))),
     )
 
-  -- The head of an edge is found already, by a route that is before this one since all are, or it is found now.
+  -- An edge that is searched: its head is found already, by a route that is no later than the one along this edge since all are, or it is found now.
   reach-gone : (gs : List Entry) (st : Search) (i k c : ℕ) → i < length gs → key (entry gs i) ≡ k → Under gs st i (k * maxVertices + c)
       → (e : Edge) → List·Memᴰ e es → e .tail ≡ (entry gs i) .vertex → c ≤ e .head → Gone gs (reach f st e) i k (suc (e .head)) (λ x. x ≡ e)
   unfolding reach finds
   reach-gone gs st i k c l q u e m p a = by-test (f e)
       (λ t. by-test (isUnfound st (e .head))
       (λ o. rw (t, o) (subst (λ x. Gone gs (finds true st e) i x (suc (e .head)) (λ y. y ≡ e)) q
-          (gone-finds gs st i _ u l e (in-keep f m t) p (omega (arith, q, a)) (eqb-true (getD (st .via) (e .head) 0) unfound o))))
-      (λ o. rw (t, o) (gs, grows-none gs, raised, λ x r _. rw r (
-        let (j, h, z) = u .known (e .head) ((sound-fit n es sound e m) .head-below) (eqb-false _ _ o) in
-        let y = u .bounded j h in
-        (j, h, z, omega (arith, a))))))
+      (gone-finds gs st i _ u l e (in-keep f m t) p (omega (arith, q, a)) (eqb-true (getD (st .via) (e .head) 0) unfound o))))
+      (λ o. rw (t, o) (
+        gs,
+        grows-none gs,
+        raised,
+        λ x r _. rw r (
+            let (j, h, z) = u .held .known (e .head) ((sound-fit n es sound e m) .head-below) (eqb-false _ _ o) in
+            let y = u .bounded j h in
+            (j, h, z, omega (arith, a))),
+      )))
       (λ t. rw t (gs, grows-none gs, raised, λ x r y. absurd (true≢false (sym y ∙ (ap f r ∙ t)))))
     where
       raised : Under gs st i (k * maxVertices + suc (e .head))
@@ -276,40 +183,39 @@ module _ (f : Edge → Bool) (es : List Edge) (n s : ℕ) (sound : Sound n es) (
 
   -- ---- the edges of one entry
 
-  edges-gone : (ls : List Edge) (gs : List Entry) (st : Search) (i k v c : ℕ) → i < length gs → key (entry gs i) ≡ k → (entry gs i) .vertex ≡ v → Under gs st i (k * maxVertices + c)
-      → ((e : Edge) → List·Memᴰ e ls → List·Memᴰ e es × (e .tail ≡ v)) → Rising c ls → c ≤ maxVertices → Gone gs (foldl (reach f) st ls) i k maxVertices (λ e. List·Memᴰ e ls)
+  -- they ascend by head, so each comes after what the one before has found
+  edges-gone : (os : List Edge) (gs : List Entry) (st : Search) (i k v c : ℕ) → i < length gs → key (entry gs i) ≡ k → (entry gs i) .vertex ≡ v → Under gs st i (k * maxVertices + c)
+      → ((e : Edge) → List·Memᴰ e os → List·Memᴰ e es × (e .tail ≡ v)) → Rising c os → c ≤ maxVertices → Gone gs (foldl (reach f) st os) i k maxVertices (λ e. List·Memᴰ e os)
   edges-gone [] gs st i k v c l q p u own r h = (gs, grows-none gs, under-raise _ (omega (arith, h)) u, λ e m _. absurd (List·Memᴰ·not-nil m))
-  edges-gone (e ∷ ls) gs st i k v c l q p u own r h =
+  edges-gone (e ∷ os) gs st i k v c l q p u own r h =
       let o = own e (List·Memᴰ·head refl) in
       let b = (sound-fit n es sound e (o .0)) .head-below in
-      let (hs, g, w, a) = reach-gone gs st i k c l q u e (o .0) (o .1 ∙ sym p) (r .0) in
+      let (gs′, g, w, a) = reach-gone gs st i k c l q u e (o .0) (o .1 ∙ sym p) (r .0) in
       let d = g .longer in
-      let (is, g′, w′, a′) = edges-gone ls hs (reach f st e) i k v (suc (e .head)) (omega arith) (ap key (g .same i l) ∙ q) (ap (λ (x : Entry). x .vertex) (g .same i l) ∙ p) w
-              (λ x m. own x (List·Memᴰ·tail m)) (r .1) (omega (arith, small)) in
-      (is, grows-on g g′, w′, λ x m t. ⊎-elim (λ y. reached-grows g′ (a x y t)) (λ y. a′ x y t) (List·Memᴰ·cases-cons m))
+      let (gs″, g′, w′, a′) = edges-gone os gs′ (reach f st e) i k v (suc (e .head)) (omega arith) (ap key (g .same i l) ∙ q) (ap (λ (x : Entry). x .vertex) (g .same i l) ∙ p) w
+      (λ x m. own x (List·Memᴰ·tail m)) (r .1) (omega (arith, small)) in
+      (gs″, grows-then g g′, w′, λ x m t. ⊎-elim (λ y. reached-grows g′ (a x y t)) (λ y. a′ x y t) (List·Memᴰ·cases-cons m))
 
   -- the vertex in turn is expanded
   expand-under : (gs : List Entry) (st : Search) (i b : ℕ) → Under gs st i b → i < length gs → b ≤ key (entry gs i) * maxVertices
-      → (hs : List Entry) × Grows gs hs × Under hs (expand f es st (getD (st .queue) i 0)) (suc i) (key (entry gs i) * maxVertices + maxVertices)
+      → (gs′ : List Entry) × Grows gs gs′ × Under gs′ (expand f es st (getD (st .queue) i 0)) (suc i) (key (entry gs i) * maxVertices + maxVertices)
   unfolding expand
   expand-under gs st i b u l c =
       let v = (entry gs i) .vertex in
-      let q : getD (st .queue) i 0 ≡ v = ap (λ (x : List ℕ). getD x i 0) (u .queued) ∙ List·getD-map (λ (g : Entry). g .vertex) gs i _ in
-      let (hs, g, w, a) = edges-gone (leaving v es) gs st i (key (entry gs i)) v 0 l refl refl (under-raise _ (omega (arith, c)) u) (leaving-in v es) (leaving-rising n v es sound 0 (λ e m p. omega arith)) (omega arith) in
-      rw q (hs, g, record {
-        queued = w .queued;
-        sized = w .sized;
-        source = w .source;
-        once = w .once;
-        entered = w .entered;
-        known = w .known;
-        ascending = w .ascending;
-        bounded = w .bounded;
-        closed = λ j h k e m p. by-test (eqb j i)
-            (λ t. let y = eqb-true j i t in let x = keep-in f es e m in
-            rw (y, g .same i l) (a e (in-leaving v (x .0) (p ∙ (rw (y, g .same i l) refl))) (x .1)))
-            (λ t. let y = eqb-false j i t in w .closed j (omega arith) k e m p);
-      })
+      let q : getD (st .queue) i 0 ≡ v = ap (λ (x : List ℕ). getD x i 0) (u .held .queued) ∙ List·getD-map (λ (g : Entry). g .vertex) gs i _ in
+      let (gs′, g, w, a) = edges-gone (leaving v es) gs st i (key (entry gs i)) v 0 l refl refl (under-raise _ (omega (arith, c)) u) (leaving-in v es) (leaving-rising n v es sound 0 (λ e m p. omega arith)) (omega arith) in
+      rw q (
+        gs′,
+        g,
+        record {
+          held = w .held;
+          bounded = w .bounded;
+          closed = λ j h k e m p. by-test (eqb j i)
+              (λ t. let y = eqb-true j i t in let x = keep-in f es e m in
+              rw (y, g .same i l) (a e (in-leaving v (x .0) (p ∙ (rw (y, g .same i l) refl))) (x .1)))
+              (λ t. let y = eqb-false j i t in w .closed j (omega arith) k e m p);
+        },
+      )
 
   -- ---- the whole search
 
@@ -326,30 +232,30 @@ module _ (f : Edge → Bool) (es : List Edge) (n s : ℕ) (sound : Sound n es) (
     pub spent : isUnfound st t ≡ true → length entries ≤ index
 
   queue-long : {gs : List Entry} {st : Search} {i b : ℕ} → Under gs st i b → length (st .queue) ≡ length gs
-  queue-long {gs} u = ap length (u .queued) ∙ length-map gs (λ (g : Entry). g .vertex)
+  queue-long {gs} u = ap length (u .held .queued) ∙ length-map gs (λ (g : Entry). g .vertex)
 
   under-done : (t i : ℕ) (st : Search) (gs : List Entry) (b : ℕ) → Under gs st i b → Ready gs i b → (isUnfound st t ≡ true → length gs ≤ i) → Done t st
   under-done t i st gs b u r h = record { entries = gs; index = i; bound = b; under = u; ready = r; spent = h }
 
   -- the queue has at most n entries, so as many turns are enough
   search-done : (t k i : ℕ) (st : Search) (gs : List Entry) (b : ℕ) → Under gs st i b → Ready gs i b → n ≤ k + i → Done t (search f es t k i st)
-  search-done t zero i st gs b u r h = subst (Done t) (sym (search-none f es t i st)) (under-done t i st gs b u r (λ _. let z = u .once in omega (arith, h)))
+  search-done t zero i st gs b u r h = subst (Done t) (sym (search-none f es t i st)) (under-done t i st gs b u r (λ _. let z = u .held .once in omega (arith, h)))
   search-done t (suc k) i st gs b u r h = by-test (ltb i (length (st .queue)) && isUnfound st t)
       (λ q.
       let z = both (ltb i (length (st .queue))) (isUnfound st t) q in
       let l : i < length gs = (let y = ltb-true i (length (st .queue)) (z .0) in omega (arith, queue-long u)) in
-      let (hs, g, w) = expand-under gs st i b u l (r l) in
+      let (gs′, g, w) = expand-under gs st i b u l (r l) in
       subst (Done t) (sym (search-more f es t k i st q))
-          (search-done t k (suc i) _ hs _ w (λ d. let a = (w .ascending i (suc i) (omega arith) d) .0 in let e = ap key (g .same i l) in omega arith) (omega (arith, h))))
+      (search-done t k (suc i) _ gs′ _ w (λ d. let a = (w .held .ascending i (suc i) (omega arith) d) .0 in let e = ap key (g .same i l) in omega arith) (omega (arith, h))))
       (λ q. subst (Done t) (sym (search-stops f es t k i st q))
-          (under-done t i st gs b u r (λ o. let y = ltb-false i (length (st .queue)) (unmet q o) in omega (arith, queue-long u))))
+      (under-done t i st gs b u r (λ o. let y = ltb-false i (length (st .queue)) (unmet q o) in omega (arith, queue-long u))))
     where
       unmet : {x y : Bool} → (x && y) ≡ false → y ≡ true → x ≡ false
       unmet {x} q o = by-test x (λ p. absurd (true≢false (sym (and-true p o) ∙ q))) (λ p. p)
 
   -- before the first step the source is found, by no edge
-  begun-under : Under (record { vertex = s; route = [] } ∷ []) (begun n s) 0 maxVertices
-  begun-under = record {
+  begun-held : Held (record { vertex = s; route = [] } ∷ []) (begun n s)
+  begun-held = record {
     queued = refl;
     sized = length-set (replicate n unfound) s noArc ∙ length-replicate n unfound;
     source = getD-set-same (replicate n unfound) s noArc 0 inner;
@@ -357,8 +263,6 @@ module _ (f : Edge → Bool) (es : List Edge) (n s : ℕ) (sound : Sound n es) (
     entered = first;
     known = λ u h q. ⊎-elim (λ a. (0, (omega arith), sym (a .0))) (λ a. absurd (q (a .1 ∙ getD-replicate n u unfound 0 h))) (at-set (replicate n unfound) s noArc u 0 inner);
     ascending = λ j k h l. absurd (omega arith);
-    bounded = λ j h. (let z : j ≡ 0 = omega arith in rw z (omega arith));
-    closed = λ j h. absurd (omega arith);
   }
     where
       inner : s < length (replicate n unfound)
@@ -373,6 +277,9 @@ module _ (f : Edge → Bool) (es : List Edge) (n s : ℕ) (sound : Sound n es) (
       }
       first (suc j) h = absurd (omega arith)
 
+  begun-under : Under (record { vertex = s; route = [] } ∷ []) (begun n s) 0 maxVertices
+  begun-under = record { held = begun-held; bounded = λ j h. (let z : j ≡ 0 = omega arith in rw z (omega arith)); closed = λ j h. absurd (omega arith) }
+
   searched-done : (t : ℕ) → Done t (search f es t n 0 (begun n s))
   searched-done t = search-done t n 0 (begun n s) _ _ begun-under (λ l. omega arith) (omega arith)
 
@@ -382,9 +289,9 @@ module _ (f : Edge → Bool) (es : List Edge) (n s : ℕ) (sound : Sound n es) (
     -- entry 0 has at most 0 edges, so it is the source's
     start-reached : Reached gs 1 s
     start-reached =
-        let (j, h, _) = u .known s home (λ q. let z = u .source in omega arith) in
+        let (j, h, _) = u .held .known s home (λ q. let z = u .held .source in omega arith) in
         let l : 0 < length gs = omega arith in
-        let e = u .entered 0 l in
+        let e = u .held .entered 0 l in
         let (p, q) = leads-none (e .leads) (e .few) in
         (0, l, sym q, (rw p (omega arith)))
 
@@ -406,18 +313,18 @@ module _ (f : Edge → Bool) (es : List Edge) (n s : ℕ) (sound : Sound n es) (
             (λ t. let a = ltb-false j i t in let y = r (omega arith) in let z = least j h a in inr (λ d g. let w = u .bounded d g in omega (arith, q)))
           where
             least : (j : ℕ) → j < length gs → i ≤ j → key (entry gs i) ≤ key (entry gs j)
-            least j h a = by-test (eqb i j) (λ t. rw (eqb-true i j t) (omega arith)) (λ t. let y = eqb-false i j t in let z = (u .ascending i j (omega arith) h) .0 in omega arith)
+            least j h a = by-test (eqb i j) (λ t. rw (eqb-true i j t) (omega arith)) (λ t. let y = eqb-false i j t in let z = (u .held .ascending i j (omega arith) h) .0 in omega arith)
 
     -- the one entry of a vertex comes before each route to it
     entry-first : (j : ℕ) → j < length gs → (qs : List Edge) → Leads (keep f es) s qs ((entry gs j) .vertex) → key (entry gs j) ≤ rank 1 qs
     entry-first j h qs l = ⊎-elim (λ c. let (k, g, p, q) = c in rw (sole j k h g (sym p)) q) (λ c. c j h) (leads-covered 1 l (inl start-reached))
       where
         sole : (j k : ℕ) → j < length gs → k < length gs → (entry gs j) .vertex ≡ (entry gs k) .vertex → j ≡ k
-        sole j k h g p = by-test (ltb j k) (λ t. absurd ((u .ascending j k (ltb-true _ _ t) g) .1 p))
-            (λ t. by-test (ltb k j) (λ o. absurd ((u .ascending k j (ltb-true _ _ o) h) .1 (sym p))) (λ o. let y = ltb-false j k t in let z = ltb-false k j o in omega arith))
+        sole j k h g p = by-test (ltb j k) (λ t. absurd ((u .held .ascending j k (ltb-true _ _ t) g) .1 p))
+            (λ t. by-test (ltb k j) (λ o. absurd ((u .held .ascending k j (ltb-true _ _ o) h) .1 (sym p))) (λ o. let y = ltb-false j k t in let z = ltb-false k j o in omega arith))
 
     -- where all is expanded, each route leads to what is found
-    leads-known : length gs ≤ i → {v x : ℕ} {qs : List Edge} → Leads (keep f es) v qs x → (j : ℕ) × (j < length gs) × ((entry gs j) .vertex ≡ v) → (j : ℕ) × (j < length gs) × ((entry gs j) .vertex ≡ x)
+    leads-known : length gs ≤ i → {v x : ℕ} {qs : List Edge} → Leads (keep f es) v qs x → Known gs v → Known gs x
     leads-known a stop c = c
     leads-known a (on {e = e} m l) (j, h, p) = let (d, g, q, _) = u .closed j (omega arith) h e m (sym p) in leads-known a l (d, g, q)
 
@@ -430,7 +337,7 @@ module _ (f : Edge → Bool) (es : List Edge) (n s : ℕ) (sound : Sound n es) (
       step k = getD ps k (edge 0 0 0)
 
       o : Entered (st .via) j (entry gs j)
-      o = u .entered j h
+      o = u .held .entered j h
 
       step-in : (k : ℕ) → k < length ps → List·Memᴰ (step k) ps
       step-in k l = getD-mem ps k _ l
@@ -450,15 +357,15 @@ module _ (f : Edge → Bool) (es : List Edge) (n s : ℕ) (sound : Sound n es) (
 
       entry-trace : Trace s ((entry gs j) .vertex) (st .via) ps
       entry-trace = record {
-        most = (omega (arith, u .sized, small));
-        few = (let z = o .few in let y = u .once in omega (arith, u .sized, h));
+        most = (omega (arith, u .held .sized, small));
+        few = (let z = o .few in let y = u .held .once in omega (arith, u .held .sized, h));
         last = leads-last (o .leads);
-        inside = λ k l. (let z = visited-below k l in omega (arith, u .sized));
+        inside = λ k l. (let z = visited-below k l in omega (arith, u .held .sized));
         back = λ k l. rw (step-head k, leads-tail (o .leads) (edge 0 0 0) k l, step-weight k) (o .traced (step k) (step-in k l));
         light = λ k l. (let z = (step-fit k l) .weight-most in let y = step-weight k in omega arith);
         away = λ k l q.
             let z = (step-fit k l) .some-weight in
-            let y = sym (u .source) ∙ (ap (λ (v : ℕ). getD (st .via) v 0) (sym q ∙ step-head k) ∙ o .traced (step k) (step-in k l)) in
+            let y = sym (u .held .source) ∙ (ap (λ (v : ℕ). getD (st .via) v 0) (sym q ∙ step-head k) ∙ o .traced (step k) (step-in k l)) in
             omega arith;
       }
 
@@ -467,16 +374,22 @@ module _ (f : Edge → Bool) (es : List Edge) (n s : ℕ) (sound : Sound n es) (
 
   -- ---- the theorems
 
-  -- t is found by its entry's route.
+  -- Each vertex found has an entry with the route by which it was found, and entries ascend by their routes' numbers. Each entry in its turn is expanded:
+  -- where its number is k, the routes along its edges have the numbers k * 256 + head, in the order of heads. All that was found has a number below: it
+  -- follows on an entry that comes before, or on this one by a lower head. So a head that is found already is found by a route that is no later, and a
+  -- head that is not is put last. At the end, by induction along any route of number k to v: v is found by a route whose number is at most k, or
+  -- all that is found is; for an entry that is not expanded comes after all that have followers. Where t is found, its route so comes first.
   pub search-finds : (t : ℕ) → t < n → isUnfound (search f es t n 0 (begun n s)) t ≡ false → Found (keep f es) s t ((search f es t n 0 (begun n s)) .via)
   search-finds t h q =
       let d = searched-done t in
-      let (j, l, p) = d .under .known t h (eqb-false _ _ q) in
+      let (j, l, p) = d .under .held .known t h (eqb-false _ _ q) in
       subst (λ x. Found (keep f es) s x ((search f es t n 0 (begun n s)) .via)) p (entry-found (d .entries) _ (d .index) (d .bound) (d .under) (d .ready) j l)
 
+  -- Where t is not found the search has gone on until all was expanded: each entry is another vertex, so there are at most n, and n turns are enough. Then
+  -- the head of each edge from a vertex found is found, so each vertex that a route leads to is, and t is none of them.
   pub search-lacks : (t : ℕ) → isUnfound (search f es t n 0 (begun n s)) t ≡ true → (qs : List Edge) → Leads (keep f es) s qs t → ⊥
   search-lacks t q qs l =
       let d = searched-done t in
       let (j, g, p, _) = start-reached (d .entries) _ (d .index) (d .bound) (d .under) (d .ready) in
       let (k, c, r) = leads-known (d .entries) _ (d .index) (d .bound) (d .under) (d .ready) (d .spent q) l (j, g, p) in
-      (d .under .entered k c) .found (rw r (eqb-true _ _ q))
+      (d .under .held .entered k c) .found (rw r (eqb-true _ _ q))
