@@ -1,9 +1,9 @@
--- The way back along a trace, words written over a list from the last one back, and marks written over weights. Assumes nothing.
+-- The way back along a trace, and marks written over weights. Assumes nothing.
 --
 --   At s ps i u               == vertex i of the route ps from s is u
 --   Marking p v i k xs end    == of k weights i are marked in xs, before the next edge the running value is v, and the end will be `end`
-use Rattle.property.proofs.Basics.{_≡_, refl, sym, ap, _∙_, _≢_, List, [], _∷_, _++_, map, append-assoc, ℕ, zero, suc, _+_, _-_, _<_, _≤_, arith, cond, length, getD, set, take, drop, length-map, length-append, take-all}
-use lib.Seq.{set-at, getD-at, drop-set-lt}
+use Rattle.property.proofs.Basics.{_≡_, refl, sym, ap, _∙_, _≢_, List, [], _∷_, _++_, map, append-assoc, ℕ, zero, suc, _+_, _<_, _≤_, arith, cond, length, getD, set, drop, length-map, length-append}
+use lib.Seq.{set-at, getD-at}
 use Rattle.property.specs.Property.{property}
 use Rattle.graph.specs.Arc.{arc, arcHead, arcWeight}
 use Rattle.graph.specs.Refusal.{over}
@@ -59,27 +59,6 @@ length-visited s ps = ap suc (length-map ps (λ (e : Edge). e .head))
 
 pub length-weights : (ps : List Edge) → length (map (λ e. e .weight) ps) ≡ length ps
 length-weights ps = length-map ps (λ (e : Edge). e .weight)
-
--- ---- words written from the last one back: those still to be written, over the list as it is, come to the same
-
-over-front : (xs l : List ℕ) (j : ℕ) → j < length xs → j < length l → over (take j xs) (set l j (getD xs j 0)) ≡ over (take (suc j) xs) l
-over-front [] l j a b = absurd (omega arith)
-over-front (x ∷ xs) [] j a b = absurd (omega arith)
-over-front (x ∷ xs) (y ∷ l) zero a b = refl
-over-front (x ∷ xs) (y ∷ l) (suc j) a b = ap (λ (z : List ℕ). x ∷ z) (over-front xs l j (omega arith) (omega arith))
-
-pub over-turn : (xs l : List ℕ) (i j x : ℕ) {z : List ℕ} → i ≡ suc j → j < length xs → j < length l → x ≡ getD xs j 0 → over (take i xs) l ≡ z → over (take j xs) (set l j x) ≡ z
-over-turn xs l i j x e a b q h = rw q (over-front xs l j a b ∙ (rw e at h))
-
--- a word below those to be written does not matter
-pub over-set : (xs l : List ℕ) (i x : ℕ) → i < length xs → over xs (set l i x) ≡ over xs l
-over-set xs l i x h = ap (λ (z : List ℕ). xs ++ z) (drop-set-lt (length xs) l i x h)
-
-pub over-all : (xs l : List ℕ) (k : ℕ) → length xs ≤ k → over (take k xs) l ≡ over xs l
-over-all xs l k h = ap (λ (z : List ℕ). over z l) (take-all k xs h)
-
-pub over-none : (xs l : List ℕ) (i : ℕ) {z : List ℕ} → i ≡ 0 → over (take i xs) l ≡ z → l ≡ z
-over-none xs l i e h = rw e at h
 
 -- ---- marks in the place of weights
 

@@ -1,5 +1,5 @@
 -- `routing::write::mark` meets its contract. Assumes nothing.
-use Rattle.property.proofs.Basics.{_≡_, sym, ap, _∙_, Bool, cond, not, _&&_, _||_, ℕ, leb, eqb}
+use Rattle.property.proofs.Basics.{_≡_, Bool, cond, not, _&&_, _||_, ℕ, leb, eqb}
 use Rattle.routing.proofs.write.mark.Statement.{statement}
 use Rattle.routing.proofs.write.mark.Tie as tie
 

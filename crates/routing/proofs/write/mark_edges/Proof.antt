@@ -1,5 +1,5 @@
 -- `routing::write::mark_edges` meets its contract: the marks of the edges still to come, over the list as it is, come to the same. Assumes nothing.
-use Rattle.property.proofs.Basics.{needs, arith, _≡_, refl, sym, ap, _∙_, List, map, ℕ, _-_, _≤_, length, length-set}
+use Rattle.property.proofs.Basics.{needs, arith, _≡_, refl, ap, _∙_, List, map, ℕ, _-_, _≤_, length, length-set}
 use Rattle.property.specs.Property.{property}
 use Rattle.graph.specs.Refusal.{over}
 use Rattle.graph.specs.Edge.{Edge}

@@ -1,11 +1,12 @@
 -- `routing::write::write_back` meets its contract: what is still to be written, over the lists as they are, comes to the same. Assumes nothing.
-use Rattle.property.proofs.Basics.{needs, arith, _≡_, refl, sym, ap, _∙_, List, map, ℕ, suc, _-_, _<_, _≤_, length, take, length-set}
+use Rattle.property.proofs.Basics.{needs, arith, _≡_, refl, sym, _∙_, List, map, ℕ, suc, _-_, _<_, _≤_, length, take, length-set}
 use Rattle.graph.specs.Limits.{maxVertices}
 use Rattle.graph.specs.Refusal.{over}
 use Rattle.graph.specs.Edge.{Edge}
 use Rattle.graph.specs.Trail.{visited}
+use Rattle.graph.proofs.Copies.{over-turn, over-set, over-all, over-none}
 use Rattle.routing.specs.Code.{Trace}
-use Rattle.routing.proofs.Writing.{At, at-last, at-inside, at-back, at-weight, over-turn, over-set, over-all, over-none, length-visited, length-weights}
+use Rattle.routing.proofs.Writing.{At, at-last, at-inside, at-back, at-weight, length-visited, length-weights}
 use Rattle.routing.proofs.write.write_back.Statement.{statement}
 use Rattle.routing.proofs.write.write_back.Tie as tie
 
