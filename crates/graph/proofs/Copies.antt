@@ -30,15 +30,15 @@ over-front (x ∷ xs) [] j a b = absurd (omega arith)
 over-front (x ∷ xs) (y ∷ l) zero a b = refl
 over-front (x ∷ xs) (y ∷ l) (suc j) a b = ap (λ (z : List ℕ). x ∷ z) (over-front xs l j (omega arith) (omega arith))
 
-pub over-turn : (xs l : List ℕ) (i j x : ℕ) {z : List ℕ} → i ≡ suc j → j < length xs → j < length l → x ≡ getD xs j 0 → over (take i xs) l ≡ z → over (take j xs) (set l j x) ≡ z
-over-turn xs l i j x e a b q h = rw q (over-front xs l j a b ∙ (rw e at h))
+pub over-back-turn : (xs l : List ℕ) (i j x : ℕ) {z : List ℕ} → i ≡ suc j → j < length xs → j < length l → x ≡ getD xs j 0 → over (take i xs) l ≡ z → over (take j xs) (set l j x) ≡ z
+over-back-turn xs l i j x e a b q h = rw q (over-front xs l j a b ∙ (rw e at h))
 
 -- a word below those to be written does not matter
 pub over-set : (xs l : List ℕ) (i x : ℕ) → i < length xs → over xs (set l i x) ≡ over xs l
 over-set xs l i x h = ap (λ (z : List ℕ). xs ++ z) (drop-set-lt (length xs) l i x h)
 
-pub over-all : (xs l : List ℕ) (k : ℕ) → length xs ≤ k → over (take k xs) l ≡ over xs l
-over-all xs l k h = ap (λ (z : List ℕ). over z l) (take-all k xs h)
+pub over-back-start : (xs l : List ℕ) (k : ℕ) → length xs ≤ k → over (take k xs) l ≡ over xs l
+over-back-start xs l k h = ap (λ (z : List ℕ). over z l) (take-all k xs h)
 
-pub over-none : (xs l : List ℕ) (i : ℕ) {z : List ℕ} → i ≡ 0 → over (take i xs) l ≡ z → l ≡ z
-over-none xs l i e h = rw e at h
+pub over-back-done : (xs l : List ℕ) (i : ℕ) {z : List ℕ} → i ≡ 0 → over (take i xs) l ≡ z → l ≡ z
+over-back-done xs l i e h = rw e at h

@@ -4,7 +4,7 @@ use Rattle.graph.specs.Limits.{maxVertices}
 use Rattle.graph.specs.Refusal.{over}
 use Rattle.graph.specs.Edge.{Edge}
 use Rattle.graph.specs.Trail.{visited}
-use Rattle.graph.proofs.Copies.{over-turn, over-set, over-all, over-none}
+use Rattle.graph.proofs.Copies.{over-back-turn, over-set, over-back-start, over-back-done}
 use Rattle.routing.specs.Code.{Trace}
 use Rattle.routing.proofs.Writing.{At, at-last, at-inside, at-back, at-weight, length-visited, length-weights}
 use Rattle.routing.proofs.write.write_back.Statement.{statement}
@@ -47,9 +47,9 @@ loop-holds c =
           let n = length-weights ps in
           let q : At s ps (a .k) (a .t) = rw e (at-last h) in (
             q,
-            over-turn (visited s ps) (a .vertices .now) (suc (a .k)) (a .k) (a .t) refl (omega arith) (omega arith) (q .vertex)
-                (over-all (visited s ps) (a .vertices .now) (suc (a .k)) (omega arith)) ∙ sym (over-set (visited s ps) (a .vertices .now) (a .k) (a .t) (omega arith)),
-            over-all (map (λ (e : Edge). e .weight) ps) (a .weights .now) (a .k) (omega arith),
+            over-back-turn (visited s ps) (a .vertices .now) (suc (a .k)) (a .k) (a .t) refl (omega arith) (omega arith) (q .vertex)
+                (over-back-start (visited s ps) (a .vertices .now) (suc (a .k)) (omega arith)) ∙ sym (over-set (visited s ps) (a .vertices .now) (a .k) (a .t) (omega arith)),
+            over-back-start (map (λ (e : Edge). e .weight) ps) (a .weights .now) (a .k) (omega arith),
           )),
       omega arith,
       refl,
@@ -67,8 +67,8 @@ loop-again c =
           let b = r .0 .inside in
           let w : At s ps (i - 1) (c .before .head .result) = rw (c .before .head .ensures) (at-back h (r .0) (i - 1) (omega arith)) in (
             w,
-            over-turn (visited s ps) (l .loop .vertices) i (i - 1) _ (omega arith) (omega (arith, length-visited s ps)) (omega arith) (w .vertex) (r .1),
-            over-turn (map (λ (e : Edge). e .weight) ps) (l .loop .weights) i (i - 1) _ (omega arith) (omega (arith, length-weights ps)) (omega arith) (c .weight .ensures ∙ at-weight h (r .0) (i - 1) (omega arith)) (r .2),
+            over-back-turn (visited s ps) (l .loop .vertices) i (i - 1) _ (omega arith) (omega (arith, length-visited s ps)) (omega arith) (w .vertex) (r .1),
+            over-back-turn (map (λ (e : Edge). e .weight) ps) (l .loop .weights) i (i - 1) _ (omega arith) (omega (arith, length-weights ps)) (omega arith) (c .weight .ensures ∙ at-weight h (r .0) (i - 1) (omega arith)) (r .2),
           )),
       omega arith,
       length-set (l .loop .vertices) (i - 1) (c .before .head .result) ∙ v .2,
@@ -82,8 +82,8 @@ returns c =
     let a = l .before .before .before .before .args in
     λ s ps h e.
     let r = v .0 s ps h e in (
-      over-none (visited s ps) (l .loop .vertices) (l .loop .i) (omega arith) (r .1) ∙ over-set (visited s ps) (a .vertices .now) (a .k) (a .t) (omega (arith, length-visited s ps)),
-      over-none (map (λ (e : Edge). e .weight) ps) (l .loop .weights) (l .loop .i) (omega arith) (r .2),
+      over-back-done (visited s ps) (l .loop .vertices) (l .loop .i) (omega arith) (r .1) ∙ over-set (visited s ps) (a .vertices .now) (a .k) (a .t) (omega (arith, length-visited s ps)),
+      over-back-done (map (λ (e : Edge). e .weight) ps) (l .loop .weights) (l .loop .i) (omega arith) (r .2),
     )
 
 pub write-back-spec : {M : Type 1} → statement M
