@@ -17,4 +17,5 @@ pub mod Counts
 pub mod Places
 pub mod Own
 pub mod Arcs
+pub mod Trails
 pub mod Parted

@@ -47,7 +47,11 @@ fn write_back(t: u32, k: usize, via: &[u32], vertices: &mut [u32], weights: &mut
 fn mark(p: u32, v: u32, x: u32) -> u32
     ensures { λ r. ⌜ ((e : Edge) → x ≡ property p .along v (e .weight) → r ≡ cond (isMarked p v e) 1 0) ⌝ }
 {
-    if p <= 2 || (p <= 4 && x != v) { 1 } else { 0 }
+    if (p <= 2) | ((p <= 4) & (x != v)) {
+        1
+    } else {
+        0
+    }
 }
 
 // The marks of `k` edges in the place of their weights.

@@ -1,0 +1,54 @@
+-- `routing::judge_route` meets its contract. Assumes nothing.
+use Rattle.property.proofs.Basics.{needs, _≡_, sym, ap, _∙_, not}
+use Rattle.property.specs.Property.{isProperty}
+use Rattle.graph.specs.Refusal.{Verdict}
+use Rattle.graph.specs.Table.{bareFaults}
+use Rattle.graph.specs.Code.{told, columns}
+use Rattle.graph.proofs.Judging.{then-refused, then-judged, if-refused, if-judged}
+use Rattle.network.specs.Query.{shortWords}
+use Rattle.answers.specs.Routing.{routeFaults}
+use Rattle.routing.proofs.judge_route.Statement.{statement}
+use Rattle.routing.proofs.judge_route.Tie as tie
+
+-- numbers 1 to 4
+bare : (c : tie.After-judge-bare) → let a = c .before .before .before .before .before .args in
+    told (c .judge-bare .result) ≡ bareFaults (a .n) (columns (a .tails .now) (a .heads .now) (a .weights .now)) (a .count) (shortWords (a .n) (a .vertices) (a .marks))
+bare c =
+    let a = c .before .before .before .before .before .args in
+    c .judge-bare .ensures ∙ ap (λ (v : Verdict). bareFaults (a .n) (columns (a .tails .now) (a .heads .now) (a .weights .now)) (a .count) v) (c .before .refuse-if .ensures)
+
+returns : tie.Need-returns
+unfolding routeFaults
+returns c = then-refused _ _ _ _ _ (bare (c .before .before)) (c .enum-told2 .given .1)
+
+returns-2 : tie.Need-returns-2
+unfolding routeFaults
+returns-2 c =
+    let i = c .before in
+    let e = i .before in
+    let a = e .before .before .before .before .before .before .before .args in
+    then-judged _ _ _ _ (bare (e .before .before)) (e .enum-told .given .1)
+    (if-refused (not (isProperty (a .property))) 5 0 _ (ap not (sym (i .is-property .ensures)) ∙ c .if1 .taken))
+
+returns-3 : tie.Need-returns-3
+unfolding routeFaults
+returns-3 c =
+    let i = c .before .before in
+    let e = i .before in
+    let a = e .before .before .before .before .before .before .before .args in
+    then-judged _ _ _ _ (bare (e .before .before)) (e .enum-told .given .1)
+    (if-judged (not (isProperty (a .property))) 5 0 _ _ (ap not (sym (i .is-property .ensures)) ∙ c .before .if1 .left) (c .refuse-if2 .ensures))
+
+pub judge-route-spec : {M : Type 1} → statement M
+judge-route-spec =
+    tie.close
+    (tie.spec
+    (λ c κs. search needs)
+    (λ c κs. search needs)
+    (λ c. search needs)
+    (λ c. search needs)
+    returns
+    (λ c κs. search needs)
+    returns-2
+    (λ c κs. search needs)
+    returns-3)
