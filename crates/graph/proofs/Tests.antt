@@ -1,5 +1,5 @@
 -- Conjunctions and disjunctions of tests, as facts. (`borrow.Author.Tests` has those on numbers and on `not`.) Assumes nothing.
-use Rattle.property.proofs.Basics.{_≡_, refl, sym, _↔_, Bool, true, false, _&&_, _||_, true≢false, false≢true}
+use Rattle.property.proofs.Basics.{_≡_, refl, sym, _⊎_, inl, inr, _↔_, Bool, true, false, _&&_, _||_, true≢false, false≢true}
 
 pub both : (a b : Bool) → (a && b) ≡ true → (a ≡ true) × (b ≡ true)
 both true b e = (refl, e)
@@ -7,6 +7,11 @@ both false b e = absurd (false≢true e)
 
 pub and-true : {a b : Bool} → a ≡ true → b ≡ true → (a && b) ≡ true
 and-true p q = rw (p, q)
+
+pub and-false : (a b : Bool) → (a ≡ false) ⊎ (b ≡ false) → (a && b) ≡ false
+and-false false b h = refl
+and-false true b (inl p) = absurd (true≢false p)
+and-false true b (inr p) = p
 
 pub neither : (a b : Bool) → (a || b) ≡ false → (a ≡ false) × (b ≡ false)
 neither true b e = absurd (true≢false e)

@@ -1,5 +1,5 @@
--- What a search is told by: the entries of its queue, each with the route by which its vertex was found; the order in which a vertex's edges come; and
--- the turns of the search. Assumes nothing.
+-- What a search is told by: the entries of its queue, each with the route by which its vertex was found; and the order in which a vertex's edges
+-- come. Assumes nothing.
 --
 --   Entry           == a vertex of the queue with the route by which it was found
 --   entry gs j      == entry j of gs
@@ -9,15 +9,13 @@
 --   Reached gs k v  == an entry of gs is of vertex v, and its route's number is at most k
 --   Grows gs gs′    == gs′ is gs with entries put after it
 --   Rising c os     == the heads of the edges os ascend, from c on
-use Rattle.property.proofs.Basics.{_≡_, refl, ap, subst, _∙_, ⊎-elim, _≢_, Bool, true, false, _&&_, List, [], _∷_, _++_, List·Memᴰ, List·Memᴰ·head, List·Memᴰ·tail, ℕ, zero, suc, _≤_, _<_, arith, length, getD, set, replicate, length-append, List·getD-append, ltb, eqb, eqb-true, eq-eqb, ne-eqb}
+use Rattle.property.proofs.Basics.{_≡_, refl, ap, subst, _∙_, ⊎-elim, _≢_, List, [], _∷_, _++_, List·Memᴰ, List·Memᴰ·head, List·Memᴰ·tail, ℕ, zero, suc, _≤_, _<_, arith, length, getD, length-append, List·getD-append, eqb, eqb-true}
 use Rattle.property.proofs.Tests.{by-test}
 use Rattle.graph.specs.Edge.{Edge, keepIf, keep, leaving}
-use Rattle.graph.specs.Code.{equal}
 use Rattle.graph.specs.Table.{isEdge}
 use Rattle.graph.proofs.Lists.{mem-index}
 use Rattle.graph.proofs.Sorted.{sorted-before}
 use Rattle.graph.proofs.Order.{Less, less-of, table-ordered, Sound}
-use Rattle.routing.specs.Search.{Search, isUnfound, expand, search}
 use Rattle.routing.proofs.Routes.{rank}
 
 -- ---- entries
@@ -65,20 +63,6 @@ grows-one gs g = let p = length-append gs (g ∷ []) in record { longer = omega 
 pub reached-grows : {gs gs′ : List Entry} {k v : ℕ} → Grows gs gs′ → Reached gs k v → Reached gs′ k v
 reached-grows a (j, h, p, q) = let l = a .longer in (j, omega arith, ap (λ (g : Entry). g .vertex) (a .same j h) ∙ p, (rw (a .same j h) q))
 
--- ---- how many words are a number
-
-pub equal-all : (a n : ℕ) → equal a (replicate n a) ≡ n
-unfolding equal
-equal-all a zero = refl
-equal-all a (suc n) = rw (eq-eqb a a refl, equal-all a n)
-
--- one fewer where another is stored over it
-pub equal-set : (a : ℕ) (vs : List ℕ) (h v : ℕ) → h < length vs → getD vs h 0 ≡ a → v ≢ a → suc (equal a (set vs h v)) ≡ equal a vs
-unfolding equal
-equal-set a [] h v l p q = absurd (omega arith)
-equal-set a (x ∷ vs) zero v l p q = rw (ne-eqb v a q, eq-eqb x a p)
-equal-set a (x ∷ vs) (suc h) v l p q = let z = equal-set a vs h v (omega arith) p q in by-test (eqb x a) (λ r. rw r (ap suc z)) (λ r. rw r z)
-
 -- ---- the edges of one tail ascend by head
 
 abbrev pub Rising : ℕ → List Edge → Type 0
@@ -97,19 +81,3 @@ leaving-rising n u (x ∷ es) h c b = by-test (eqb (x .tail) u)
         let (k, l, r) = mem-index x m in
         let z : Less x e = subst (λ (y : Edge). Less x y) r (less-of x (getD es k x) (sorted-before table-ordered (isEdge n) x (x ∷ es) h 0 (suc k) (omega arith) (omega arith))) in
         ⊎-elim (λ a. absurd (omega arith)) (λ a. a .1) z
-
--- ---- the turns of a search
-
-module _ (f : Edge → Bool) (es : List Edge) (t : ℕ) where
-  pub search-none : (i : ℕ) (st : Search) → search f es t 0 i st ≡ st
-  unfolding search
-  search-none i st = refl
-
-  pub search-more : (k i : ℕ) (st : Search) → (ltb i (length (st .queue)) && isUnfound st t) ≡ true
-      → search f es t (suc k) i st ≡ search f es t k (suc i) (expand f es st (getD (st .queue) i 0))
-  unfolding search
-  search-more k i st q = rw (q, search)
-
-  pub search-stops : (k i : ℕ) (st : Search) → (ltb i (length (st .queue)) && isUnfound st t) ≡ false → search f es t (suc k) i st ≡ st
-  unfolding search
-  search-stops k i st q = rw (q, search)

@@ -21,12 +21,14 @@ use Rattle.graph.specs.Code.{equal}
 use Rattle.graph.specs.Trail.{Leads, stop, on, visited}
 use Rattle.graph.proofs.Tests.{both, and-true}
 use Rattle.graph.proofs.Lists.{at-set, getD-mem}
+use Rattle.graph.proofs.Counts.{equal-all, equal-set}
 use Rattle.graph.proofs.Edges.{keep-in, in-keep, leaving-in, in-leaving}
 use Rattle.graph.proofs.Order.{Sound, EdgeFacts, sound-fit}
 use Rattle.routing.specs.Search.{unfound, noArc, Search, isUnfound, finds, reach, expand, begun, search}
 use Rattle.routing.specs.Code.{weightAt, Trace}
 use Rattle.routing.proofs.Routes.{rank, Narrow, NoLater, rank-on, rank-no-later, leads-mem, leads-on, leads-last, leads-tail, leads-none}
-use Rattle.routing.proofs.Entries.{Entry, entry, key, Before, Known, Reached, Grows, Rising, each-on, grows-none, grows-then, grows-one, reached-grows, equal-all, equal-set, leaving-rising, search-none, search-more, search-stops}
+use Rattle.routing.proofs.Entries.{Entry, entry, key, Before, Known, Reached, Grows, Rising, each-on, grows-none, grows-then, grows-one, reached-grows, leaving-rising}
+use Rattle.routing.proofs.Turns.{search-none, search-more, search-stops}
 
 abbrev pub Found : List Edge → ℕ → ℕ → List ℕ → Type 0
 Found ks s t vs = (ps : List Edge) × Leads ks s ps t × Trace s t vs ps × ((qs : List Edge) → Leads ks s qs t → NoLater s ps qs)

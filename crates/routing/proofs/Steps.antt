@@ -4,7 +4,6 @@
 -- `unfound` fall by one whenever the queue grows by one: together they stay as many as there are vertices. Where one more is found, some word was
 -- `unfound`, so the queue has room for it; and the entry that is expanded is always below the number of vertices, so that number of steps suffices.
 use Rattle.property.proofs.Basics.{_≡_, refl, sym, ap, ap₂, _∙_, _≢_, _⊎_, inl, inr, ⊎-elim, Bool, true, false, _&&_, List, [], _∷_, foldl, not, ℕ, zero, suc, _+_, _-_, _≤_, _<_, add-one, arith, length, getD, set, take, replicate, eqb, ltb, length-set, length-replicate, length-take-le, take-suc-set, getD-take, sub-zero, getD-set-same, lt-ltb, le-ltb, eq-eqb, ne-eqb, eqb-true, eqb-false, le-leb, lt-leb}
-use mathlib.Core.Bool.{and-false}
 use Rattle.property.proofs.Tests.{by-test}
 use Rattle.property.specs.Property.{property}
 use Rattle.graph.specs.Limits.{maxVertices}
@@ -12,11 +11,14 @@ use Rattle.graph.specs.Arc.{arc, arcHead, arcWeight}
 use Rattle.graph.specs.Edge.{Edge, edge, leaving}
 use Rattle.graph.specs.Code.{equal}
 use Rattle.graph.specs.Index.{own}
+use Rattle.graph.proofs.Tests.{and-true, and-false}
 use Rattle.graph.proofs.Lists.{at-set, getD-within, replicate-at}
+use Rattle.graph.proofs.Counts.{equal-all, equal-set}
 use Rattle.run.specs.Start.{valuesFrom}
 use Rattle.answers.specs.Routing.{eligible}
 use Rattle.routing.specs.Search.{unfound, noArc, Search, isUnfound, finds, reach, expand, begun, search, passes, searched}
 use Rattle.routing.specs.Code.{isEligible, searchOf, Searching}
+use Rattle.routing.proofs.Turns.{search-none, search-more, search-stops}
 
 -- ---- whether an edge can lie on a best route
 
@@ -37,35 +39,14 @@ eligible-word p v u h w a ws r i j f g e =
     let k : getD ws (arcHead a) (P .none) ≡ getD ws h 0 = getD-within ws (arcHead a) (P .none) 0 j ∙ ap (λ (x : ℕ). getD ws x 0) (sym f) in
     rw (e, getD-within ws u (P .none) 0 i, k, g)
 
--- ---- how many words are equal
-
--- one of those that are x is stored over
-equal-set : (x : ℕ) (ks : List ℕ) (i v : ℕ) → i < length ks → getD ks i 0 ≡ x → v ≢ x → suc (equal x (set ks i v)) ≡ equal x ks
-unfolding equal
-equal-set x [] i v h e n = absurd (omega arith)
-equal-set x (k ∷ ks) zero v h e n = rw (eq-eqb k x e, ne-eqb v x n)
-equal-set x (k ∷ ks) (suc i) v h e n =
-    let z = equal-set x ks i v (omega arith) e n in
-    by-test (eqb k x) (λ p. rw p (ap suc z)) (λ p. rw p z)
-
-equal-replicate : (n x : ℕ) → equal x (replicate n x) ≡ n
-unfolding equal
-equal-replicate zero x = refl
-equal-replicate (suc n) x = rw (eq-eqb x x refl) (ap suc (equal-replicate n x))
-
 -- ---- a vertex is found
-
--- one of two tests fails
-either-false : (a b : Bool) → (a ≡ false) ⊎ (b ≡ false) → (a && b) ≡ false
-either-false a b (inl p) = rw p
-either-false a b (inr p) = rw (p, and-false)
 
 -- the edge does not pass, or its head is found already
 pub reach-keeps : (h m : ℕ) (qs vs : List ℕ) (f : Edge → Bool) (e : Edge) (t : Bool) → f e ≡ t → e .head ≡ h → (t ≡ false) ⊎ (eqb (getD vs h 0) unfound ≡ false)
     → searchOf m qs vs ≡ reach f (searchOf m qs vs) e
 unfolding reach finds
 reach-keeps h m qs vs f e t q p g =
-    let r : f e && isUnfound (searchOf m qs vs) (e .head) ≡ false = ap₂ _&&_ q (ap (λ (x : ℕ). eqb (getD vs x 0) unfound) p) ∙ either-false t _ g in
+    let r : f e && isUnfound (searchOf m qs vs) (e .head) ≡ false = ap₂ _&&_ q (ap (λ (x : ℕ). eqb (getD vs x 0) unfound) p) ∙ and-false t _ g in
     rw r
 
 module _ (h by m : ℕ) (qs vs : List ℕ) (l : h < length vs) (b : by ≢ unfound) (s : Searching m qs vs) (t : eqb (getD vs h 0) unfound ≡ true) where
@@ -118,7 +99,7 @@ module _ (n s : ℕ) (qs fs : List ℕ) (e : fs ≡ replicate n unfound) (l : s 
       record {
         few = omega arith;
         room = omega arith;
-        once = let b = equal-replicate n unfound in let c = ap (λ (l : List ℕ). equal unfound (set l s noArc)) e in omega arith;
+        once = let b = equal-all unfound n in let c = ap (λ (l : List ℕ). equal unfound (set l s noArc)) e in omega arith;
         inside = λ i j. let k : i ≡ 0 = omega arith in rw (k, getD-set-same qs 0 s 0 (omega arith)) (omega arith);
       }
 
@@ -131,30 +112,23 @@ module _ (n s : ℕ) (qs fs : List ℕ) (e : fs ≡ replicate n unfound) (l : s 
 -- ---- the search goes on or stops
 
 module _ (f : Edge → Bool) (es : List Edge) (t i m : ℕ) (qs vs : List ℕ) (s : Searching m qs vs) where
-  -- the search from its entry i on, k + 1 steps at most, by whether it goes on
-  abbrev next : ℕ → Bool → Search
-  next k b = elim b [ true ↦ search f es t k (suc i) (expand f es (searchOf m qs vs) (getD (take m qs) i 0)) | false ↦ searchOf m qs vs ]
-
   queue-size : length (take m qs) ≡ m
   queue-size = length-take-le m qs (omega (arith, s .once, s .room))
 
   -- entry i is there and t is not found: it is expanded
   pub search-turn : (n : ℕ) (st : Search) → n ≡ length vs → i < m → eqb (getD vs t 0) unfound ≡ true → st ≡ expand f es (searchOf m qs vs) (getD qs i 0)
       → search f es t (n - i) i (searchOf m qs vs) ≡ search f es t (n - (i + 1)) (i + 1) st
-  unfolding search
   search-turn n st z l u e =
       let k : n - i ≡ suc (n - (i + 1)) = omega (arith, s .once) in
-      let b : ltb i (length (take m qs)) && eqb (getD vs t 0) unfound ≡ true = ap₂ _&&_ (lt-ltb i (length (take m qs)) (omega (arith, queue-size))) u in
       rw (k, e)
-      (ap (next (n - (i + 1))) b
+      (search-more f es t (n - (i + 1)) i (searchOf m qs vs) (and-true (lt-ltb i (length (take m qs)) (omega (arith, queue-size))) u)
       ∙ ap₂ (λ (j u : ℕ). search f es t (n - (i + 1)) j (expand f es (searchOf m qs vs) u)) (sym (add-one i)) (getD-take m qs i 0 l))
 
   -- no entry is left, or t is found: nothing more is done
-  pub search-stops : (k : ℕ) → (m ≤ i) ⊎ (eqb (getD vs t 0) unfound ≡ false) → search f es t k i (searchOf m qs vs) ≡ searchOf m qs vs
-  unfolding search
-  search-stops zero h = refl
-  search-stops (suc k) h =
-      ap (next k) (either-false _ _ (⊎-elim (λ l. inl (le-ltb i (length (take m qs)) (omega (arith, queue-size)))) inr h))
+  pub search-ends : (k : ℕ) → (m ≤ i) ⊎ (eqb (getD vs t 0) unfound ≡ false) → search f es t k i (searchOf m qs vs) ≡ searchOf m qs vs
+  search-ends zero h = search-none f es t i (searchOf m qs vs)
+  search-ends (suc k) h = search-stops f es t k i (searchOf m qs vs)
+      (and-false _ _ (⊎-elim (λ l. inl (le-ltb i (length (take m qs)) (omega (arith, queue-size)))) inr h))
 
 -- ---- the whole search
 

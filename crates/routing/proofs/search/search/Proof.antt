@@ -7,7 +7,7 @@ use Rattle.answers.specs.Routing.{eligible}
 use Rattle.routing.specs.Search.{isUnfound, begun}
 use Rattle.routing.specs.Search as spec
 use Rattle.routing.specs.Code.{searchOf, Searching}
-use Rattle.routing.proofs.Steps.{searching-begun, search-begins, search-turn, search-stops}
+use Rattle.routing.proofs.Steps.{searching-begun, search-begins, search-turn, search-ends}
 use Rattle.routing.proofs.search.search.Statement.{statement}
 use Rattle.routing.proofs.search.search.Tie as tie
 
@@ -88,7 +88,7 @@ returns c =
     let w = c .before .loop-test .came in (
     λ es o.
     let F = eligible (g .p) (g .row .now) (g .v) in
-    let e = sym (search-stops F es (g .t) (at .i) (at .count) (at .queue) (at .via) (at .inv .3) (length (g .via .now) - at .i) (⊎-elim (λ q. inr (q .2 .left)) (λ q. inl (q .left)) w)) ∙ at .inv .0 (length (g .via .now)) z es o in
+    let e = sym (search-ends F es (g .t) (at .i) (at .count) (at .queue) (at .via) (at .inv .3) (length (g .via .now) - at .i) (⊎-elim (λ q. inr (q .2 .left)) (λ q. inl (q .left)) w)) ∙ at .inv .0 (length (g .via .now)) z es o in
     (ap (λ st. st .via) e, ap (λ st. not (isUnfound st (g .t))) e)
     )
 
