@@ -5,8 +5,8 @@
 --   Unbettered P ps qs == the value of qs is no better than that of ps
 --   Asked n es p s t   == what an accepted request has: few vertices, sound edges, a property, source and target
 --   by b               == the eligible edges of a property that is strict, or that selects
-use Rattle.property.proofs.Basics.{_≡_, refl, sym, ap, _∙_, subst, _⊎_, inl, inr, ⊎-elim, _↔_, _≢_, Bool, true, false, cond, List, map, ℕ, _≤_, _<_, arith, length, leb, le-ltb, leb-true, leb-false}
-use Rattle.property.specs.Property.{Property, bfs, ssr, property}
+use Rattle.property.proofs.Basics.{_≡_, refl, sym, ap, _∙_, subst, _⊎_, inl, inr, ⊎-elim, _↔_, _≢_, Bool, false, cond, List, map, ℕ, _≤_, _<_, arith, length, leb, le-ltb, leb-true, leb-false}
+use Rattle.property.specs.Property.{Property, bfs, property}
 use Rattle.property.proofs.Instances.{bfs-laws, bfs-joins, property-laws, property-rest}
 use Rattle.property.proofs.Tests.{by-test}
 use Rattle.property.proofs.RouteLaws.{property-strict, property-selects}
