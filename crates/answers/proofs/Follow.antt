@@ -3,18 +3,20 @@
 --   Foremost f es e      == of the edges of es that pass the test f, e stands first
 --   Headed ks t u k rs   == the list rs, which leads from u to t in k + 1 edges of ks, taken apart after its first edge
 --   heads ps             == the heads of the edges ps
+--   Least ks s t ps      == of the routes along the edges ks, ps is one with the fewest edges, and of those none is lower
 --   Lowest k u qs        == qs leads from u to t in k edges, and no such list of k edges is lower
-use Rattle.property.proofs.Basics.{_≡_, refl, sym, ap, _∙_, subst, _⊎_, inl, inr, ⊎-elim, Bool, true, false, _&&_, cond, true≢false, some, List, [], _∷_, map, List·Memᴰ, List·Memᴰ·head, List·Memᴰ·tail, List·Memᴰ·cases-cons, List·Memᴰ·not-nil, ℕ, zero, suc, _≤_, _<_, ℕ-discrete, arith, length, eqb, eqb-true, eq-eqb, ne-eqb, le-ltb}
+use Rattle.property.proofs.Basics.{_≡_, refl, sym, ap, _∙_, subst, _⊎_, inl, inr, ⊎-elim, Bool, true, false, _&&_, true≢false, some, List, [], _∷_, map, List·Memᴰ, List·Memᴰ·head, List·Memᴰ·tail, List·Memᴰ·cases-cons, List·Memᴰ·not-nil, ℕ, zero, suc, _≤_, _<_, ℕ-discrete, arith, length, eqb, eqb-true, eq-eqb, ne-eqb, le-ltb}
 use Rattle.property.specs.Property.{M, bfs}
+use Rattle.property.proofs.Tests.{by-test}
 use Rattle.graph.specs.Edge.{Edge, precedes}
 use Rattle.graph.specs.Table.{isEdge}
 use Rattle.graph.specs.Route.{Best}
-use Rattle.graph.specs.Trail.{Leads, stop, on, lower}
+use Rattle.graph.specs.Trail.{Leads, stop, on, visited, lower}
 use Rattle.graph.proofs.Tests.{both, and-true}
 use Rattle.graph.proofs.Order.{table-ordered, Sound, Less, less-of}
 use Rattle.graph.proofs.Keeps.{leads-mem}
 use Rattle.run.specs.Run.{word}
-use Rattle.theory.proofs.Kept.{hops-attained, hop-down}
+use Rattle.theory.proofs.Kept.{hops-least, hops-attained, hop-down}
 use Rattle.answers.specs.Routing.{firstOf, leadsOn, followed}
 
 -- ---- the first that passes a test
@@ -22,23 +24,28 @@ use Rattle.answers.specs.Routing.{firstOf, leadsOn, followed}
 abbrev Foremost : (Edge → Bool) → List Edge → Edge → Type 0
 Foremost f es e = List·Memᴰ e es × (f e ≡ true) × ((x : Edge) → List·Memᴰ x es → f x ≡ true → (x ≡ e) ⊎ (precedes e x ≡ true))
 
+firstOf-here : (f : Edge → Bool) (e : Edge) (es : List Edge) → f e ≡ true → firstOf f (e ∷ es) ≡ some e
+unfolding firstOf
+firstOf-here f e es z = rw z
+
+firstOf-past : (f : Edge → Bool) (e : Edge) (es : List Edge) → f e ≡ false → firstOf f (e ∷ es) ≡ firstOf f es
+unfolding firstOf
+firstOf-past f e es z = rw z
+
 firstOf-foremost : (f : Edge → Bool) (n : ℕ) (es : List Edge) → Sound n es → (x : Edge) → List·Memᴰ x es → f x ≡ true
     → (e : Edge) × (firstOf f es ≡ some e) × Foremost f es e
-unfolding firstOf
 firstOf-foremost f n [] h x m q = absurd (List·Memᴰ·not-nil m)
-firstOf-foremost f n (o ∷ es) h x m q = pick (λ k. firstOf-foremost f n es (h .2) x k q) (f o) refl (List·Memᴰ·cases-cons m)
-  where
-    pick : (List·Memᴰ x es → (e : Edge) × (firstOf f es ≡ some e) × Foremost f es e) → (b : Bool) → f o ≡ b → (x ≡ o) ⊎ List·Memᴰ x es
-        → (e : Edge) × (cond b (some o) (firstOf f es) ≡ some e) × Foremost f (o ∷ es) e
-    pick below true z c = (
+firstOf-foremost f n (o ∷ es) h x m q = by-test (f o)
+    (λ z. (
       o,
-      refl,
-      (List·Memᴰ·head refl, z, λ y k g. ⊎-elim inl (λ k′. inr (leads-mem table-ordered (isEdge n) o es (h .1) (h .2) y k′)) (List·Memᴰ·cases-cons k)),
-    )
-    pick below false z (inl p) = absurd (true≢false (sym q ∙ ap f p ∙ z))
-    pick below false z (inr k) =
-        let (e, y, (me, fe, low)) = below k in
-        (e, y, (List·Memᴰ·tail me, fe, λ u j g. ⊎-elim (λ p. absurd (true≢false (sym g ∙ ap f p ∙ z))) (λ j′. low u j′ g) (List·Memᴰ·cases-cons j)))
+      firstOf-here f o es z,
+      (List·Memᴰ·head refl, z, λ y k g. ⊎-elim inl (λ j. inr (leads-mem table-ordered (isEdge n) o es (h .1) (h .2) y j)) (List·Memᴰ·cases-cons k)),
+    ))
+    (λ z.
+        let other : (y : Edge) → List·Memᴰ y (o ∷ es) → f y ≡ true → List·Memᴰ y es = λ y k g.
+        ⊎-elim (λ p. absurd (true≢false (sym g ∙ ap f p ∙ z))) (λ j. j) (List·Memᴰ·cases-cons k) in
+        let (e, y, (me, fe, low)) = firstOf-foremost f n es (h .2) x (other x m q) q in
+        (e, firstOf-past f o es z ∙ y, (List·Memᴰ·tail me, fe, λ u j g. low u (other u j g) g)))
 
 -- ---- the first edge of a route
 
@@ -60,7 +67,7 @@ unfolding lower
 lower-nil [] = refl
 lower-nil (u ∷ us) = refl
 
-pub lower-cons : (u v : ℕ) (us vs : List ℕ) → v ≤ u → (u ≡ v → lower us vs ≡ false) → lower (u ∷ us) (v ∷ vs) ≡ false
+lower-cons : (u v : ℕ) (us vs : List ℕ) → v ≤ u → (u ≡ v → lower us vs ≡ false) → lower (u ∷ us) (v ∷ vs) ≡ false
 unfolding lower
 lower-cons u v us vs h k = rw (le-ltb u v h) (pick (ℕ-discrete u v))
   where
@@ -70,11 +77,15 @@ lower-cons u v us vs h k = rw (le-ltb u v h) (pick (ℕ-discrete u v))
 
 -- ---- the route that is followed
 
+abbrev pub Least : List Edge → ℕ → ℕ → List Edge → Type 0
+Least ks s t ps = Leads ks s ps t
+    × ((qs : List Edge) → Leads ks s qs t → (length ps ≤ length qs) × (length qs ≡ length ps → lower (visited s qs) (visited s ps) ≡ false))
+
 module _ (n : ℕ) (ks : List Edge) (sound : Sound n ks) (t : ℕ) (hs : List ℕ) (best : (u : ℕ) → Best bfs ks u t (word bfs hs u)) where
   abbrev heads : List Edge → List ℕ
   heads ps = map (λ e. e .head) ps
 
-  abbrev pub Lowest : ℕ → ℕ → List Edge → Type 0
+  abbrev Lowest : ℕ → ℕ → List Edge → Type 0
   Lowest k u qs = Leads ks u qs t × (length qs ≡ k) × ((rs : List Edge) → Leads ks u rs t → length rs ≡ k → lower (heads rs) (heads qs) ≡ false)
 
   followed-on : (k u : ℕ) (e : Edge) → firstOf (leadsOn hs k u) ks ≡ some e → followed ks hs (suc k) u ≡ e ∷ followed ks hs k (e .head)
@@ -105,7 +116,7 @@ module _ (n : ℕ) (ks : List Edge) (sound : Sound n ks) (t : ℕ) (hs : List �
   -- By induction on the edges still to go. With none, the route ends here. With k + 1, some route of k + 1 edges leads on; its first edge
   -- comes to a vertex with k to go, so there is a first edge e of the table that does. Any other such route starts with an edge that does
   -- so too, so its head is no lower than e's; and where the two heads are one, the rest is no lower by induction.
-  pub followed-lowest : (k u : ℕ) → k < M → word bfs hs u ≡ k → Lowest k u (followed ks hs k u)
+  followed-lowest : (k u : ℕ) → k < M → word bfs hs u ≡ k → Lowest k u (followed ks hs k u)
   unfolding followed
   followed-lowest zero u h q =
       let (rs, l, z) = hops-attained ks t hs best u (omega arith) in
@@ -124,4 +135,17 @@ module _ (n : ℕ) (ks : List Edge) (sound : Sound n ks) (t : ℕ) (hs : List �
             (lower-cons (x .head) (e .head) (heads ps) (heads (followed ks hs k (e .head)))
             (lowest-head k u e x fe (goes k u x ps (omega arith) q px mx rx nx) (low x mx (goes k u x ps (omega arith) q px mx rx nx)))
             (λ p. ll ps (subst (λ j. Leads ks j ps t) p rx) nx)),
+      )
+
+  pub followed-least : (s : ℕ) → word bfs hs s < M → Least ks s t (followed ks hs (word bfs hs s) s) × (length (followed ks hs (word bfs hs s) s) ≡ word bfs hs s)
+  followed-least s h =
+      let (ls, lz, ll) = followed-lowest (word bfs hs s) s h refl in (
+        (
+          ls,
+          λ qs l. (
+            (let z = hops-least ks t hs best l in omega arith),
+            λ z. lower-cons s s (heads qs) (heads (followed ks hs (word bfs hs s) s)) (omega arith) (λ _. ll qs l (z ∙ lz)),
+          ),
+        ),
+        lz,
       )

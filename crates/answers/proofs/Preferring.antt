@@ -1,19 +1,19 @@
 -- Which routes are preferred: those with the fewest and lowest of the eligible edges, and for handovers and reach of all edges; the route that is
 -- followed is one, and there is one exactly where the best value is not the no-route word. Assumes nothing.
 --
---   Least ks s t ps    == of the routes along the edges ks, ps is one with the fewest edges, and of those none is lower
 --   Unbettered P ps qs == the value of qs is no better than that of ps
 --   Asked n es p s t   == what an accepted request has: few vertices, sound edges, a property, source and target
 --   by b               == the eligible edges of a property that is strict, or that selects
-use Rattle.property.proofs.Basics.{_≡_, refl, sym, ap, _∙_, subst, _⊎_, inl, inr, ⊎-elim, _↔_, _≢_, Bool, false, cond, List, map, ℕ, _≤_, _<_, arith, length, leb, le-ltb, leb-true, leb-false}
-use Rattle.property.specs.Property.{Property, bfs, property}
+use Rattle.property.proofs.Basics.{_≡_, refl, sym, ap, subst, _⊎_, inl, inr, ⊎-elim, _↔_, _≢_, Bool, false, cond, List, map, ℕ, _≤_, _<_, arith, length, leb, le-ltb, leb-true, leb-false}
+use Rattle.property.specs.Property.{Property, bfs, property, properties}
 use Rattle.property.proofs.Instances.{bfs-laws, bfs-joins, property-laws, property-rest}
 use Rattle.property.proofs.Tests.{by-test}
 use Rattle.property.proofs.RouteLaws.{property-strict, property-selects}
 use Rattle.graph.specs.Limits.{maxVertices}
 use Rattle.graph.specs.Edge.{Edge, reverse, keep}
+use Rattle.graph.specs.Table.{Columns, edgesOf}
 use Rattle.graph.specs.Route.{Route, here, Best}
-use Rattle.graph.specs.Trail.{Leads, visited, valueAlong, lower, BestLeads, Preferred}
+use Rattle.graph.specs.Trail.{Leads, valueAlong, BestLeads, Preferred}
 use Rattle.graph.proofs.Order.{Sound, Within, within, accept-rules}
 use Rattle.graph.proofs.Keeps.{keep-sound}
 use Rattle.run.specs.Run.{word, tight}
@@ -23,13 +23,10 @@ use Rattle.theory.proofs.Reverse.{within-reverse, forth, reversed-best}
 use Rattle.theory.proofs.Hops.{values-best, hops-few}
 use Rattle.theory.proofs.Routed.{best-routed}
 use Rattle.theory.proofs.Trail.{leads-route, route-leads, leads-best, count-along, reach-along}
-use Rattle.theory.proofs.Kept.{own, owned-best, tights-best, hops-least}
-use Rattle.answers.specs.Routing.{eligible, followed}
-use Rattle.answers.proofs.Follow.{lower-cons, followed-lowest}
-
-abbrev pub Least : List Edge → ℕ → ℕ → List Edge → Type 0
-Least ks s t ps = Leads ks s ps t
-    × ((qs : List Edge) → Leads ks s qs t → (length ps ≤ length qs) × (length qs ≡ length ps → lower (visited s qs) (visited s ps) ≡ false))
+use Rattle.theory.proofs.Kept.{own, owned-best, tights-best}
+use Rattle.answers.specs.Routing.{Request, eligible, bestWord, candidates, hops, preferred}
+pub use Rattle.answers.proofs.Follow.{Least}
+use Rattle.answers.proofs.Follow.{followed-least}
 
 -- ---- where the value goes by the number of edges
 
@@ -60,6 +57,7 @@ pub record Asked (n : ℕ) (es : List Edge) (p s t : ℕ) : Type 0 where
   pub few : n ≤ maxVertices
   pub sound : Sound n es
   pub least : 0 < p
+  pub most : p ≤ properties
   pub source : s < n
   pub target : t < n
 
@@ -75,9 +73,6 @@ module _ (n : ℕ) (es : List Edge) (p s t : ℕ) (g : Asked n es p s t) where
 
   abbrev ks : List Edge
   ks = keep (eligible p ws v) es
-
-  abbrev hs : List ℕ
-  hs = valuesFrom bfs (map reverse ks) n t
 
   inside : Within n es
   inside = within n es (g .sound)
@@ -120,40 +115,27 @@ module _ (n : ℕ) (es : List Edge) (p s t : ℕ) (g : Asked n es p s t) where
       let r = best-routed p n es (g .few) (accept-rules n es (g .sound)) s t v (g .source) (bests t) in
       (λ z ps l. r .0 z _ (leads-route here l), λ d. r .1 (λ u q. let (ps, l, z) = route-leads q in d ps l))
 
-  -- ---- hops
+-- ---- the route that is written
 
-  kept : Sound n ks
-  kept = keep-sound (eligible p ws v) n es (g .sound)
+module _ (n : ℕ) (cs : Columns) (m : ℕ) (q : Request) (g : Asked n (edgesOf cs m) (q .property) (q .source) (q .target)) where
+  kept : Sound n (candidates n cs m q)
+  kept = keep-sound _ n (edgesOf cs m) (g .sound)
 
-  back : Within n (map reverse ks)
-  back = within-reverse n ks (within n ks kept)
+  back : Within n (map reverse (candidates n cs m q))
+  back = within-reverse n (candidates n cs m q) (within n (candidates n cs m q) kept)
 
-  hops-back : (u : ℕ) → Best bfs (map reverse ks) t u (word bfs hs u)
-  hops-back = values-best bfs-laws (map reverse ks) t n back (g .target)
+  hops-back : (u : ℕ) → Best bfs (map reverse (candidates n cs m q)) (q .target) u (word bfs (hops n cs m q) u)
+  hops-back = values-best bfs-laws (map reverse (candidates n cs m q)) (q .target) n back (g .target)
 
-  hops-best : (u : ℕ) → Best bfs ks u t (word bfs hs u)
-  hops-best u = reversed-best bfs-joins (hops-back u)
-
-  few-hops : {qs : List Edge} → Leads ks s qs t → word bfs hs s < n
-  few-hops l = hops-few (map reverse ks) t n back (g .target) hs hops-back (walk-of (forth bfs-joins (leads-route here l)))
-
-  -- ---- the route that is followed
-
-  abbrev ps : List Edge
-  ps = followed ks hs (word bfs hs s) s
+  few-hops : {qs : List Edge} → Leads (candidates n cs m q) (q .source) qs (q .target) → word bfs (hops n cs m q) (q .source) < n
+  few-hops l =
+      hops-few (map reverse (candidates n cs m q)) (q .target) n back (g .target) (hops n cs m q) hops-back (walk-of (forth bfs-joins (leads-route here l)))
 
   -- There is a best route, so one of eligible edges, and the hops of the source are below n. What is followed has as many edges as that, and
   -- of the eligible routes with so many none is lower; and eligible routes are the best routes.
-  pub followed-preferred : v ≢ P .none → Preferred P es s t ps × (length ps < n)
-  followed-preferred d =
-      let h = few-hops ((eligible-leads d) .1) in
-      let (ls, lz, ll) = followed-lowest n ks kept t hs hops-best (word bfs hs s) s (omega (arith, g .few)) refl in (
-        least-preferred d (
-          ls,
-          λ qs l. (
-            (let z = hops-least ks t hs hops-best l in omega arith),
-            λ z. lower-cons s s (map (λ e. e .head) qs) (map (λ e. e .head) ps) (omega arith) (λ _. ll qs l (z ∙ lz)),
-          ),
-        ),
-        omega arith,
-      )
+  pub preferred-holds : bestWord n cs m q ≢ property (q .property) .none
+      → Preferred (property (q .property)) (edgesOf cs m) (q .source) (q .target) (preferred n cs m q) × (length (preferred n cs m q) < n)
+  preferred-holds d =
+      let h = few-hops ((eligible-leads n (edgesOf cs m) (q .property) (q .source) (q .target) g d) .1) in
+      let (z, y) = followed-least n (candidates n cs m q) kept (q .target) (hops n cs m q) (λ u. reversed-best bfs-joins (hops-back u)) (q .source) (omega (arith, g .few)) in
+      (least-preferred n (edgesOf cs m) (q .property) (q .source) (q .target) g d z, omega arith)

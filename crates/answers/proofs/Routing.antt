@@ -1,5 +1,5 @@
 -- The route that is written is the preferred one, and 15 comes exactly where there is none: the claim, proved. Assumes nothing.
-use Rattle.property.proofs.Basics.{_≡_, sym, ap, _∙_, _↔_, Bool, true, not, _&&_, List, ℕ, suc, _≤_, _<_, arith, length, eqb, ltb, leb, eqb-true, eqb-false, eq-eqb, ltb-true, not-false}
+use Rattle.property.proofs.Basics.{_≡_, sym, ap, _∙_, _↔_, Bool, true, not, _&&_, List, ℕ, suc, _≤_, _<_, arith, length, eqb, ltb, leb, eqb-true, eqb-false, eq-eqb, ltb-true, leb-true, not-false}
 use Rattle.property.specs.Property.{Property, property, properties, isProperty}
 use Rattle.property.proofs.Tests.{is-true}
 use Rattle.graph.specs.Refusal.{Verdict, accept, refuse, _▷_, refuseIf, accepted, refused, replied}
@@ -14,7 +14,7 @@ use Rattle.theory.proofs.Trail.{preferred-unique}
 use Rattle.network.specs.Query.{shortWords}
 use Rattle.answers.specs.Routing.{Request, Answer, preferred, marksOf, routeFaults, noRoute, withRoute, routeCall, WritesRoute, otherFaults, bestWord, RoutesPreferred}
 use Rattle.answers.proofs.Marks.{marks-for}
-use Rattle.answers.proofs.Preferring.{Asked, followed-preferred, unrouted}
+use Rattle.answers.proofs.Preferring.{Asked, preferred-holds, unrouted}
 
 -- a last refusal comes exactly where its test holds
 if-refused : (b : Bool) (k i : ℕ) → (refuseIf b k i ≡ refuse k i) ↔ (b ≡ true)
@@ -41,6 +41,7 @@ module _ (n : ℕ) (cs : Columns) (m : ℕ) (q : Request) where
         few = t .few;
         sound = rules-accept n es (t .sound);
         least = ltb-true _ _ (p .0);
+        most = leb-true _ _ (p .1);
         source = ltb-true _ _ (v .0);
         target = ltb-true _ _ (v .1);
       }
@@ -57,13 +58,13 @@ module _ (n : ℕ) (cs : Columns) (m : ℕ) (q : Request) where
     module _ (k : ℕ) (e : (routeCall n cs m q out) .reply ≡ accepted k) where
       fine : ((faults ▷ none) ≡ accept) × (suc (length (preferred n cs m q)) ≡ k)
       unfolding routeCall
-      fine = reply-accepted (faults ▷ none) (suc (length (preferred n cs m q))) k e
+      fine = reply-accepted _ _ k e
 
       asked : Asked n es (q .property) (q .source) (q .target)
       asked = faults-asked _ _ ((then-accept faults none (fine .0)) .0)
 
       holds : Preferred P es (q .source) (q .target) (preferred n cs m q) × (length (preferred n cs m q) < n)
-      holds = followed-preferred n es (q .property) (q .source) (q .target) asked (eqb-false _ _ (if-accept _ _ _ ((then-accept faults none (fine .0)) .1)))
+      holds = preferred-holds n cs m q asked (eqb-false _ _ (if-accept _ _ _ ((then-accept faults none (fine .0)) .1)))
 
       left : (routeCall n cs m q out) .memory ≡ withRoute n cs m q out
       unfolding routeCall
@@ -78,7 +79,7 @@ module _ (n : ℕ) (cs : Columns) (m : ℕ) (q : Request) where
           vertices = ap (λ a. a .vertices) left;
           marks = (
             marksOf (q .property) (P .start) (preferred n cs m q),
-            marks-for (q .property) (asked .least) (P .start) (preferred n cs m q),
+            marks-for (q .property) (asked .least) (asked .most) (P .start) (preferred n cs m q),
             ap (λ a. a .marks) left,
           );
         },
