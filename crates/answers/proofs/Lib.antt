@@ -1,0 +1,6 @@
+pub mod Follow
+pub mod Marks
+pub mod Preferring
+pub mod Routing
+pub mod Deciding
+pub mod Behind

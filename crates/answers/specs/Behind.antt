@@ -8,7 +8,6 @@ use mathlib.Core.Path.{_≡_}
 use mathlib.Core.Logic.{_↔_}
 use mathlib.Core.List.{List}
 use Prim.Native.Nat.{ℕ, _<_}
-use lib.ListN.{length}
 use Rattle.property.specs.Property.{property}
 use Rattle.graph.specs.Refusal.{accept, accepted, refused, Outcome, over}
 use Rattle.graph.specs.Edge.{Edge}

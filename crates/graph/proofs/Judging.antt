@@ -5,7 +5,7 @@ use Rattle.graph.specs.declared.Judged.the-variants.{Fine, Refused}
 use Rattle.graph.specs.Limits.{maxVertices, maxEdges}
 use Rattle.graph.specs.Refusal.{Verdict, accept, _▷_, refuseIf}
 use Rattle.graph.specs.Edge.{edges}
-use Rattle.graph.specs.Table.{Columns, edgesOf, isEdge, follow, rules, size, shortTable, table}
+use Rattle.graph.specs.Table.{Columns, edgesOf, isEdge, follow, rules, size, shortTable, table, bareFaults}
 use Rattle.graph.specs.Sorted as order
 use Rattle.graph.specs.Code.{told, Room, columns, edgeAt, keeps}
 use Rattle.graph.proofs.Tests.{neither}
@@ -93,3 +93,21 @@ pub table-accept : (n : ℕ) (cs : Columns) (m : ℕ) → table n cs m ≡ accep
 table-accept n cs m h =
     let z = then-accept (refuseIf (ltb maxEdges m) 4 0) (rules n (edgesOf cs m)) h in
     (ltb-false maxEdges m (if-accept _ 4 0 (z .0)), z .1)
+
+-- of a call that takes a table and no landmarks
+pub record Bare (n : ℕ) (cs : Columns) (m : ℕ) (v : Verdict) : Type 0 where
+  pub some : 0 < n
+  pub few : n ≤ maxVertices
+  pub room : Room maxEdges (cs .tails) (cs .heads) (cs .weights)
+  pub own : v ≡ accept
+  pub count : m ≤ maxEdges
+  pub sound : rules n (edgesOf cs m) ≡ accept
+
+pub bare-accept : (n : ℕ) (cs : Columns) (m : ℕ) (v : Verdict) → bareFaults n cs m v ≡ accept → Bare n cs m v
+bare-accept n cs m v h =
+    let a = then-accept (size n) _ h in
+    let b = then-accept (shortTable cs) _ (a .1) in
+    let c = then-accept v (table n cs m) (b .1) in
+    let s = size-accept n (a .0) in
+    let t = table-accept n cs m (c .1) in
+    record { some = s .0; few = s .1; room = lengths-accept (cs .tails) (cs .heads) (cs .weights) (b .0); own = c .0; count = t .0; sound = t .1 }

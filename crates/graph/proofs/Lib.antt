@@ -6,6 +6,7 @@ pub mod Sorted
 pub mod Seek
 pub mod Gather
 pub mod Order
+pub mod Keeps
 pub mod Examples
 pub mod Flags
 pub mod Copies

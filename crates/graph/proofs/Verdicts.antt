@@ -1,5 +1,5 @@
 -- Laws of verdicts, replies and outcomes. Assumes nothing.
-use Rattle.property.proofs.Basics.{_≡_, refl, ap, Bool, true, false, false≢true, ℕ}
+use Rattle.property.proofs.Basics.{_≡_, refl, sym, ap, _∙_, Bool, true, false, false≢true, ℕ}
 use Rattle.graph.specs.Refusal.{Verdict, accept, refuse, _▷_, refuseIf, accepted, refused, replied, verdictOf, choose, outcome}
 
 isAccept : Verdict → Bool
@@ -62,6 +62,10 @@ pub reply-accepted : {A : Type 0} (v : Verdict) (a b : A) → replied v a ≡ ac
 unfolding replied verdictOf
 reply-accepted accept a b e = (refl, cc)
 reply-accepted (refuse k i) a b e = absurd (not-accept (ap verdictOf e))
+
+pub reply-refused : {A : Type 0} (v : Verdict) (a : A) {k i : ℕ} → replied v a ≡ refused k i → v ≡ refuse k i
+unfolding verdictOf
+reply-refused v a e = sym (verdict-replied v a) ∙ ap verdictOf e
 
 pub choose-accept : {A : Type 0} {v : Verdict} (new old : A) → v ≡ accept → choose v new old ≡ new
 unfolding choose

@@ -1,4 +1,5 @@
 pub mod Basics
 pub mod Tests
 pub mod Instances
+pub mod RouteLaws
 pub mod Drift

@@ -2,3 +2,4 @@ pub mod Starred
 pub mod Refusals
 pub mod Examples
 pub mod Retunes
+pub mod Routes

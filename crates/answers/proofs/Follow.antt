@@ -1,0 +1,151 @@
+-- Following the first edges that lead on gives, of the routes with the fewest edges, the lowest. Assumes nothing.
+--
+--   Foremost f es e      == of the edges of es that pass the test f, e stands first
+--   Headed ks t u k rs   == the list rs, which leads from u to t in k + 1 edges of ks, taken apart after its first edge
+--   heads ps             == the heads of the edges ps
+--   Least ks s t ps      == of the routes along the edges ks, ps is one with the fewest edges, and of those none is lower
+--   Lowest k u qs        == qs leads from u to t in k edges, and no such list of k edges is lower
+use Rattle.property.proofs.Basics.{_≡_, refl, sym, ap, _∙_, subst, _⊎_, inl, inr, ⊎-elim, Bool, true, false, _&&_, true≢false, some, List, [], _∷_, map, List·Memᴰ, List·Memᴰ·head, List·Memᴰ·tail, List·Memᴰ·cases-cons, List·Memᴰ·not-nil, ℕ, zero, suc, _≤_, _<_, ℕ-discrete, arith, length, eqb, eqb-true, eq-eqb, ne-eqb, le-ltb}
+use Rattle.property.specs.Property.{M, bfs}
+use Rattle.property.proofs.Tests.{by-test}
+use Rattle.graph.specs.Edge.{Edge, precedes}
+use Rattle.graph.specs.Table.{isEdge}
+use Rattle.graph.specs.Route.{Best}
+use Rattle.graph.specs.Trail.{Leads, stop, on, visited, lower}
+use Rattle.graph.proofs.Tests.{both, and-true}
+use Rattle.graph.proofs.Order.{table-ordered, Sound, Less, less-of}
+use Rattle.graph.proofs.Keeps.{leads-mem}
+use Rattle.run.specs.Run.{word}
+use Rattle.theory.proofs.Kept.{hops-least, hops-attained, hop-down}
+use Rattle.answers.specs.Routing.{firstOf, leadsOn, followed}
+
+-- ---- the first that passes a test
+
+abbrev Foremost : (Edge → Bool) → List Edge → Edge → Type 0
+Foremost f es e = List·Memᴰ e es × (f e ≡ true) × ((x : Edge) → List·Memᴰ x es → f x ≡ true → (x ≡ e) ⊎ (precedes e x ≡ true))
+
+firstOf-here : (f : Edge → Bool) (e : Edge) (es : List Edge) → f e ≡ true → firstOf f (e ∷ es) ≡ some e
+unfolding firstOf
+firstOf-here f e es z = rw z
+
+firstOf-past : (f : Edge → Bool) (e : Edge) (es : List Edge) → f e ≡ false → firstOf f (e ∷ es) ≡ firstOf f es
+unfolding firstOf
+firstOf-past f e es z = rw z
+
+firstOf-foremost : (f : Edge → Bool) (n : ℕ) (es : List Edge) → Sound n es → (x : Edge) → List·Memᴰ x es → f x ≡ true
+    → (e : Edge) × (firstOf f es ≡ some e) × Foremost f es e
+firstOf-foremost f n [] h x m q = absurd (List·Memᴰ·not-nil m)
+firstOf-foremost f n (o ∷ es) h x m q = by-test (f o)
+    (λ z. (
+      o,
+      firstOf-here f o es z,
+      (List·Memᴰ·head refl, z, λ y k g. ⊎-elim inl (λ j. inr (leads-mem table-ordered (isEdge n) o es (h .1) (h .2) y j)) (List·Memᴰ·cases-cons k)),
+    ))
+    (λ z.
+        let other : (y : Edge) → List·Memᴰ y (o ∷ es) → f y ≡ true → List·Memᴰ y es = λ y k g.
+        ⊎-elim (λ p. absurd (true≢false (sym g ∙ ap f p ∙ z))) (λ j. j) (List·Memᴰ·cases-cons k) in
+        let (e, y, (me, fe, low)) = firstOf-foremost f n es (h .2) x (other x m q) q in
+        (e, firstOf-past f o es z ∙ y, (List·Memᴰ·tail me, fe, λ u j g. low u (other u j g) g)))
+
+-- ---- the first edge of a route
+
+abbrev Headed : List Edge → ℕ → ℕ → ℕ → List Edge → Type 0
+Headed ks t u k rs = (e : Edge) × (ps : List Edge) × (rs ≡ e ∷ ps) × (e .tail ≡ u) × List·Memᴰ e ks × Leads ks (e .head) ps t × (length ps ≡ k)
+
+headed : {ks : List Edge} {t u k : ℕ} {rs : List Edge} → Leads ks u rs t → length rs ≡ suc k → Headed ks t u k rs
+headed stop z = absurd (omega arith)
+headed (on {e = e} {ps = ps} m l) z = (e, ps, refl, refl, m, l, omega arith)
+
+ended : {ks : List Edge} {t u : ℕ} {rs : List Edge} → Leads ks u rs t → length rs ≡ 0 → u ≡ t
+ended stop z = refl
+ended (on m l) z = absurd (omega arith)
+
+-- ---- lower lists
+
+lower-nil : (us : List ℕ) → lower us [] ≡ false
+unfolding lower
+lower-nil [] = refl
+lower-nil (u ∷ us) = refl
+
+lower-cons : (u v : ℕ) (us vs : List ℕ) → v ≤ u → (u ≡ v → lower us vs ≡ false) → lower (u ∷ us) (v ∷ vs) ≡ false
+unfolding lower
+lower-cons u v us vs h k = rw (le-ltb u v h) (pick (ℕ-discrete u v))
+  where
+    pick : Dec (u ≡ v) → (eqb u v && lower us vs) ≡ false
+    pick (yes p) = rw (eq-eqb u v p) (k p)
+    pick (no d) = rw (ne-eqb u v d)
+
+-- ---- the route that is followed
+
+abbrev pub Least : List Edge → ℕ → ℕ → List Edge → Type 0
+Least ks s t ps = Leads ks s ps t
+    × ((qs : List Edge) → Leads ks s qs t → (length ps ≤ length qs) × (length qs ≡ length ps → lower (visited s qs) (visited s ps) ≡ false))
+
+module _ (n : ℕ) (ks : List Edge) (sound : Sound n ks) (t : ℕ) (hs : List ℕ) (best : (u : ℕ) → Best bfs ks u t (word bfs hs u)) where
+  abbrev heads : List Edge → List ℕ
+  heads ps = map (λ e. e .head) ps
+
+  abbrev Lowest : ℕ → ℕ → List Edge → Type 0
+  Lowest k u qs = Leads ks u qs t × (length qs ≡ k) × ((rs : List Edge) → Leads ks u rs t → length rs ≡ k → lower (heads rs) (heads qs) ≡ false)
+
+  followed-on : (k u : ℕ) (e : Edge) → firstOf (leadsOn hs k u) ks ≡ some e → followed ks hs (suc k) u ≡ e ∷ followed ks hs k (e .head)
+  unfolding followed
+  followed-on k u e z = rw (z, followed)
+
+  -- the first edge of a route with the fewest edges passes the test
+  goes : (k u : ℕ) (e : Edge) (ps : List Edge) → k < M → word bfs hs u ≡ suc k → e .tail ≡ u → List·Memᴰ e ks → Leads ks (e .head) ps t → length ps ≡ k
+      → leadsOn hs k u e ≡ true
+  goes k u e ps h q p m l z =
+      and-true (eq-eqb (e .tail) u p) (eq-eqb (word bfs hs (e .head)) k (hop-down ks t hs best k h m l z (ap (word bfs hs) p ∙ q)))
+
+  -- of the edges that pass the test the first has the lowest head, since all have one tail
+  lowest-head : (k u : ℕ) (e x : Edge) → leadsOn hs k u e ≡ true → leadsOn hs k u x ≡ true → (x ≡ e) ⊎ (precedes e x ≡ true) → e .head ≤ x .head
+  lowest-head k u e x a b (inl p) = let z = ap (λ y. y .head) p in omega arith
+  lowest-head k u e x a b (inr c) = pick (less-of e x c)
+    where
+      p : e .tail ≡ u
+      p = eqb-true _ _ ((both (eqb (e .tail) u) (eqb (word bfs hs (e .head)) k) a) .0)
+
+      q : x .tail ≡ u
+      q = eqb-true _ _ ((both (eqb (x .tail) u) (eqb (word bfs hs (x .head)) k) b) .0)
+
+      pick : Less e x → e .head ≤ x .head
+      pick (inl l) = absurd (omega (arith, p, q))
+      pick (inr l) = let z = l .1 in omega arith
+
+  -- By induction on the edges still to go. With none, the route ends here. With k + 1, some route of k + 1 edges leads on; its first edge
+  -- comes to a vertex with k to go, so there is a first edge e of the table that does. Any other such route starts with an edge that does
+  -- so too, so its head is no lower than e's; and where the two heads are one, the rest is no lower by induction.
+  followed-lowest : (k u : ℕ) → k < M → word bfs hs u ≡ k → Lowest k u (followed ks hs k u)
+  unfolding followed
+  followed-lowest zero u h q =
+      let (rs, l, z) = hops-attained ks t hs best u (omega arith) in
+      (subst (λ x. Leads ks u [] x) (ended l (z ∙ q)) stop, refl, λ qs k y. lower-nil (heads qs))
+  followed-lowest (suc k) u h q =
+      let (rs, l, z) = hops-attained ks t hs best u (omega arith) in
+      let (o, os, y, po, mo, lo, zo) = headed l (z ∙ q) in
+      let (e, f, (me, fe, low)) = firstOf-foremost (leadsOn hs k u) n ks sound o mo (goes k u o os (omega arith) q po mo lo zo) in
+      let c = both (eqb (e .tail) u) (eqb (word bfs hs (e .head)) k) fe in
+      let (ls, lz, ll) = followed-lowest k (e .head) (omega arith) (eqb-true (word bfs hs (e .head)) k (c .1)) in
+      subst (Lowest (suc k) u) (sym (followed-on k u e f)) (
+        subst (λ x. Leads ks x (e ∷ followed ks hs k (e .head)) t) (eqb-true (e .tail) u (c .0)) (on me ls),
+        ap suc lz,
+        λ xs lx zx. let (x, ps, w, px, mx, rx, nx) = headed lx zx in
+            subst (λ js. lower (heads js) (heads (e ∷ followed ks hs k (e .head))) ≡ false) (sym w)
+            (lower-cons (x .head) (e .head) (heads ps) (heads (followed ks hs k (e .head)))
+            (lowest-head k u e x fe (goes k u x ps (omega arith) q px mx rx nx) (low x mx (goes k u x ps (omega arith) q px mx rx nx)))
+            (λ p. ll ps (subst (λ j. Leads ks j ps t) p rx) nx)),
+      )
+
+  pub followed-least : (s : ℕ) → word bfs hs s < M → Least ks s t (followed ks hs (word bfs hs s) s) × (length (followed ks hs (word bfs hs s) s) ≡ word bfs hs s)
+  followed-least s h =
+      let (ls, lz, ll) = followed-lowest (word bfs hs s) s h refl in (
+        (
+          ls,
+          λ qs l. (
+            (let z = hops-least ks t hs best l in omega arith),
+            λ z. lower-cons s s (heads qs) (heads (followed ks hs (word bfs hs s) s)) (omega arith) (λ _. ll qs l (z ∙ lz)),
+          ),
+        ),
+        lz,
+      )

@@ -1,0 +1,123 @@
+-- The route that is written is the preferred one, and 15 comes exactly where there is none: the claim, proved. Assumes nothing.
+use Rattle.property.proofs.Basics.{_≡_, sym, ap, _∙_, _↔_, Bool, true, not, _&&_, List, ℕ, suc, _≤_, _<_, arith, length, eqb, ltb, leb, eqb-true, eqb-false, eq-eqb, ltb-true, leb-true, not-false}
+use Rattle.property.specs.Property.{Property, property, properties, isProperty}
+use Rattle.property.proofs.Tests.{is-true}
+use Rattle.graph.specs.Refusal.{Verdict, accept, refuse, _▷_, refuseIf, accepted, refused, replied}
+use Rattle.graph.specs.Edge.{Edge}
+use Rattle.graph.specs.Table.{Columns, edgesOf, bareFaults}
+use Rattle.graph.specs.Trail.{Leads, Preferred}
+use Rattle.graph.proofs.Tests.{both}
+use Rattle.graph.proofs.Verdicts.{not-accept, then-accept, accept-then, accept-if, refuse-then, if-accept, reply-accepted, reply-refused, choose-accept, outcome-refused}
+use Rattle.graph.proofs.Judging.{bare-accept}
+use Rattle.graph.proofs.Order.{rules-accept}
+use Rattle.theory.proofs.Trail.{preferred-unique}
+use Rattle.network.specs.Query.{shortWords}
+use Rattle.answers.specs.Routing.{Request, Answer, preferred, marksOf, routeFaults, noRoute, withRoute, routeCall, WritesRoute, otherFaults, bestWord, RoutesPreferred}
+use Rattle.answers.proofs.Marks.{marks-for}
+use Rattle.answers.proofs.Preferring.{Asked, preferred-holds, unrouted}
+
+-- a last refusal comes exactly where its test holds
+if-refused : (b : Bool) (k i : ℕ) → (refuseIf b k i ≡ refuse k i) ↔ (b ≡ true)
+unfolding refuseIf
+if-refused b k i = (λ h. is-true b (λ q. not-accept (sym h ∙ accept-if k i q)), λ q. rw q)
+
+module _ (n : ℕ) (cs : Columns) (m : ℕ) (q : Request) where
+  abbrev P : Property
+  P = property (q .property)
+
+  abbrev es : List Edge
+  es = edgesOf cs m
+
+  -- what the refusals leave
+  pub faults-asked : (a b : ℕ) → routeFaults n cs m q a b ≡ accept → Asked n es (q .property) (q .source) (q .target)
+  unfolding routeFaults
+  faults-asked a b h =
+      let c = then-accept (bareFaults n cs m (shortWords n a b)) _ h in
+      let d = then-accept (refuseIf (not (isProperty (q .property))) 5 0) (refuseIf (not (ltb (q .source) n && ltb (q .target) n)) 6 0) (c .1) in
+      let t = bare-accept n cs m (shortWords n a b) (c .0) in
+      let p = both (ltb 0 (q .property)) (leb (q .property) properties) (not-false _ (if-accept _ _ _ (d .0))) in
+      let v = both (ltb (q .source) n) (ltb (q .target) n) (not-false _ (if-accept _ _ _ (d .1))) in
+      record {
+        few = t .few;
+        sound = rules-accept n es (t .sound);
+        least = ltb-true _ _ (p .0);
+        most = leb-true _ _ (p .1);
+        source = ltb-true _ _ (v .0);
+        target = ltb-true _ _ (v .1);
+      }
+
+  module _ (out : Answer) where
+    abbrev faults : Verdict
+    faults = otherFaults n cs m q out
+
+    abbrev none : Verdict
+    none = noRoute n cs m q
+
+    -- ---- accepted
+
+    module _ (k : ℕ) (e : (routeCall n cs m q out) .reply ≡ accepted k) where
+      fine : ((faults ▷ none) ≡ accept) × (suc (length (preferred n cs m q)) ≡ k)
+      unfolding routeCall
+      fine = reply-accepted _ _ k e
+
+      asked : Asked n es (q .property) (q .source) (q .target)
+      asked = faults-asked _ _ ((then-accept faults none (fine .0)) .0)
+
+      holds : Preferred P es (q .source) (q .target) (preferred n cs m q) × (length (preferred n cs m q) < n)
+      holds = preferred-holds n cs m q asked (eqb-false _ _ (if-accept _ _ _ ((then-accept faults none (fine .0)) .1)))
+
+      left : (routeCall n cs m q out) .memory ≡ withRoute n cs m q out
+      unfolding routeCall
+      left = choose-accept (withRoute n cs m q out) out (fine .0)
+
+      written : (ps : List Edge) × WritesRoute (q .property) es (q .source) (q .target) out ((routeCall n cs m q out) .memory) k ps
+      written = (
+        preferred n cs m q,
+        record {
+          route = holds .0;
+          count = sym (fine .1);
+          vertices = ap (λ a. a .vertices) left;
+          marks = (
+            marksOf (q .property) (P .start) (preferred n cs m q),
+            marks-for (q .property) (asked .least) (asked .most) (P .start) (preferred n cs m q),
+            ap (λ a. a .marks) left,
+          );
+        },
+      )
+
+      fits : k ≤ n
+      fits = let a = fine .1 in let b = holds .1 in omega arith
+
+    -- ---- refused
+
+    -- where the other numbers let pass, the reply is 15 where the best value is the no-route word, and that is where there is no route
+    barred : faults ≡ accept → ((routeCall n cs m q out) .reply ≡ refused 15 0) ↔ ((ps : List Edge) → Leads es (q .source) ps (q .target) → ⊥)
+    unfolding routeCall replied
+    barred h =
+        let u = unrouted n es (q .property) (q .source) (q .target) (faults-asked _ _ h) in
+        let c = if-refused (eqb (bestWord n cs m q) (P .none)) 15 0 in (
+          λ e. u .0 (eqb-true _ _ (c .0 (sym (accept-then h) ∙ reply-refused (faults ▷ none) (suc (length (preferred n cs m q))) e))),
+          λ d. ap (λ v. replied v (suc (length (preferred n cs m q)))) (accept-then h ∙ c .1 (eq-eqb _ _ (u .1 d))),
+        )
+
+    judged : (k i : ℕ) → faults ≡ refuse k i → (routeCall n cs m q out) .reply ≡ refused k i
+    unfolding routeCall
+    judged k i h = ap (λ o. o .reply) (outcome-refused (faults ▷ none) (suc (length (preferred n cs m q))) (withRoute n cs m q out) out (refuse-then faults none h))
+
+    stays : (k i : ℕ) → (routeCall n cs m q out) .reply ≡ refused k i → (routeCall n cs m q out) .memory ≡ out
+    unfolding routeCall
+    stays k i e = ap (λ o. o .memory) (outcome-refused (faults ▷ none) (suc (length (preferred n cs m q))) (withRoute n cs m q out) out
+        (reply-refused (faults ▷ none) (suc (length (preferred n cs m q))) e))
+
+-- Document 02, Two: what is accepted is a best route, with the fewest edges and then the lowest vertices; 15 comes exactly where there is none. The
+-- refusals leave a sound table and a request that can be asked. There what is followed along the eligible edges is the preferred route, and
+-- the best value is the no-route word exactly where there is no route.
+pub routes-preferred : RoutesPreferred
+routes-preferred n cs m q out = record {
+  written = written n cs m q out;
+  fits = fits n cs m q out;
+  only = λ ps qs a b. preferred-unique a b;
+  barred = barred n cs m q out;
+  judged = judged n cs m q out;
+  stays = stays n cs m q out;
+}

@@ -1,0 +1,120 @@
+-- Small route calls, computed: document 02, Two, on deck A of document 01 and on decks that tell best routes from others. Each line says which
+-- sentence it shows and which nearby reading it shuts out; the numbers are worked out by hand. Assumes nothing.
+--
+--   asked n es p s t         == the call on n vertices and the edges es; both lists have n words, 77 and 99 before it
+--   found k vs ms            == it is accepted with k: the vertices are vs, with what stays after them, and the marks ms likewise
+--   turned k i a b           == it is turned back with number k at i, and nothing is written: the lists have a and b words
+--   tried n cs m p s t a b   == the call on a table of lists cs and count m, with lists of a and b words for the answer
+--   lessA                    == deck A without 0→1
+--   deckP                    == the headroom of 0→3 is 5, by 0→1; tight edges alone would lead round by 2
+--   deckQ                    == the worst stretch of 0→3 is 5, by 1→3; tight edges alone would lead round by 2
+--   deckF                    == 0→2 takes as long at once as by 1
+--   deckL                    == the two ways of 0→5 differ first at 1 and 2, and then at 4 and 3
+--   words k                  == a list of k words for a table, all 0
+use Rattle.property.proofs.Basics.{_≡_, refl, List, [], _∷_, map, ℕ, length, replicate}
+use Rattle.property.specs.Property.{property}
+use Rattle.frontier.specs.Waiting.{anyOf}
+use Rattle.graph.specs.Refusal.{_▷_, refuseIf, accepted, refused, replied, choose, Outcome}
+use Rattle.graph.specs.Edge.{Edge, edge, keepIf, keep, zip, edges, range}
+use Rattle.graph.specs.Table.{Columns}
+use Rattle.graph.specs.Code.{columns}
+use Rattle.graph.specs.Sorted as order
+use Rattle.run.specs.Run.{storeIf, relax, clear, handle, visitIf, visit, round, settle}
+use Rattle.run.specs.Start.{opened}
+use Rattle.network.specs.Caller.{holding}
+use Rattle.answers.specs.Routing.{Answer, firstOf, followed, marksOf, routeFaults, routeCall}
+use Rattle.worked.specs.Starred.{graphA}
+
+abbrev blank : ℕ → ℕ → Answer
+blank a b = record { vertices = replicate a 77; marks = replicate b 99 }
+
+abbrev tried : ℕ → Columns → ℕ → ℕ → ℕ → ℕ → ℕ → ℕ → Outcome ℕ Answer
+tried n cs m p s t a b = routeCall n cs m (record { property = p; source = s; target = t }) (blank a b)
+
+abbrev asked : ℕ → List Edge → ℕ → ℕ → ℕ → Outcome ℕ Answer
+asked n es p s t = tried n ((holding es [] 0) .memory .table) (length es) p s t n n
+
+abbrev found : ℕ → List ℕ → List ℕ → Outcome ℕ Answer
+found k vs ms = record { reply = accepted k; memory = record { vertices = vs; marks = ms } }
+
+abbrev turned : ℕ → ℕ → ℕ → ℕ → Outcome ℕ Answer
+turned k i a b = record { reply = refused k i; memory = blank a b }
+
+abbrev lessA : List Edge
+lessA = edge 0 3 9 ∷ edge 1 2 4 ∷ edge 2 1 4 ∷ edge 3 2 2 ∷ []
+
+abbrev deckP : List Edge
+deckP = edge 0 1 5 ∷ edge 0 2 9 ∷ edge 1 3 5 ∷ edge 2 1 9 ∷ []
+
+abbrev deckQ : List Edge
+deckQ = edge 0 1 5 ∷ edge 0 2 1 ∷ edge 1 3 5 ∷ edge 2 1 1 ∷ []
+
+abbrev deckF : List Edge
+deckF = edge 0 1 3 ∷ edge 0 2 7 ∷ edge 1 2 4 ∷ []
+
+abbrev deckL : List Edge
+deckL = edge 0 1 1 ∷ edge 0 2 1 ∷ edge 1 4 1 ∷ edge 2 3 1 ∷ edge 3 5 1 ∷ edge 4 5 1 ∷ []
+
+abbrev words : ℕ → List ℕ
+words k = replicate k 0
+
+-- ---- routes
+
+-- deck A from 0 to 2, for each property: one route, whose marks differ. By 1 it takes 8, by 3 it takes 11; handovers and reach are the same by
+-- both, and 1 is lower than 3
+routes-A : map (λ p. asked 4 graphA p 0 2) (1 ∷ 2 ∷ 3 ∷ 4 ∷ 5 ∷ [])
+    ≡ found 3 (0 ∷ 1 ∷ 2 ∷ 77 ∷ []) (1 ∷ 1 ∷ 99 ∷ 99 ∷ [])
+    ∷ found 3 (0 ∷ 1 ∷ 2 ∷ 77 ∷ []) (1 ∷ 1 ∷ 99 ∷ 99 ∷ [])
+    ∷ found 3 (0 ∷ 1 ∷ 2 ∷ 77 ∷ []) (1 ∷ 0 ∷ 99 ∷ 99 ∷ [])
+    ∷ found 3 (0 ∷ 1 ∷ 2 ∷ 77 ∷ []) (1 ∷ 0 ∷ 99 ∷ 99 ∷ [])
+    ∷ found 3 (0 ∷ 1 ∷ 2 ∷ 77 ∷ []) (0 ∷ 0 ∷ 99 ∷ 99 ∷ [])
+    ∷ []
+unfolding property anyOf _▷_ refuseIf replied choose keepIf keep zip edges range order.follow order.rules storeIf relax clear handle visitIf visit round settle opened firstOf followed marksOf routeFaults routeCall
+routes-A = refl
+
+-- without 0→1 the way to 1 is the long one, over all vertices: the lists are just long enough. Headroom goes 9, 2, 2 and worst stretch 9, 9, 9
+routes-less : map (λ p. asked 4 lessA p 0 1) (1 ∷ 2 ∷ 3 ∷ 4 ∷ 5 ∷ [])
+    ≡ found 4 (0 ∷ 3 ∷ 2 ∷ 1 ∷ []) (1 ∷ 1 ∷ 1 ∷ 99 ∷ [])
+    ∷ found 4 (0 ∷ 3 ∷ 2 ∷ 1 ∷ []) (1 ∷ 1 ∷ 1 ∷ 99 ∷ [])
+    ∷ found 4 (0 ∷ 3 ∷ 2 ∷ 1 ∷ []) (1 ∷ 1 ∷ 0 ∷ 99 ∷ [])
+    ∷ found 4 (0 ∷ 3 ∷ 2 ∷ 1 ∷ []) (1 ∷ 0 ∷ 0 ∷ 99 ∷ [])
+    ∷ found 4 (0 ∷ 3 ∷ 2 ∷ 1 ∷ []) (0 ∷ 0 ∷ 0 ∷ 99 ∷ [])
+    ∷ []
+unfolding property anyOf _▷_ refuseIf replied choose keepIf keep zip edges range order.follow order.rules storeIf relax clear handle visitIf visit round settle opened firstOf followed marksOf routeFaults routeCall
+routes-less = refl
+
+-- Headroom on P and worst stretch on Q go by 1, along an edge that is not tight; time on Q goes round by 2, for 7 and not 10. The fewest edges come
+-- before the lowest vertex (F). The lowest vertex counts where two routes first differ, from the source on (L: from the target on, 3 is
+-- lower). "Source equal to target gives one station", in a ring too, and with no edge at all.
+routes-told :
+    asked 4 deckP 3 0 3 ∷ asked 4 deckQ 4 0 3 ∷ asked 4 deckQ 1 0 3 ∷ asked 3 deckF 1 0 2 ∷ asked 6 deckL 1 0 5
+    ∷ asked 4 graphA 1 1 1 ∷ asked 1 [] 3 0 0 ∷ []
+    ≡ found 3 (0 ∷ 1 ∷ 3 ∷ 77 ∷ []) (1 ∷ 0 ∷ 99 ∷ 99 ∷ [])
+    ∷ found 3 (0 ∷ 1 ∷ 3 ∷ 77 ∷ []) (1 ∷ 0 ∷ 99 ∷ 99 ∷ [])
+    ∷ found 4 (0 ∷ 2 ∷ 1 ∷ 3 ∷ []) (1 ∷ 1 ∷ 1 ∷ 99 ∷ [])
+    ∷ found 2 (0 ∷ 2 ∷ 77 ∷ []) (1 ∷ 99 ∷ 99 ∷ [])
+    ∷ found 4 (0 ∷ 1 ∷ 4 ∷ 5 ∷ 77 ∷ 77 ∷ []) (1 ∷ 1 ∷ 1 ∷ 99 ∷ 99 ∷ 99 ∷ [])
+    ∷ found 1 (1 ∷ 77 ∷ 77 ∷ 77 ∷ []) (99 ∷ 99 ∷ 99 ∷ 99 ∷ [])
+    ∷ found 1 (0 ∷ []) (99 ∷ [])
+    ∷ []
+unfolding property anyOf _▷_ refuseIf replied choose keepIf keep zip edges range order.follow order.rules storeIf relax clear handle visitIf visit round settle opened firstOf followed marksOf routeFaults routeCall
+routes-told = refl
+
+-- ---- refusals
+
+-- "The lowest number that applies is given": each line mends what the line before was refused for. n is 0, or over 256; a list of the table, of
+-- vertices, of marks is a word too short; the count is over 2,048; a pair stands twice, the second time at 1; the property is 0, or 6; the source is
+-- no vertex, and then the target; and from 3 there is no route to 0.
+routes-refused :
+    tried 0 (columns (words 0) (words 0) (words 0)) 2049 6 4 4 0 0
+    ∷ tried 257 (columns (words 0) (words 0) (words 0)) 2049 6 4 4 0 0
+    ∷ tried 4 (columns (words 2048) (words 2048) (words 2047)) 2049 6 4 4 4 4
+    ∷ tried 4 (columns (words 2048) (words 2048) (words 2048)) 2049 6 4 4 3 4
+    ∷ tried 4 (columns (words 2048) (words 2048) (words 2048)) 2049 6 4 4 4 3
+    ∷ tried 4 (columns (words 2048) (words 2048) (words 2048)) 2049 6 4 4 4 4
+    ∷ asked 4 (edge 0 1 4 ∷ edge 0 1 9 ∷ []) 6 4 4
+    ∷ asked 4 graphA 0 4 4 ∷ asked 4 graphA 6 4 4 ∷ asked 4 graphA 1 4 0 ∷ asked 4 graphA 1 3 4 ∷ asked 4 graphA 1 3 0 ∷ []
+    ≡ turned 1 0 0 0 ∷ turned 1 0 0 0 ∷ turned 2 0 4 4 ∷ turned 2 0 3 4 ∷ turned 2 0 4 3 ∷ turned 4 0 4 4 ∷ turned 4 1 4 4
+    ∷ turned 5 0 4 4 ∷ turned 5 0 4 4 ∷ turned 6 0 4 4 ∷ turned 6 0 4 4 ∷ turned 15 0 4 4 ∷ []
+unfolding property anyOf _▷_ refuseIf replied choose keepIf keep zip edges range order.follow order.rules storeIf relax clear handle visitIf visit round settle opened firstOf followed marksOf routeFaults routeCall
+routes-refused = refl
