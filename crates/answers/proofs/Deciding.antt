@@ -78,5 +78,8 @@ module _ (p : ℕ) (kind : (p ≡ 3) ⊎ (p ≡ 4)) where
       let f = sound-fit n es h e m in
       absurd (d (inr (kind, by-kind Begins least-begins most-begins p kind (e .weight) (f .some-weight) (f .weight-most))))
 
+-- The running value goes from edge to edge. An edge that sets it leaves its own weight, since the lesser or greater of two that is not the first is
+-- the second; one that passes it on leaves it as it is. So at the end it is the weight of the last edge that set it. The first edge of a route
+-- does: from M or 0 on, its weight of 1 to 65,535 moves the value.
 pub marks-decide : MarksDecide
 marks-decide p kind n es h s t ps ms l k z = (some-marked p kind n es (rules-accept n es h) s t ps ms l k z, decides p kind (property p .start) ps ms k)

@@ -5,7 +5,7 @@
 --   heads ps             == the heads of the edges ps
 --   Least ks s t ps      == of the routes along the edges ks, ps is one with the fewest edges, and of those none is lower
 --   Lowest k u qs        == qs leads from u to t in k edges, and no such list of k edges is lower
-use Rattle.property.proofs.Basics.{_≡_, refl, sym, ap, _∙_, subst, _⊎_, inl, inr, ⊎-elim, Bool, true, false, _&&_, true≢false, some, List, [], _∷_, map, List·Memᴰ, List·Memᴰ·head, List·Memᴰ·tail, List·Memᴰ·cases-cons, List·Memᴰ·not-nil, ℕ, zero, suc, _≤_, _<_, ℕ-discrete, arith, length, eqb, eqb-true, eq-eqb, ne-eqb, le-ltb}
+use Rattle.property.proofs.Basics.{_≡_, refl, sym, ap, _∙_, subst, _⊎_, inl, inr, ⊎-elim, Bool, true, false, _&&_, cond, true≢false, some, List, [], _∷_, map, List·Memᴰ, List·Memᴰ·head, List·Memᴰ·tail, List·Memᴰ·cases-cons, List·Memᴰ·not-nil, ℕ, zero, suc, _≤_, _<_, ℕ-discrete, arith, length, eqb, eqb-true, eq-eqb, ne-eqb, le-ltb}
 use Rattle.property.specs.Property.{M, bfs}
 use Rattle.property.proofs.Tests.{by-test}
 use Rattle.graph.specs.Edge.{Edge, precedes}
@@ -26,11 +26,11 @@ Foremost f es e = List·Memᴰ e es × (f e ≡ true) × ((x : Edge) → List·M
 
 firstOf-here : (f : Edge → Bool) (e : Edge) (es : List Edge) → f e ≡ true → firstOf f (e ∷ es) ≡ some e
 unfolding firstOf
-firstOf-here f e es z = rw z
+firstOf-here f e es z = ap (λ b. cond b (some e) (firstOf f es)) z
 
 firstOf-past : (f : Edge → Bool) (e : Edge) (es : List Edge) → f e ≡ false → firstOf f (e ∷ es) ≡ firstOf f es
 unfolding firstOf
-firstOf-past f e es z = rw z
+firstOf-past f e es z = ap (λ b. cond b (some e) (firstOf f es)) z
 
 firstOf-foremost : (f : Edge → Bool) (n : ℕ) (es : List Edge) → Sound n es → (x : Edge) → List·Memᴰ x es → f x ≡ true
     → (e : Edge) × (firstOf f es ≡ some e) × Foremost f es e
@@ -42,10 +42,10 @@ firstOf-foremost f n (o ∷ es) h x m q = by-test (f o)
       (List·Memᴰ·head refl, z, λ y k g. ⊎-elim inl (λ j. inr (leads-mem table-ordered (isEdge n) o es (h .1) (h .2) y j)) (List·Memᴰ·cases-cons k)),
     ))
     (λ z.
-        let other : (y : Edge) → List·Memᴰ y (o ∷ es) → f y ≡ true → List·Memᴰ y es = λ y k g.
-        ⊎-elim (λ p. absurd (true≢false (sym g ∙ ap f p ∙ z))) (λ j. j) (List·Memᴰ·cases-cons k) in
-        let (e, y, (me, fe, low)) = firstOf-foremost f n es (h .2) x (other x m q) q in
-        (e, firstOf-past f o es z ∙ y, (List·Memᴰ·tail me, fe, λ u j g. low u (other u j g) g)))
+    let other : (y : Edge) → List·Memᴰ y (o ∷ es) → f y ≡ true → List·Memᴰ y es = λ y k g.
+    ⊎-elim (λ p. absurd (true≢false (sym g ∙ ap f p ∙ z))) (λ j. j) (List·Memᴰ·cases-cons k) in
+    let (e, y, (me, fe, low)) = firstOf-foremost f n es (h .2) x (other x m q) q in
+    (e, firstOf-past f o es z ∙ y, (List·Memᴰ·tail me, fe, λ u j g. low u (other u j g) g)))
 
 -- ---- the first edge of a route
 

@@ -52,11 +52,6 @@ leads-best {P} {es} {s} {t} {ps} = (
 -- ---- values along edges
 
 module _ {P : Property} (L : Laws P) {es : List Edge} {n : ℕ} (inside : Within n es) where
-  pub along-fits : {u x t : ℕ} {ps : List Edge} → x ≤ M → Leads es u ps t → valueAlong P x ps ≤ M
-  unfolding valueAlong
-  along-fits h stop = h
-  along-fits h (on {e = e} m l) = along-fits (L .along-fits _ _ h (inside .weights e m)) l
-
   -- the rest of a route never betters a value ..
   pub along-after : {u x t : ℕ} {ps : List Edge} → x ≤ M → Leads es u ps t → P .better (valueAlong P x ps) x ≡ false
   unfolding valueAlong
