@@ -4,6 +4,8 @@
 --   answerOf xs ys        == two lists as those lent for the answer
 --   routing r             == the program's reply as document 02's
 --   routeOutcome r xs ys  == the program's reply r and the two lists at exit, as an outcome
+--   unfaulted n cs m q out == the outcome of a request that numbers 1 to 6 let pass
+--   Routable ..           == what such a request has: few vertices, a table that keeps the rules, a property, source and target, and lists with room
 --   isEligible p v x w y  == `eligible` of an edge of weight w whose ends have the best values x and y
 --   searchOf m qs vs      == the m vertices at the front of qs and the words vs, as a search
 --   Searching m qs vs     == a search under way: each vertex is found once, so those found and those not found are all of them, and qs has room for them
@@ -16,14 +18,16 @@ use mathlib.Core.List.{List, map}
 use Prim.Native.Nat.{ℕ, suc, _+_, _<_, _≤_}
 use lib.ListN.{length, getD, take}
 use lib.Dec.{eqb, leb}
-use Rattle.property.specs.Property.{property}
+use Rattle.property.specs.Property.{property, properties}
 use Rattle.graph.specs.Limits.{maxVertices}
 use Rattle.graph.specs.Arc.{arcWeights, arc}
-use Rattle.graph.specs.Refusal.{Reply, accepted, refused, Outcome}
+use Rattle.graph.specs.Refusal.{Reply, accepted, refused, Outcome, outcome}
 use Rattle.graph.specs.Edge.{Edge}
+use Rattle.graph.specs.Table.{Columns}
 use Rattle.graph.specs.Code.{equal}
 use Rattle.graph.specs.Trail.{visited}
-use Rattle.answers.specs.Routing.{Request, Answer}
+use Rattle.answers.specs.Routing.{Request, Answer, preferred, noRoute, withRoute}
+use Rattle.calls.specs.Code.{Tabled}
 use Rattle.routing.specs.declared.Routed.{Routed}
 use Rattle.routing.specs.declared.Routed.the-variants.{Vertices, Refused}
 use Rattle.routing.specs.Search.{unfound, Search}
@@ -40,6 +44,19 @@ routing (Refused k i) = refused k i
 
 abbrev pub routeOutcome : Routed → List ℕ → List ℕ → Outcome ℕ Answer
 routeOutcome r xs ys = record { reply = routing r; memory = answerOf xs ys }
+
+abbrev pub unfaulted : ℕ → Columns → ℕ → Request → Answer → Outcome ℕ Answer
+unfaulted n cs m q out = outcome (noRoute n cs m q) (suc (length (preferred n cs m q))) (withRoute n cs m q out) out
+
+pub record Routable (n m p s t : ℕ) (ts hs ws xs ys : List ℕ) : Type 0 where
+  pub few : n ≤ maxVertices
+  pub tabled : Tabled n m ts hs ws
+  pub least : 0 < p
+  pub most : p ≤ properties
+  pub source : s < n
+  pub target : t < n
+  pub vertices : n ≤ length xs
+  pub marks : n ≤ length ys
 
 -- ---- the search
 

@@ -3,12 +3,12 @@ pub mod search;
 pub mod write;
 
 use graph::Judged;
-use graph::pack;
 use graph::rules;
 ghost use mathlib.Core.Path.{_≡_};
+ghost use lib.ListN.{length};
 ghost use Rattle.graph.specs.Code.{told, columns};
 ghost use Rattle.answers.specs.Routing.{routeFaults, routeCall};
-ghost use Rattle.routing.specs.Code.{requesting, answerOf, routeOutcome};
+ghost use Rattle.routing.specs.Code.{requesting, answerOf, routeOutcome, unfaulted, Routable};
 
 // The reply to a request for a route: how many vertices it has.
 pub enum Routed {
@@ -43,6 +43,31 @@ fn judge_route(
     rules::refuse_if(!((source < n) & (target < n)), 6, 0)
 }
 
+// The route of a request that numbers 1 to 6 let pass: 15, or its vertices and marks are written. `via` is scratch.
+fn find_route(
+    n: usize,
+    tails: &[u32],
+    heads: &[u32],
+    weights: &[u32],
+    count: usize,
+    property: u32,
+    source: u32,
+    target: u32,
+    via: &mut [u32],
+    vertices: &mut [u32],
+    marks: &mut [u32],
+) -> Routed
+    requires { ⌜ Routable n count property source target (now tails) (now heads) (now weights) (now vertices) (now marks) × (length (now via) ≡ n) ⌝ }
+    ensures { λ r. ⌜ routeOutcome r (now (vertices .exit)) (now (marks .exit)) ≡ unfaulted n (columns (now (tails .entry)) (now (heads .entry)) (now (weights .entry))) count (requesting property source target) (answerOf (now (vertices .entry)) (now (marks .entry))) ⌝ }
+{
+    let s = source as usize;
+    let t = target as usize;
+    if !search::find(property, n, s, t, count, tails, heads, weights, via) {
+        return Routed::Refused(15, 0);
+    }
+    Routed::Vertices(write::write_route(property, source, target, via, vertices, marks))
+}
+
 // The route from source to target: refused, or its vertices and marks are written to their lists; words past them stay.
 pub fn route(
     n: u32,
@@ -75,19 +100,17 @@ pub fn route(
     }
     let size = n as usize;
     let mut via = [0u32; graph::VERTEX_WORDS];
-    let found = search::find(
-        property,
+    find_route(
         size,
-        source as usize,
-        target as usize,
-        count as usize,
         tails,
         heads,
         weights,
+        count as usize,
+        property,
+        source,
+        target,
         &mut via[..size],
-    );
-    if !found {
-        return Routed::Refused(15, 0);
-    }
-    Routed::Vertices(write::write_route(property, source, target, &via[..size], vertices, marks))
+        vertices,
+        marks,
+    )
 }

@@ -1,0 +1,157 @@
+-- What the search finds is the preferred route, and where it finds none there is none; and the outcomes of the call. Assumes nothing.
+use Rattle.property.proofs.Basics.{_≡_, refl, sym, ap, subst, _∙_, _⊎_, inl, inr, _≢_, Bool, true, false, true≢false, not, _||_, List, List·Memᴰ, ℕ, suc, ℕ-discrete, length, eqb, ltb, eqb-true, ltb-true, ltb-false, eq-eqb, ne-eqb}
+use Rattle.property.specs.Property.{Property, property}
+use Rattle.property.proofs.Tests.{by-test}
+use Rattle.graph.specs.declared.Judged.{Judged}
+use Rattle.graph.specs.declared.Judged.the-variants as judged
+use Rattle.graph.specs.Refusal.{Verdict, accept, _▷_, refuseIf, outcome, over}
+use Rattle.graph.specs.Edge.{Edge, keep, edges}
+use Rattle.graph.specs.Table.{Columns, edgesOf, bareFaults}
+use Rattle.graph.specs.Trail.{Leads, visited, Preferred}
+use Rattle.graph.specs.Code.{told, columns}
+use Rattle.graph.proofs.Tests.{neither, or-right}
+use Rattle.graph.proofs.Verdicts.{then-accept, refuse-then, accept-then, if-accept, accept-if, outcome-refused, outcome-accepted}
+use Rattle.graph.proofs.Judging.{bare-accept}
+use Rattle.graph.proofs.Edges.{keep-in, in-keep}
+use Rattle.graph.proofs.Order.{rules-accept}
+use Rattle.graph.proofs.Trails.{visited-edges}
+use Rattle.run.specs.Start.{valuesFrom}
+use Rattle.theory.proofs.Trail.{leads-map, preferred-unique}
+use Rattle.answers.specs.Routing.{Request, Answer, eligible, bestWords, bestWord, preferred, marksOf, routeFaults, noRoute, withRoute, routeCall}
+use Rattle.network.specs.Query.{shortWords}
+use Rattle.answers.proofs.Routing.{faults-asked}
+use Rattle.answers.proofs.Preferring.{Asked, fewest-preferred, least-preferred, eligible-leads, unrouted, preferred-holds}
+use Rattle.routing.specs.declared.Routed.{Routed}
+use Rattle.routing.specs.declared.Routed.the-variants.{Vertices, Refused}
+use Rattle.routing.specs.Search.{Search, isUnfound, passes, searched}
+use Rattle.routing.specs.Code.{requesting, routing, answerOf, routeOutcome, unfaulted, Routable, Trace}
+use Rattle.routing.proofs.Searching.{Found, search-finds, search-lacks}
+
+-- what a request has that numbers 1 to 6 let pass
+pub accept-routable : (n : ℕ) (ts hs ws : List ℕ) (m p s t : ℕ) (xs ys : List ℕ)
+    → routeFaults n (columns ts hs ws) m (requesting p s t) (length xs) (length ys) ≡ accept → Routable n m p s t ts hs ws xs ys
+unfolding routeFaults
+accept-routable n ts hs ws m p s t xs ys h =
+    let g = faults-asked n (columns ts hs ws) m (requesting p s t) (length xs) (length ys) h in
+    let b = bare-accept n (columns ts hs ws) m (shortWords n (length xs) (length ys)) ((then-accept (bareFaults n (columns ts hs ws) m (shortWords n (length xs) (length ys))) _ h) .0) in
+    let w = neither (ltb (length xs) n) (ltb (length ys) n) (if-accept _ _ _ (b .own)) in
+    record {
+      few = g .few;
+      tabled = record { few = b .count; room = b .room; rules = b .sound };
+      least = g .least;
+      most = g .most;
+      source = g .source;
+      target = g .target;
+      vertices = ltb-false _ _ (w .0);
+      marks = ltb-false _ _ (w .1);
+    }
+
+pub routable-asked : {n m p s t : ℕ} {ts hs ws xs ys : List ℕ} → Routable n m p s t ts hs ws xs ys → Asked n (edges ts hs ws m) p s t
+routable-asked {n} g = record {
+  few = g .few;
+  sound = rules-accept n _ (g .tabled .rules);
+  least = g .least;
+  most = g .most;
+  source = g .source;
+  target = g .target;
+}
+
+-- whether the target was found, by what the search told
+pub told-lacks : (r u : Bool) → r ≡ not u → not r ≡ true → u ≡ true
+told-lacks r true e h = refl
+told-lacks r false e h = absurd (true≢false (sym h ∙ ap not e))
+
+pub told-finds : (r u : Bool) → r ≡ not u → not r ≡ false → u ≡ false
+told-finds r true e h = absurd (true≢false (sym (ap not e) ∙ h))
+told-finds r false e h = refl
+
+module _ (n : ℕ) (cs : Columns) (m : ℕ) (q : Request) where
+  abbrev es : List Edge
+  es = edgesOf cs m
+
+  abbrev P : Property
+  P = property (q .property)
+
+  abbrev st : Search
+  st = searched (q .property) es n (q .source) (q .target)
+
+  abbrev isPassing : Edge → Bool
+  isPassing = passes (q .property) (bestWords n cs m q) (q .target)
+
+  abbrev isEligible : Edge → Bool
+  isEligible = eligible (q .property) (bestWords n cs m q) (bestWord n cs m q)
+
+  -- ---- the search and the preferred route
+
+  module _ (g : Asked n es (q .property) (q .source) (q .target)) where
+    -- an eligible edge is searched, so where there is a best route the search does not lack its target
+    pub lacks-route : isUnfound st (q .target) ≡ true → bestWord n cs m q ≡ P .none
+    lacks-route h = pick (ℕ-discrete (bestWord n cs m q) (P .none))
+      where
+        searches : (e : Edge) → List·Memᴰ e (keep isEligible es) → List·Memᴰ e (keep isPassing es)
+        searches e k =
+            let (a, b) = keep-in isEligible es e k in
+            in-keep isPassing a (or-right (eqb (q .property) 2) (or-right (ltb 4 (q .property)) b))
+
+        pick : Dec (bestWord n cs m q ≡ P .none) → bestWord n cs m q ≡ P .none
+        pick (yes z) = z
+        pick (no d) =
+            let (qs, l) = eligible-leads n es (q .property) (q .source) (q .target) g d in
+            absurd (search-lacks isPassing es n (q .source) (g .sound) (g .few) (g .source) (q .target) h qs (leads-map searches l))
+
+    module _ (h : isUnfound st (q .target) ≡ false) where
+      found : Found (keep isPassing es) (q .source) (q .target) (st .via)
+      found = search-finds isPassing es n (q .source) (g .sound) (g .few) (g .source) (q .target) (g .target) h
+
+      abbrev ps : List Edge
+      ps = found .0
+
+      -- it is a route of the table
+      leads : Leads es (q .source) ps (q .target)
+      leads = leads-map (λ e k. (keep-in isPassing es e k) .0) (found .1)
+
+      pub some-route : bestWord n cs m q ≢ P .none
+      some-route z = unrouted n es (q .property) (q .source) (q .target) g .0 z ps leads
+
+      -- For handovers and reach every edge is searched, and what comes first of all routes is preferred. For the others the eligible edges are
+      -- searched, and what comes first of their routes is.
+      is-preferred : Preferred P es (q .source) (q .target) ps
+      is-preferred = by-test (eqb (q .property) 2)
+          (λ z. fewest-preferred (q .property) (inl (eqb-true _ _ z)) (leads, λ qs l. found .3 qs (leads-map (λ e k. in-keep isPassing k (rw z)) l)))
+          (λ z. by-test (ltb 4 (q .property))
+          (λ y. fewest-preferred (q .property) (inr (ltb-true _ _ y)) (leads, λ qs l. found .3 qs (leads-map (λ e k. in-keep isPassing k (rw (z, y))) l)))
+          (λ y. least-preferred n es (q .property) (q .source) (q .target) g some-route (
+            leads-map (λ e k. let (a, b) = keep-in isPassing es e k in in-keep isEligible a (rw (z, y) at b)) (found .1),
+            λ qs l. found .3 qs (leads-map (λ e k. let (a, b) = keep-in isEligible es e k in in-keep isPassing a (rw (z, y) b)) l),
+          )))
+
+      -- there is one preferred route, and in a table its vertices determine its edges
+      pub found-preferred : Trace (q .source) (q .target) (st .via) (preferred n cs m q)
+      found-preferred =
+          let (p, k) = preferred-holds n cs m q g some-route in
+          subst (Trace (q .source) (q .target) (st .via)) (visited-edges n es (g .sound) leads (p .best .leads) (preferred-unique is-preferred p)) (found .2)
+
+  -- ---- the outcomes
+
+  module _ (xs ys : List ℕ) where
+    abbrev faults : Verdict
+    faults = routeFaults n cs m q (length xs) (length ys)
+
+    pub route-refused : {k i : ℕ} (a : Judged) → told a ≡ faults → a ≡ judged.Refused k i → routeOutcome (Refused k i) xs ys ≡ routeCall n cs m q (answerOf xs ys)
+    unfolding routeCall routing told
+    route-refused a e z = sym (outcome-refused (faults ▷ noRoute n cs m q) _ _ _ (refuse-then faults _ (sym e ∙ ap told z)))
+
+    pub route-unfaulted : faults ≡ accept → unfaulted n cs m q (answerOf xs ys) ≡ routeCall n cs m q (answerOf xs ys)
+    unfolding routeCall
+    route-unfaulted e = ap (λ v. outcome v (suc (length (preferred n cs m q))) (withRoute n cs m q (answerOf xs ys)) (answerOf xs ys)) (sym (accept-then e))
+
+    pub route-lacking : bestWord n cs m q ≡ P .none → routeOutcome (Refused 15 0) xs ys ≡ unfaulted n cs m q (answerOf xs ys)
+    unfolding routing refuseIf
+    route-lacking z = sym (outcome-refused (noRoute n cs m q) _ _ _ (rw (eq-eqb _ _ z)))
+
+    pub route-written : (r : ℕ) (us vs : List ℕ) → bestWord n cs m q ≢ P .none
+        → (r ≡ suc (length (preferred n cs m q))) × (us ≡ over (visited (q .source) (preferred n cs m q)) xs)
+        × (vs ≡ over (marksOf (q .property) (P .start) (preferred n cs m q)) ys)
+        → routeOutcome (Vertices r) us vs ≡ unfaulted n cs m q (answerOf xs ys)
+    unfolding routing
+    route-written r us vs d (a, b, c) = rw (a, b, c) (sym (outcome-accepted (noRoute n cs m q) _ _ _ (accept-if 15 0 (ne-eqb _ _ d))))
