@@ -54,9 +54,10 @@ pub const ABSENT: u32 = 11;
 pub const FULL: u32 = 12;
 pub const UNSETTLED: u32 = 13;
 pub const TEXT: u32 = 14;
+pub const NO_ROUTE: u32 = 15;
 
 /// The word of each refusal number; in parentheses document 01's, where it is another.
-pub const WORDS: [&str; 15] = [
+pub const WORDS: [&str; 16] = [
     "accepted",
     "size",
     "short",
@@ -72,6 +73,7 @@ pub const WORDS: [&str; 15] = [
     "full",
     "unsettled (restless)",
     "text",
+    "no route",
 ];
 
 // the words of each reply, by place in `reply`
@@ -93,6 +95,7 @@ pub const READ_VERTICES: usize = 0;
 pub const READ_COUNT: usize = 1;
 pub const WRITE_LENGTH: usize = 0;
 pub const READ_SOURCES_COUNT: usize = 0;
+pub const ROUTE_VERTICES: usize = 0;
 
 /// The word that stands where there is no route, for a property of 1 to 5.
 pub const fn no_route(property: u32) -> u32 {
@@ -185,6 +188,11 @@ unsafe extern "C" {
     ) -> u32;
     fn plate_track_read_sources(
         text: *const u8, text_len: usize, n: u32, sources: *mut u32, sources_len: usize, reply: *mut u64, reply_len: usize,
+    ) -> u32;
+    fn plate_track_route(
+        n: u32, tails: *const u32, tails_len: usize, heads: *const u32, heads_len: usize, weights: *const u32, weights_len: usize,
+        count: u32, property: u32, source: u32, target: u32, vertices: *mut u32, vertices_len: usize, marks: *mut u32,
+        marks_len: usize, reply: *mut u64, reply_len: usize,
     ) -> u32;
 }
 
@@ -309,6 +317,20 @@ pub fn read_sources(
     let number = unsafe {
         plate_track_read_sources(
             at(text), text.len(), n, at_mut(sources), sources.len(), at_mut(reply), reply.len(),
+        )
+    };
+    judged(number, reply)
+}
+
+/// Writes the route behind a value: its vertices from source to target, and for each edge 1 where it set the value and 0 where it passed it on.
+pub fn route(
+    n: u32, tails: &[u32], heads: &[u32], weights: &[u32], count: u32, property: u32, source: u32, target: u32, vertices: &mut [u32],
+    marks: &mut [u32], reply: &mut [u64],
+) -> Result<(), Refused> {
+    let number = unsafe {
+        plate_track_route(
+            n, at(tails), tails.len(), at(heads), heads.len(), at(weights), weights.len(), count, property, source, target,
+            at_mut(vertices), vertices.len(), at_mut(marks), marks.len(), at_mut(reply), reply.len(),
         )
     };
     judged(number, reply)

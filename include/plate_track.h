@@ -1,5 +1,5 @@
 /* Plate track: routes on a directed graph of up to 256 vertices and 2,048 weighted edges, landmark rows that are kept up to date
- * while edges come, go and change their weights in batches, and queries from any vertex.
+ * while edges come, go and change their weights in batches, queries from any vertex, and the route behind a value.
  *
  * Every plate_track_ function of the archive is proved to meet its contract (crates/plate_track). Nothing is allocated and nothing is kept
  * between calls: the caller lends all memory. PLATE_TRACK_STACK_ below has the stack of each call; none needs 128 KiB.
@@ -101,7 +101,7 @@ enum {
     PLATE_TRACK_LANDMARKS = 3,  /* none, over 4, no vertex, repeated; k not 1 to 4; a look-up's landmark is not in the list */
     PLATE_TRACK_TABLE = 4,      /* count over 2,048 (place 0), or a record breaks the rules (its index) */
     PLATE_TRACK_PROPERTY = 5,   /* not 1 to 5; a side neither 0 nor 1 */
-    PLATE_TRACK_VERTEX = 6,     /* a source (place 0), then an entry of a schedule (its index); a tail or head of a change: n or more */
+    PLATE_TRACK_VERTEX = 6,     /* a source or target (place 0), then an entry of a schedule (its index); a tail or head of a change: n or more */
     PLATE_TRACK_KIND = 7,       /* a change is none of insert, delete and update */
     PLATE_TRACK_LOOP = 8,       /* tail equals head */
     PLATE_TRACK_WEIGHT = 9,     /* insert, update: not 1 to 65,535; delete: not 0 */
@@ -109,8 +109,9 @@ enum {
     PLATE_TRACK_ABSENT = 11,    /* delete or update of a pair that is not there */
     PLATE_TRACK_FULL = 12,      /* insert when 2,048 records are there */
     PLATE_TRACK_UNSETTLED = 13, /* some vertex waits after n rounds */
-    PLATE_TRACK_TEXT = 14       /* a text breaks the rules; the place is the first line, from 1, with which no good text can go on, and the
+    PLATE_TRACK_TEXT = 14,      /* a text breaks the rules; the place is the first line, from 1, with which no good text can go on, and the
                                    number of complete lines + 1 where it ends too soon */
+    PLATE_TRACK_NO_ROUTE = 15   /* there is no route from source to target */
 };
 
 /* Kinds of change. */
@@ -126,6 +127,7 @@ enum { PLATE_TRACK_ROW_START };
 enum { PLATE_TRACK_READ_VERTICES, PLATE_TRACK_READ_COUNT };
 enum { PLATE_TRACK_WRITE_LENGTH };
 enum { PLATE_TRACK_READ_SOURCES_COUNT };
+enum { PLATE_TRACK_ROUTE_VERTICES };
 
 /* Bytes of stack that each call takes at most, at the greatest sizes; measured (tests/stack). Where the C library is bound lazily, the first call
  * that reaches one of its functions takes up to 4 KiB more, once, for the dynamic linker. */
@@ -138,7 +140,8 @@ enum {
     PLATE_TRACK_STACK_ROW = 1024,
     PLATE_TRACK_STACK_READ = 28 * 1024,
     PLATE_TRACK_STACK_WRITE = 1024,
-    PLATE_TRACK_STACK_READ_SOURCES = 2 * 1024
+    PLATE_TRACK_STACK_READ_SOURCES = 2 * 1024,
+    PLATE_TRACK_STACK_ROUTE = 16 * 1024
 };
 
 /* The word of a refusal number; in parentheses document 01's, where it is another. */
@@ -159,7 +162,8 @@ static inline const char *plate_track_word(uint32_t number)
         "absent",
         "full",
         "unsettled (restless)",
-        "text"
+        "text",
+        "no route"
     };
     return number < sizeof words / sizeof *words ? words[number] : "unknown";
 }
@@ -295,6 +299,25 @@ uint32_t plate_track_read_sources(
     const uint8_t *text, size_t text_len,
     uint32_t n,
     uint32_t *sources, size_t sources_len,
+    uint64_t *reply, size_t reply_len);
+
+/* Writes the route behind a value: of the routes from source to target with the best value of the property, one with the fewest edges, and of those
+ * the one with the lowest vertex at the first place where two differ. It needs no landmarks and no rows. `vertices` gets its vertices, the source
+ * first and the target last; `marks` gets for each edge of it 1 where the edge set the value and 0 where it passed it on: for time and handovers
+ * always 1, for reach always 0, for headroom and worst stretch 1 where the running value changes, so that the last edge marked has the value for its
+ * weight. Both lists have at least n words, and words past the route stay. Where source and target are one, the route is that vertex, without a mark.
+ * reply: how many vertices, 1 to n; there is a mark less. Numbers: 1, 2, 4, 5, 6 (source or target, place 0), 15. */
+uint32_t plate_track_route(
+    uint32_t n,
+    const uint32_t *tails, size_t tails_len,
+    const uint32_t *heads, size_t heads_len,
+    const uint32_t *weights, size_t weights_len,
+    uint32_t count,
+    uint32_t property,
+    uint32_t source,
+    uint32_t target,
+    uint32_t *vertices, size_t vertices_len,
+    uint32_t *marks, size_t marks_len,
     uint64_t *reply, size_t reply_len);
 
 #ifdef __cplusplus
