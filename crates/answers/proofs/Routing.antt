@@ -1,18 +1,19 @@
 -- The route that is written is the preferred one, and 15 comes exactly where there is none: the claim, proved. Assumes nothing.
-use Rattle.property.proofs.Basics.{_≡_, sym, ap, _∙_, _↔_, Bool, true, not, _&&_, List, ℕ, suc, _≤_, _<_, arith, length, eqb, ltb, leb, eqb-true, eqb-false, eq-eqb, ltb-true, leb-true, not-false}
+use Rattle.property.proofs.Basics.{_≡_, refl, sym, ap, _∙_, subst, _≢_, _↔_, Bool, true, not, _&&_, List, [], _∷_, ℕ, suc, _≤_, _<_, arith, length, eqb, ltb, leb, eqb-true, eqb-false, eq-eqb, ne-eqb, ltb-true, leb-true, not-false, not-suc-le-zero}
 use Rattle.property.specs.Property.{Property, property, properties, isProperty}
 use Rattle.property.proofs.Tests.{is-true}
-use Rattle.graph.specs.Refusal.{Verdict, accept, refuse, _▷_, refuseIf, accepted, refused, replied}
+use Rattle.property.proofs.Instances.{property-laws}
+use Rattle.graph.specs.Refusal.{Verdict, accept, refuse, _▷_, refuseIf, accepted, refused, replied, Outcome, over}
 use Rattle.graph.specs.Edge.{Edge}
 use Rattle.graph.specs.Table.{Columns, edgesOf, bareFaults}
-use Rattle.graph.specs.Trail.{Leads, Preferred}
+use Rattle.graph.specs.Trail.{Leads, stop, visited, valueAlong, BestLeads, Preferred}
 use Rattle.graph.proofs.Tests.{both}
-use Rattle.graph.proofs.Verdicts.{not-accept, then-accept, accept-then, accept-if, refuse-then, if-accept, reply-accepted, reply-refused, choose-accept, outcome-refused}
+use Rattle.graph.proofs.Verdicts.{not-accept, then-accept, accept-then, accept-if, refuse-then, if-accept, reply-accepted, reply-refused, choose-accept, outcome-refused, outcome-accepted}
 use Rattle.graph.proofs.Judging.{bare-accept}
-use Rattle.graph.proofs.Order.{rules-accept}
-use Rattle.theory.proofs.Trail.{preferred-unique}
+use Rattle.graph.proofs.Order.{within, rules-accept}
+use Rattle.theory.proofs.Trail.{along-after, preferred-unique}
 use Rattle.network.specs.Query.{shortWords}
-use Rattle.answers.specs.Routing.{Request, Answer, preferred, marksOf, routeFaults, noRoute, withRoute, routeCall, WritesRoute, otherFaults, bestWord, RoutesPreferred}
+use Rattle.answers.specs.Routing.{Request, Answer, preferred, marksOf, routeFaults, noRoute, withRoute, routeCall, WritesRoute, otherFaults, bestWord, RoutesPreferred, OneVertex}
 use Rattle.answers.proofs.Marks.{marks-for}
 use Rattle.answers.proofs.Preferring.{Asked, preferred-holds, unrouted}
 
@@ -121,3 +122,52 @@ routes-preferred n cs m q out = record {
   judged = judged n cs m q out;
   stays = stays n cs m q out;
 }
+
+-- ---- source and target are one
+
+no-edge : (ps : List Edge) → length ps ≤ 0 → ps ≡ []
+no-edge [] h = refl
+no-edge (e ∷ ps) h = absurd (not-suc-le-zero h)
+
+module _ (n : ℕ) (cs : Columns) (m : ℕ) (q : Request) (out : Answer) (h : otherFaults n cs m q out ≡ accept) (z : q .source ≡ q .target) where
+  able : Asked n (es n cs m q) (q .property) (q .source) (q .target)
+  able = faults-asked n cs m q _ _ h
+
+  -- the route without an edge
+  ends : Leads (es n cs m q) (q .source) [] (q .target)
+  ends = subst (λ t. Leads (es n cs m q) (q .source) [] t) z stop
+
+  routed : bestWord n cs m q ≢ P n cs m q .none
+  routed y = unrouted n (es n cs m q) (q .property) (q .source) (q .target) able .0 y [] ends
+
+  -- no route's value is better than the source's
+  at-once : BestLeads (P n cs m q) (es n cs m q) (q .source) (q .target) []
+  unfolding valueAlong
+  at-once = record {
+    leads = ends;
+    unbettered = λ qs l.
+        let L = property-laws (q .property) in along-after L (within n (es n cs m q) (able .sound)) (L .start-fits) l;
+  }
+
+  alone : preferred n cs m q ≡ []
+  alone = no-edge _ ((preferred-holds n cs m q able routed) .0 .fewest [] at-once)
+
+  -- the outcome that writes the edges ps
+  abbrev writing : List Edge → Outcome ℕ Answer
+  writing ps = record {
+    reply = accepted (suc (length ps));
+    memory = record {
+      vertices = over (visited (q .source) ps) (out .vertices);
+      marks = over (marksOf (q .property) (P n cs m q .start) ps) (out .marks);
+    };
+  }
+
+  stopped : routeCall n cs m q out ≡ record { reply = accepted 1; memory = record { vertices = over (q .source ∷ []) (out .vertices); marks = out .marks } }
+  unfolding routeCall marksOf
+  stopped =
+      outcome-accepted _ (suc (length (preferred n cs m q))) (withRoute n cs m q out) out (accept-then h ∙ accept-if 15 0 (ne-eqb _ _ routed))
+      ∙ ap writing alone
+
+-- The route without an edge has the source's value, which no route betters, and none has fewer edges: so what is preferred has no edge.
+pub one-vertex : OneVertex
+one-vertex n cs m q out h z = stopped n cs m q out h z

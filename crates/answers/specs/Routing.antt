@@ -23,6 +23,7 @@
 --   RouteHolds ..        == what is accepted is the preferred route, the only one, of at most n vertices; where the other numbers let pass, 15 comes
 --                           exactly where there is no route; and a refusal leaves both lists
 --   RoutesPreferred      == the claim: so it is for all that can be asked
+--   OneVertex            == the claim: where source and target are one, the route is that vertex, and nothing is marked
 use mathlib.Core.Path.{_≡_}
 use mathlib.Core.Logic.{_⊎_, _≢_, _↔_}
 use mathlib.Core.Bool.{Bool, not, _&&_, _||_, cond}
@@ -148,3 +149,8 @@ module _ (n : ℕ) (cs : Columns) (m : ℕ) (q : Request) (out : Answer) where
 
 abbrev pub RoutesPreferred : Type 0
 RoutesPreferred = (n : ℕ) (cs : Columns) (m : ℕ) (q : Request) (out : Answer) → RouteHolds n cs m q out
+
+-- "Source equal to target gives one station."
+abbrev pub OneVertex : Type 0
+OneVertex = (n : ℕ) (cs : Columns) (m : ℕ) (q : Request) (out : Answer) → otherFaults n cs m q out ≡ accept → q .source ≡ q .target
+    → routeCall n cs m q out ≡ record { reply = accepted 1; memory = record { vertices = over (q .source ∷ []) (out .vertices); marks = out .marks } }

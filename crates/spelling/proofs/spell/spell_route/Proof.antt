@@ -15,6 +15,7 @@ spell-route-spec =
     (λ c. search needs)
     (λ c. search needs)
     (λ c. search needs)
+    (λ c. search needs)
     (λ c. unfold routing in rw (c .before .r .given .1) (stored-tells oneWord _ (c .before .before .before .pre) _ (omega arith)))
     (λ c. search needs)
     (λ c. unfold routing in rw (c .before .r2 .given .1) (refused-tells oneWord _ (c .before .before .before .pre) _ _)))
