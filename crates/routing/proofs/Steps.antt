@@ -3,15 +3,16 @@
 -- A vertex is put at the end of the queue when it is found, and then its word is an arc's, which is never `unfound`. So the words that are
 -- `unfound` fall by one whenever the queue grows by one: together they stay as many as there are vertices. Where one more is found, some word was
 -- `unfound`, so the queue has room for it; and the entry that is expanded is always below the number of vertices, so that number of steps suffices.
-use Rattle.property.proofs.Basics.{_≡_, refl, sym, ap, ap₂, _∙_, _≢_, _⊎_, inl, inr, ⊎-elim, Bool, true, false, _&&_, List, [], _∷_, foldl, not, ℕ, zero, suc, _+_, _-_, _≤_, _<_, add-one, arith, length, getD, set, take, replicate, eqb, ltb, length-set, length-replicate, length-take-le, take-suc-set, getD-take, sub-zero, getD-set-same, lt-ltb, le-ltb, eq-eqb, ne-eqb, eqb-true, eqb-false, le-leb, lt-leb}
+use Rattle.property.proofs.Basics.{_≡_, refl, sym, ap, ap₂, _∙_, _≢_, _⊎_, inl, inr, ⊎-elim, Bool, true, false, _&&_, _||_, List, [], _∷_, foldl, not, ℕ, zero, suc, _+_, _-_, _≤_, _<_, add-one, arith, length, getD, set, take, replicate, eqb, ltb, length-set, length-replicate, length-take-le, take-suc-set, getD-take, sub-zero, getD-set-same, lt-ltb, le-ltb, eq-eqb, ne-eqb, eqb-true, eqb-false, le-leb, lt-leb}
 use Rattle.property.proofs.Tests.{by-test}
 use Rattle.property.specs.Property.{property}
+use Rattle.property.proofs.Instances.{property-rest}
 use Rattle.graph.specs.Limits.{maxVertices}
 use Rattle.graph.specs.Arc.{arc, arcHead, arcWeight}
 use Rattle.graph.specs.Edge.{Edge, edge, leaving}
 use Rattle.graph.specs.Code.{equal}
 use Rattle.graph.specs.Index.{own}
-use Rattle.graph.proofs.Tests.{and-true, and-false}
+use Rattle.graph.proofs.Tests.{and-true, and-false, neither}
 use Rattle.graph.proofs.Lists.{at-set, getD-within, replicate-at}
 use Rattle.graph.proofs.Counts.{equal-all, equal-set}
 use Rattle.run.specs.Start.{valuesFrom}
@@ -137,17 +138,27 @@ module _ (n s t : ℕ) (es : List Edge) (ws : List ℕ) where
   along-same : (f g : Edge → Bool) → ((e : Edge) → f e ≡ g e) → search f es t n 0 (begun n s) ≡ search g es t n 0 (begun n s)
   along-same f g h = ap (λ (x : Edge → Bool). search x es t n 0 (begun n s)) (λ i e. h e i)
 
+  -- a number above 2 that a `match` with arms for 1, 3 and 4 leaves over
+  pub search-rest : (p v : ℕ) → 0 < p → p ≢ 2 → ((Unit {0} × (p ≡ 1 → ⊥)) × (p ≡ 3 → ⊥)) × (p ≡ 4 → ⊥)
+      → search (eligible 5 ws v) es t n 0 (begun n s) ≡ search (eligible p ws v) es t n 0 (begun n s)
+  unfolding property
+  search-rest p v l d h =
+      let k = lt-leb p 2 (omega (arith, h .0 .0 .1)) in
+      let q = property-rest p (((h .0 .0, d), h .0 .1), h .1) in
+      along-same (eligible 5 ws v) (eligible p ws v) (λ e. rw (k, q))
+
   -- for time, headroom and worst stretch the eligible edges are searched
-  pub searched-best : (p k : ℕ) → p ≡ k → eqb k 2 ≡ false → ltb 4 k ≡ false → t < length ws → ws ≡ valuesFrom (property k) es n s
-      → search (eligible k ws (getD ws t 0)) es t n 0 (begun n s) ≡ searched p es n s t
-  searched-best p k q a b l e =
-      rw (q, ← e) (along-same (eligible k ws (getD ws t 0)) (passes k ws t) (λ x. rw (a, b, getD-within ws t (property k .none) 0 l)))
+  pub searched-best : (p : ℕ) → (eqb p 2 || ltb 4 p) ≡ false → t < length ws → ws ≡ valuesFrom (property p) es n s
+      → search (eligible p ws (getD ws t 0)) es t n 0 (begun n s) ≡ searched p es n s t
+  searched-best p a l e =
+      let (b, c) = neither (eqb p 2) (ltb 4 p) a in
+      rw (← e) (along-same (eligible p ws (getD ws t 0)) (passes p ws t) (λ x. rw (b, c, getD-within ws t (property p .none) 0 l)))
 
   -- for handovers and reach every edge is, as each is eligible for reach
-  pub searched-all : (p : ℕ) → 0 < p → ((Unit {0} × (p ≡ 1 → ⊥)) × (p ≡ 3 → ⊥)) × (p ≡ 4 → ⊥) → search (eligible 5 ws 1) es t n 0 (begun n s) ≡ searched p es n s t
+  pub searched-all : (p : ℕ) → (eqb p 2 || ltb 4 p) ≡ true → search (eligible 5 ws 1) es t n 0 (begun n s) ≡ searched p es n s t
   unfolding property
-  searched-all p l h = along-same (eligible 5 ws 1) (passes p (valuesFrom (property p) es n s) t)
-      (λ x. by-test (eqb p 2) (λ a. rw a) (λ a. let k = eqb-false p 2 a in let b = lt-ltb 4 p (omega (arith, h .0 .0 .1, h .0 .1, h .1)) in rw (a, b)))
+  searched-all p a = along-same (eligible 5 ws 1) (passes p (valuesFrom (property p) es n s) t)
+      (λ x. by-test (eqb p 2) (λ b. rw b) (λ b. let c : ltb 4 p ≡ true = rw b at a in rw (b, c)))
 
 -- what is told of a search is told of one that equals it
 pub told-of : (t : ℕ) (vs : List ℕ) (r : Bool) (a b : Search) → a ≡ b → (vs ≡ a .via) × (r ≡ not (isUnfound a t)) → (vs ≡ b .via) × (r ≡ not (isUnfound b t))

@@ -106,8 +106,31 @@ fn search(
     via[t] != UNFOUND
 }
 
-// The search by property. For handovers and reach every edge is searched, and no best values are asked for: fewer edges are all that counts.
+// The same, with the number of the property literal in each arm, so that its tests are made once and not at each edge.
 fn search_by(
+    p: u32,
+    v: u32,
+    s: usize,
+    t: usize,
+    index: &[u32],
+    row: &[u32],
+    queue: &mut [u32],
+    via: &mut [u32],
+) -> bool
+    requires { ⌜ (0 < p) × (p ≢ 2) × (s < length (now via)) × (t < length (now via)) × Fit (length (now via)) (now index) × (length (now row) ≡ length (now via)) × (length (now via) ≤ length (now queue)) ⌝ }
+    ensures { λ r. ⌜ ((es : List Edge) → Own (length (now (via .entry))) (now (index .entry)) es → (now (via .exit) ≡ (spec.search (eligible p (now (row .entry)) v) es t (length (now (via .entry))) 0 (begun (length (now (via .entry))) s)) .via) × (r ≡ not (isUnfound (spec.search (eligible p (now (row .entry)) v) es t (length (now (via .entry))) 0 (begun (length (now (via .entry))) s)) t))) ⌝ }
+{
+    match p {
+        1 => search(1, v, s, t, index, row, queue, via),
+        3 => search(3, v, s, t, index, row, queue, via),
+        4 => search(4, v, s, t, index, row, queue, via),
+        _ => search(5, v, s, t, index, row, queue, via),
+    }
+}
+
+// The search for a route of property `p`. For handovers and reach every edge is searched, and no best values are asked for: fewer edges are all
+// that counts.
+fn search_best(
     p: u32,
     s: usize,
     t: usize,
@@ -119,22 +142,11 @@ fn search_by(
     requires { ⌜ (0 < p) × (s < length (now via)) × (t < length (now via)) × Fit (length (now via)) (now index) × (length (now row) ≡ length (now via)) × (length (now via) ≤ length (now queue)) ⌝ }
     ensures { λ r. ⌜ ((es : List Edge) → Own (length (now (via .entry))) (now (index .entry)) es → (now (via .exit) ≡ (searched p es (length (now (via .entry))) s t) .via) × (r ≡ not (isUnfound (searched p es (length (now (via .entry))) s t) t))) ⌝ }
 {
-    let n = via.len();
-    match p {
-        1 => {
-            run::values_from(1, n, s, index, row);
-            search(1, row[t], s, t, index, row, queue, via)
-        }
-        3 => {
-            run::values_from(3, n, s, index, row);
-            search(3, row[t], s, t, index, row, queue, via)
-        }
-        4 => {
-            run::values_from(4, n, s, index, row);
-            search(4, row[t], s, t, index, row, queue, via)
-        }
-        _ => search(5, 1, s, t, index, row, queue, via),
+    if (p == 2) | (p > 4) {
+        return search_by(5, 1, s, t, index, row, queue, via);
     }
+    run::values_from(p, via.len(), s, index, row);
+    search_by(p, row[t], s, t, index, row, queue, via)
 }
 
 // The search in a table, with its scratch: whether `t` is found. `via` then leads back from it.
@@ -157,5 +169,5 @@ pub fn find(
     let mut queue = [0u32; graph::PLACE_WORDS];
     let mut row = [0u32; graph::VERTEX_WORDS];
     pack::index(n, count, tails, heads, weights, &mut queue, &mut index);
-    search_by(p, s, t, &index, &mut row[..n], &mut queue, via)
+    search_best(p, s, t, &index, &mut row[..n], &mut queue, via)
 }

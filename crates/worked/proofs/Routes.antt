@@ -6,10 +6,10 @@
 --   turned k i a b           == it is turned back with number k at i, and nothing is written: the lists have a and b words
 --   tried n cs m p s t a b   == the call on a table of lists cs and count m, with lists of a and b words for the answer
 --   lessA                    == deck A without 0→1
---   deckP                    == the headroom of 0→3 is 5, by 0→1; tight edges alone would lead round by 2
---   deckQ                    == the worst stretch of 0→3 is 5, by 1→3; tight edges alone would lead round by 2
---   deckF                    == 0→2 takes as long at once as by 1
---   deckL                    == the two ways of 0→5 differ first at 1 and 2, and then at 4 and 3
+--   graphP                   == the headroom of 0→3 is 5, by 0→1; tight edges alone would lead round by 2
+--   graphQ                   == the worst stretch of 0→3 is 5, by 1→3; tight edges alone would lead round by 2
+--   graphF                   == 0→2 takes as long at once as by 1
+--   graphL                   == the two ways of 0→5 differ first at 1 and 2, and then at 4 and 3
 --   words k                  == a list of k words for a table, all 0
 use Rattle.property.proofs.Basics.{_≡_, refl, List, [], _∷_, map, ℕ, length, replicate}
 use Rattle.property.specs.Property.{property}
@@ -43,17 +43,17 @@ turned k i a b = record { reply = refused k i; memory = blank a b }
 abbrev lessA : List Edge
 lessA = edge 0 3 9 ∷ edge 1 2 4 ∷ edge 2 1 4 ∷ edge 3 2 2 ∷ []
 
-abbrev deckP : List Edge
-deckP = edge 0 1 5 ∷ edge 0 2 9 ∷ edge 1 3 5 ∷ edge 2 1 9 ∷ []
+abbrev graphP : List Edge
+graphP = edge 0 1 5 ∷ edge 0 2 9 ∷ edge 1 3 5 ∷ edge 2 1 9 ∷ []
 
-abbrev deckQ : List Edge
-deckQ = edge 0 1 5 ∷ edge 0 2 1 ∷ edge 1 3 5 ∷ edge 2 1 1 ∷ []
+abbrev graphQ : List Edge
+graphQ = edge 0 1 5 ∷ edge 0 2 1 ∷ edge 1 3 5 ∷ edge 2 1 1 ∷ []
 
-abbrev deckF : List Edge
-deckF = edge 0 1 3 ∷ edge 0 2 7 ∷ edge 1 2 4 ∷ []
+abbrev graphF : List Edge
+graphF = edge 0 1 3 ∷ edge 0 2 7 ∷ edge 1 2 4 ∷ []
 
-abbrev deckL : List Edge
-deckL = edge 0 1 1 ∷ edge 0 2 1 ∷ edge 1 4 1 ∷ edge 2 3 1 ∷ edge 3 5 1 ∷ edge 4 5 1 ∷ []
+abbrev graphL : List Edge
+graphL = edge 0 1 1 ∷ edge 0 2 1 ∷ edge 1 4 1 ∷ edge 2 3 1 ∷ edge 3 5 1 ∷ edge 4 5 1 ∷ []
 
 abbrev words : ℕ → List ℕ
 words k = replicate k 0
@@ -87,7 +87,7 @@ routes-less = refl
 -- before the lowest vertex (F). The lowest vertex counts where two routes first differ, from the source on (L: from the target on, 3 is
 -- lower). "Source equal to target gives one station", in a ring too, and with no edge at all.
 routes-told :
-    asked 4 deckP 3 0 3 ∷ asked 4 deckQ 4 0 3 ∷ asked 4 deckQ 1 0 3 ∷ asked 3 deckF 1 0 2 ∷ asked 6 deckL 1 0 5
+    asked 4 graphP 3 0 3 ∷ asked 4 graphQ 4 0 3 ∷ asked 4 graphQ 1 0 3 ∷ asked 3 graphF 1 0 2 ∷ asked 6 graphL 1 0 5
     ∷ asked 4 graphA 1 1 1 ∷ asked 1 [] 3 0 0 ∷ []
     ≡ found 3 (0 ∷ 1 ∷ 3 ∷ 77 ∷ []) (1 ∷ 0 ∷ 99 ∷ 99 ∷ [])
     ∷ found 3 (0 ∷ 1 ∷ 3 ∷ 77 ∷ []) (1 ∷ 0 ∷ 99 ∷ 99 ∷ [])

@@ -20,8 +20,8 @@ index-requires c κs =
 size : (s : tie.Start) → length (take {A = ℕ} (s .args .n) (replicate maxVertices 0)) ≡ s .args .n
 size s = length-take-le {A = ℕ} (s .args .n) (replicate maxVertices 0) (s .pre .3)
 
-search-by-requires : tie.Need-search-by-requires
-search-by-requires c κs =
+search-best-requires : tie.Need-search-best-requires
+search-best-requires c κs =
     let i = c .before .before .before .before .before .before in
     let s = i .before .before .before .before .before .before .before in
     let z = s .pre .5 in (
@@ -42,7 +42,7 @@ returns c =
     let z = s .pre .5 in
     let es = edges (g .tails .now) (g .heads .now) (g .weights .now) (g .count) in
     told-of (g .t) _ _ _ _ (ap (λ (k : ℕ). searched (g .p) es k (g .s) (g .t)) z)
-    (x .search-by .ensures es (subst (λ (k : ℕ). Own k (i .index2 .last .1 .1 .1 .1 .1 .1 .0) es) (sym z) (i .index2 .ensures .own)))
+    (x .search-best .ensures es (subst (λ (k : ℕ). Own k (i .index2 .last .1 .1 .1 .1 .1 .1 .0) es) (sym z) (i .index2 .ensures .own)))
 
 pub find-spec : {M : Type 1} → statement M
 find-spec =
@@ -55,6 +55,6 @@ find-spec =
     (λ c. search needs)
     (λ c. sym (size (c .before .before .before .before .before .before .before .before .before .before .before)))
     (λ c. search needs)
-    search-by-requires
+    search-best-requires
     (λ c. search needs)
     returns)
