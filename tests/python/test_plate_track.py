@@ -409,28 +409,30 @@ class Graphs(unittest.TestCase):
                 self.assertEqual((set(now), now.edges), (set(graph), graph.edges))
                 self.assertEqual({e: now.edges[e]["weight"] for e in now.edges}, {e: graph.edges[e]["weight"] for e in graph.edges})
 
-    def test_routes_against_all_shortest_paths(self):
+    def test_routes_against_all_simple_paths(self):
         """Of all best routes the one with the fewest edges, then the lowest vertex at the first place where two differ: weights are few, so that
-        many routes are best."""
+        many routes are best. A route with the fewest edges goes through no vertex twice."""
+        costs = {  # of a route by its weights, less is better
+            TIME: sum, HANDOVERS: len, HEADROOM: lambda ws: -min(ws, default=M), WORST: lambda ws: max(ws, default=0), REACH: lambda ws: -1,
+        }  # fmt: skip
         draw = random.Random(15)
         for _ in range(6):
-            n = draw.randrange(8, 16)
+            n = draw.randrange(6, 10)
             graph = networkx.gnm_random_graph(n, 2 * n, seed=draw.randrange(10**6), directed=True)
             for u, v in graph.edges:
-                graph[u][v]["weight"] = draw.randrange(1, 4)
+                graph[u][v]["weight"] = draw.randrange(1, 5)
             deck, _ = plate_track.from_networkx(graph)
-            for prop, weight in ((TIME, "weight"), (HANDOVERS, None), (REACH, None)):
-                for source, target in itertools.product(graph, graph):
-                    try:
-                        paths = networkx.all_shortest_paths(graph, source, target, weight)
-                        wanted = min(paths, key=lambda path: (len(path), path))
-                    except networkx.NetworkXNoPath:
-                        wanted = "refused 15, no route, at 0"
-                    try:
-                        found = deck.route(prop, source, target).vertices
-                    except Refused as refused:
-                        found = str(refused)
-                    self.assertEqual(found, wanted)
+            for (source, target), (prop, cost) in itertools.product(itertools.product(graph, graph), costs.items()):
+                paths = [[source]] if source == target else list(networkx.all_simple_paths(graph, source, target))
+                routes = [(path, [graph[u][v]["weight"] for u, v in zip(path, path[1:])]) for path in paths]
+                if not routes:
+                    with self.assertRaises(Refused) as caught:
+                        deck.route(prop, source, target)
+                    self.assertEqual((caught.exception.number, caught.exception.place), (plate_track.NO_ROUTE, 0))
+                    continue
+                best, ws = min(routes, key=lambda route: (cost(route[1]), len(route[0]), route[0]))
+                marks = [int(prop in (TIME, HANDOVERS) or cost(ws[: i + 1]) != cost(ws[:i])) for i in range(len(ws))]
+                self.assertEqual(deck.route(prop, source, target), (best, list(zip(best, best[1:], ws)), marks))
 
     def test_forms(self):
         graph = networkx.DiGraph([("b", "a")])
