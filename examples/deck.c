@@ -1,10 +1,12 @@
-/* Deck A of document 01: read from text, opened, asked, changed, asked again, written as text. Build and run it by examples/run, which holds what it
- * prints to examples/deck.out. That follows from document 01 and from document 02, One, by hand, where it does not stand there:
+/* Deck A of document 01: read from text, opened, asked, changed, asked again, for routes too, written as text. Build and run it by examples/run, which
+ * holds what it prints to examples/deck.out. That follows from document 01 and from document 02, One and Two, by hand, where it does not stand there:
  *
  * From 0, the landmark, the start words are the forward row, best values: 0 is handled in one round, and nothing is bettered.
  * Delete 0->1: in each of the five forward rows 0->1 is tight, and so is 1->2, so 1 and 2 are affected: 10. No backward row has a route but 0's own.
  * Waiting are 1, 2 and 3, the tails of edges into 1 and 2. Round 1: 1 and 2 have no route, 3 betters 2. Round 2: 2 betters 1. Round 3: 1 does not
  * better 2. Two stores in each of the five rows: 10.
+ * Then the one route from 0 to 2 is over 3, 9 + 2: the 11 that was asked for. The one to 1 goes on by 2->1. For headroom 0->3 sets 9, 3->2
+ * sets 2 and 2->1 of 4 passes 2 on: whoever wants more headroom at 1 looks at the last edge marked, 3->2. No edge leads to 0.
  * Insert 0->1 4: 0 waits and betters 1 but for reach; 1 then betters 2, but for handovers (2 as before) and reach: time 2, handovers 1, headroom 2,
  * worst 2, reach 0 stores: 7.
  * Update 0->1 5: more is worse for time and worst stretch. In both rows 0->1 is tight, and so is 1->2: 1 and 2 are affected in each, 4. 0 stores 1
@@ -60,6 +62,29 @@ static void ask_all(const plate_track_deck *d, uint32_t source)
         ask(d, p, source);
 }
 
+/* A route with its marks; for headroom and worst stretch also the last edge marked, whose weight is the value. */
+static void show_route(const plate_track_deck *d, uint32_t property, uint32_t source, uint32_t target)
+{
+    uint32_t vertices[PLATE_TRACK_MOST_VERTICES], marks[PLATE_TRACK_MOST_VERTICES];
+    uint64_t reply[PLATE_TRACK_REPLY_WORDS], edges, last = 0;
+    uint32_t number = plate_track_deck_route(d, property, source, target, vertices, d->n, marks, d->n, reply);
+    if (refused("route", number, reply))
+        return;
+    edges = reply[PLATE_TRACK_ROUTE_VERTICES] - 1;
+    printf("  from %" PRIu32 " to %" PRIu32 "  %-9s ", source, target, names[property - 1]);
+    for (uint64_t i = 0; i <= edges; i++)
+        printf(" %" PRIu32, vertices[i]);
+    printf("   marks");
+    for (uint64_t i = 0; i < edges; i++) {
+        printf(" %" PRIu32, marks[i]);
+        if (marks[i] == 1)
+            last = i;
+    }
+    if (edges > 0 && (property == PLATE_TRACK_HEADROOM || property == PLATE_TRACK_WORST))
+        printf(", set by %" PRIu32 "->%" PRIu32, vertices[last], vertices[last + 1]);
+    printf("\n");
+}
+
 static void change(plate_track_deck *d, const char *what, const plate_track_change *changes, size_t len)
 {
     uint64_t reply[PLATE_TRACK_REPLY_WORDS];
@@ -96,6 +121,9 @@ int main(void)
     change(&d, "delete 0->1 twice", twice, 2);
     change(&d, "delete 0->1", &take, 1);
     ask_all(&d, 0);
+    show_route(&d, PLATE_TRACK_TIME, 0, 2);
+    show_route(&d, PLATE_TRACK_HEADROOM, 0, 1);
+    show_route(&d, PLATE_TRACK_TIME, 3, 0);
     write_text(&d);
     change(&d, "insert 0->1 4", &put_back, 1);
     ask(&d, PLATE_TRACK_TIME, 0);

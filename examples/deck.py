@@ -1,7 +1,7 @@
-"""Deck A of document 01 from Python: read from text, opened, asked, changed, asked again, written as text. Run it by examples/run."""
+"""Deck A of document 01 from Python: read from text, opened, asked, changed, asked again, for routes too, written as text. Run it by examples/run."""
 
 import plate_track
-from plate_track import DELETE, GREATEST, INSERT, REACH, TIME, UPDATE, Deck, Refused
+from plate_track import DELETE, GREATEST, HEADROOM, INSERT, REACH, TIME, UPDATE, WORST, Deck, Refused
 
 NAMES = ["time", "handovers", "headroom", "worst", "reach"]
 
@@ -10,6 +10,17 @@ def ask(deck, prop, source):
     answer = deck.query(prop, source)
     cells = "".join(f" {'M' if w == GREATEST else w:>10}" for w in answer.settled)
     print(f"  from {source}  {NAMES[prop - 1]:<9}{cells}   rounds {answer.tally.rounds}, stores {answer.tally.stores}")
+
+
+def show_route(deck, prop, source, target):
+    """A route with its marks; for headroom and worst stretch also the last edge marked, whose weight is the value."""
+    try:
+        vertices, edges, marks = deck.route(prop, source, target)
+    except Refused as refused:
+        print(f"route: {refused}")
+        return
+    setting = [f", set by {tail}->{head}" for (tail, head, _), mark in zip(edges, marks) if mark and prop in (HEADROOM, WORST)]
+    print(f"  from {source} to {target}  {NAMES[prop - 1]:<9} ", *vertices, "  marks", *marks, end="".join(setting[-1:]) + "\n")
 
 
 def change(deck, what, *changes):
@@ -33,6 +44,9 @@ change(deck, "delete 0->1 twice", (DELETE, 0, 1, 0), (DELETE, 0, 1, 0))
 change(deck, "delete 0->1", (DELETE, 0, 1, 0))
 for p in range(TIME, plate_track.PROPERTIES + 1):
     ask(deck, p, 0)
+show_route(deck, TIME, 0, 2)
+show_route(deck, HEADROOM, 0, 1)
+show_route(deck, TIME, 3, 0)
 print(deck.write().decode(), end="")
 change(deck, "insert 0->1 4", (INSERT, 0, 1, 4))
 ask(deck, TIME, 0)

@@ -11,8 +11,8 @@
  *
  * LISTS. A list is a pointer and a length in elements, in that order. With length 0 it is empty, and any pointer will do, null too; with
  * another length the pointer points to that many elements, aligned as C aligns them. A list that a call may write (not const here) overlaps no
- * other list of the same call; so `starts` and `settled` of a query are two lists, too. Nothing can check this: it is what the caller owes.
- * Everything else may be any value.
+ * other list of the same call; so `starts` and `settled` of a query are two lists, and so are `vertices` and `marks` of a route. Nothing can check
+ * this: it is what the caller owes. Everything else may be any value.
  *
  * NETWORK. Vertices are 0 to n - 1, n from 1 to 256. The edge table is three lists, tails, heads and weights, of at least 2,048
  * words EACH, however few edges there are, and a count of records. Records ascend by tail, then head; no pair stands twice; tail and

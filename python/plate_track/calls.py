@@ -124,3 +124,12 @@ def write(n: U32, tails: WORDS, heads: WORDS, weights: WORDS, count: U32, text: 
 @call
 def read_sources(text: BYTES, n: U32, sources: WRITTEN_WORDS) -> _Told():
     """Reads a source file of a network with n vertices: how many there are."""
+
+
+@call
+def route(
+    n: U32, tails: WORDS, heads: WORDS, weights: WORDS, count: U32, property: U32, source: U32, target: U32, vertices: WRITTEN_WORDS,
+    marks: WRITTEN_WORDS
+) -> _Told():  # fmt: skip
+    """Writes the vertices of the route behind a value, and for each of its edges whether it set the value (1) or passed it on (0): how many
+    vertices there are."""

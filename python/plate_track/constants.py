@@ -25,7 +25,7 @@ INSERT, DELETE, UPDATE = 1, 2, 3
 
 # refusals
 ACCEPTED, SIZE, SHORT, LANDMARKS, TABLE, PROPERTY, VERTEX = 0, 1, 2, 3, 4, 5, 6
-KIND, LOOP, WEIGHT, PRESENT, ABSENT, FULL, UNSETTLED, TEXT = 7, 8, 9, 10, 11, 12, 13, 14
+KIND, LOOP, WEIGHT, PRESENT, ABSENT, FULL, UNSETTLED, TEXT, NO_ROUTE = 7, 8, 9, 10, 11, 12, 13, 14, 15
 
 # the word of each refusal number; in parentheses document 01's, where it is another
 WORDS = (
@@ -44,6 +44,7 @@ WORDS = (
     "full",
     "unsettled (restless)",
     "text",
+    "no route",
 )
 
 

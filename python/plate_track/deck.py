@@ -1,6 +1,7 @@
 """A network with all its memory and its present count."""
 
 from array import array
+from bisect import bisect_left, bisect_right
 from itertools import islice
 from typing import NamedTuple
 
@@ -39,11 +40,20 @@ class Spot(NamedTuple):
     record: int
 
 
+class Route(NamedTuple):
+    """The route behind a value: its vertices, source first and target last, its edges (tail, head, weight), and for each edge a mark, 1 where it
+    set the value and 0 where it passed it on. For headroom and worst stretch the value is the weight of the last edge marked."""
+
+    vertices: list
+    edges: list
+    marks: list
+
+
 class Deck:
-    """Vertices 0 to n - 1 and directed edges (tail, head, weight), in any order. Open it with landmarks before it is asked or changed.
+    """Vertices 0 to n - 1 and directed edges (tail, head, weight), in any order. Open it with landmarks before it is queried or changed.
 
     Its lists (landmarks, tails, heads, weights, forward, backward), n and count may be read; only its methods write them. What is wrong with
-    n, edges or landmarks is refused where the library first sees it: by `open`. A refused call changes nothing."""
+    n, edges or landmarks is refused where the library first sees it, as by `open`. A refused call changes nothing."""
 
     def __init__(self, n, edges=()):
         self.n, self.landmarks = number_of("n", n), array("I")
@@ -96,6 +106,21 @@ class Deck:
         starts, settled = words(room), words(room)
         tally = calls.query(*self._network(), property, source, schedule, starts, settled)
         return Answer(settled, starts, tally)
+
+    def route(self, property, source, target):
+        """The best route of a property from a source to a target: a Route. Of several it is one with the fewest edges, and of those the one with the
+        lowest vertex at the first place where two differ. It needs no landmarks: the deck may be one that is not open."""
+        room = min(self.n, MOST_VERTICES)
+        vertices, marks = words(room), words(room)
+        count = calls.route(self.n, *self._table(), self.count, property, source, target, vertices, marks)
+        vertices, marks = vertices[:count].tolist(), marks[: count - 1].tolist()
+        return Route(vertices, [(tail, head, self._weight(tail, head)) for tail, head in zip(vertices, vertices[1:])], marks)
+
+    def _weight(self, tail, head):
+        """The weight of an edge that is there."""
+        first = bisect_left(self.tails, tail, 0, self.count)
+        last = bisect_right(self.tails, tail, first, self.count)
+        return self.weights[bisect_left(self.heads, head, first, last)]
 
     def batch(self, changes):
         """Applies changes (kind, tail, head, weight), all or none: a Report. A kind is INSERT, DELETE (with weight 0) or UPDATE, which gives the edge

@@ -1,5 +1,5 @@
 /* What plate_track.h gives beside the calls, and plate_track_deck.h: each function, accepted and refused, on Deck A. The expected words are
- * document 01's or follow from it and from document 02, One, by hand. Exit status 1 where one differs. Compiled as C11 and as C++17. */
+ * documents 01's and 02's or follow from 01 and from 02, One and Two, by hand. Exit status 1 where one differs. Compiled as C11 and as C++17. */
 #include "plate_track_deck.h"
 
 #include <pthread.h>
@@ -9,6 +9,7 @@
 static int bad = 0;
 static uint64_t reply[PLATE_TRACK_REPLY_WORDS];
 static uint32_t starts[PLATE_TRACK_MOST_VERTICES], settled[PLATE_TRACK_MOST_VERTICES];
+static uint32_t vertices[5], marks[5]; /* a word more than a route of Deck A needs */
 static const uint32_t M = PLATE_TRACK_GREATEST;
 static const uint32_t zero[] = {0};
 
@@ -42,6 +43,18 @@ static uint32_t read_text(plate_track_deck *d, const char *text)
 static uint32_t ask(const plate_track_deck *d, uint32_t property, uint32_t source)
 {
     return plate_track_deck_query(d, property, source, NULL, 0, starts, 4, settled, 4, reply);
+}
+
+static uint32_t find(const plate_track_deck *d, uint32_t property, uint32_t source, uint32_t target)
+{
+    for (int i = 0; i < 5; i++)
+        vertices[i] = marks[i] = 7;
+    return plate_track_deck_route(d, property, source, target, vertices, 5, marks, 5, reply);
+}
+
+static int lists_stay(void)
+{
+    return are(vertices, 7, 7, 7, 7) && vertices[4] == 7 && are(marks, 7, 7, 7, 7) && marks[4] == 7;
 }
 
 /* The trap that the deck closes: after an insert, a query with the count from before is accepted and misses the new edge. */
@@ -100,6 +113,55 @@ static void accepted(void)
     check(plate_track_deck_open(&d, zero, 1, reply) == 0 && ask(&d, PLATE_TRACK_HEADROOM, 0) == 0 && settled[0] == M, "one vertex, no edge");
 }
 
+/* The route behind a value, of a deck that is read and not open, and after a batch. Words past the route are 7, as they were. */
+static void routes(void)
+{
+    static plate_track_deck d;
+    static const uint32_t two[PLATE_TRACK_PROPERTIES][2] = {{1, 1}, {1, 1}, {1, 0}, {1, 0}, {0, 0}};
+    static const uint32_t three[PLATE_TRACK_PROPERTIES][3] = {{1, 1, 1}, {1, 1, 1}, {1, 1, 0}, {1, 0, 0}, {0, 0, 0}};
+    const plate_track_change take = {PLATE_TRACK_DELETE, 0, 1, 0};
+    check(read_text(&d, deck_a) == 0, "Deck A is read");
+    for (uint32_t p = PLATE_TRACK_TIME; p <= PLATE_TRACK_REACH; p++) {
+        const uint32_t *m = two[p - 1];
+        check(find(&d, p, 0, 2) == 0 && reply[PLATE_TRACK_ROUTE_VERTICES] == 3 && are(vertices, 0, 1, 2, 7) && vertices[4] == 7
+            && are(marks, m[0], m[1], 7, 7) && marks[4] == 7, "0 to 2 goes over 1");
+        /* 1 lies on the ring with 2 */
+        check(find(&d, p, 1, 1) == 0 && reply[PLATE_TRACK_ROUTE_VERTICES] == 1 && are(vertices, 1, 7, 7, 7) && are(marks, 7, 7, 7, 7),
+            "from 1 to itself");
+    }
+    check(plate_track_deck_open(&d, zero, 1, reply) == 0 && plate_track_deck_batch(&d, &take, 1, reply) == 0, "take 0->1");
+    for (uint32_t p = PLATE_TRACK_TIME; p <= PLATE_TRACK_REACH; p++) {
+        const uint32_t *m = three[p - 1];
+        check(find(&d, p, 0, 1) == 0 && reply[PLATE_TRACK_ROUTE_VERTICES] == 4 && are(vertices, 0, 3, 2, 1) && vertices[4] == 7
+            && are(marks, m[0], m[1], m[2], 7) && marks[4] == 7, "0 to 1 goes over 3 and 2");
+    }
+    check(find(&d, PLATE_TRACK_TIME, 0, 2) == 0 && reply[PLATE_TRACK_ROUTE_VERTICES] == 3 && are(vertices, 0, 3, 2, 7) && are(marks, 1, 1, 7, 7),
+        "the route behind 11");
+    check(plate_track_deck_route(&d, PLATE_TRACK_TIME, 0, 1, vertices, 4, marks, 4, reply) == 0 && are(vertices, 0, 3, 2, 1), "lists of n words");
+}
+
+/* Numbers of a route, in their order: the lowest that applies, and 15 after all others. */
+static void no_routes(void)
+{
+    static plate_track_deck d, before;
+    check(refuses(find(&d, PLATE_TRACK_TIME, 0, 0), PLATE_TRACK_SIZE, 0) && lists_stay(), "a deck of no vertices has no route");
+    check(read_text(&d, deck_a) == 0, "Deck A is read");
+    before = d;
+    for (uint32_t p = PLATE_TRACK_TIME; p <= PLATE_TRACK_REACH; p++)
+        check(refuses(find(&d, p, 3, 0), PLATE_TRACK_NO_ROUTE, 0) && lists_stay(), "no route from 3 to 0");
+    check(refuses(find(&d, PLATE_TRACK_TIME, 0, 4), PLATE_TRACK_VERTEX, 0) && lists_stay(), "target 4 of 4");
+    check(refuses(find(&d, PLATE_TRACK_TIME, 4, 0), PLATE_TRACK_VERTEX, 0) && lists_stay(), "source 4 of 4");
+    check(refuses(find(&d, 0, 0, 2), PLATE_TRACK_PROPERTY, 0) && refuses(find(&d, 6, 0, 4), PLATE_TRACK_PROPERTY, 0) && lists_stay(),
+        "property 0; 6, with target 4");
+    check(refuses(plate_track_deck_route(&d, PLATE_TRACK_TIME, 0, 2, vertices, 3, marks, 4, reply), PLATE_TRACK_SHORT, 0)
+        && refuses(plate_track_deck_route(&d, PLATE_TRACK_TIME, 0, 2, vertices, 4, marks, 3, reply), PLATE_TRACK_SHORT, 0) && lists_stay(),
+        "a list of three words, enough for the route and not for n");
+    d.heads[0] = 0;
+    check(refuses(find(&d, 6, 0, 2), PLATE_TRACK_TABLE, 0) && lists_stay(), "record 0 is a loop, and property 6");
+    d.heads[0] = 1;
+    check(memcmp(&d, &before, sizeof d) == 0, "no route changed the deck");
+}
+
 static void refused(void)
 {
     static plate_track_deck d, before;
@@ -147,6 +209,7 @@ static void unopened(void)
         check(refuses(plate_track_deck_row(&d, PLATE_TRACK_FORWARD, 0, PLATE_TRACK_TIME, &row, reply), number, 0), "not open: row");
         check(refuses(plate_track_deck_settled(&d, reply), number, 0), "not open: settled");
         check(plate_track_deck_choose(&d, 1, landmarks, reply) == fine, "not open: choose");
+        check(find(&d, PLATE_TRACK_TIME, 0, 0) == fine, "not open: route");
         check(plate_track_deck_write(&d, text, sizeof text, reply) == fine, "not open: write");
         check(plate_track_deck_read_sources(
             &d, (const uint8_t *)sources_text, strlen(sources_text), sources, PLATE_TRACK_MOST_SOURCES, reply) == fine, "not open: read_sources");
@@ -191,6 +254,8 @@ static void too_short(uint32_t *w, uint8_t *b, uint64_t *r)
             "an empty list of query");
         check((plate_track_settled(4, zero, 1, TABLE, 5, ROWS, LONG(0)) == 2) == (answer || table || rows), "an empty list of settled");
         check((plate_track_choose(4, TABLE, 5, 1, LONG(0)) == 2) == (answer || table), "an empty list of choose");
+        check((plate_track_route(4, TABLE, 5, 1, 0, 2, WORD(6, vertices, 4), WORD(7, marks, 4), LONG(0)) == 2) == (answer || table || k >= 6),
+            "an empty list of route");
         check((plate_track_row(4, zero, 1, ROWS, 0, 0, 1, LONG(0)) == 2) == (answer || rows), "an empty list of row");
         check((plate_track_write(4, TABLE, 5, BYTE(6, text, 100), LONG(0)) == 2) == (answer || table || k == 6), "an empty list of write");
         check((plate_track_read_sources((const uint8_t *)"p aux sp ss 0\n", 14, 4, WORD(6, sources, 256), LONG(0)) == 2) == (answer || k == 6),
@@ -206,8 +271,8 @@ static void words(void)
 {
     static const char *const wanted[] = {
         "accepted", "size", "short", "landmarks (posts)", "table", "property", "vertex (station)", "kind", "loop", "weight (figure)", "present",
-        "absent", "full", "unsettled (restless)", "text", "unknown"};
-    for (uint32_t k = 0; k < 16; k++)
+        "absent", "full", "unsettled (restless)", "text", "no route", "unknown"};
+    for (uint32_t k = 0; k < 17; k++)
         check(strcmp(plate_track_word(k), wanted[k]) == 0, wanted[k]);
     check(strcmp(plate_track_word(PLATE_TRACK_GREATEST), "unknown") == 0, "a number of no refusal");
     check(plate_track_no_route(PLATE_TRACK_TIME) == M && plate_track_no_route(PLATE_TRACK_HANDOVERS) == M
@@ -223,12 +288,15 @@ static int thread_wrong[4];
 static void *asks(void *wrong)
 {
     static const uint32_t wanted[PLATE_TRACK_PROPERTIES][4] = {{0, 4, 8, 9}, {0, 1, 2, 1}, {UINT32_MAX, 4, 4, 9}, {0, 4, 4, 9}, {1, 1, 1, 1}};
-    uint32_t own_starts[4], own_settled[4];
+    static const uint32_t over_1[] = {0, 1, 2, 7};
+    uint32_t own_starts[4], own_settled[4], own_vertices[4] = {7, 7, 7, 7}, own_marks[4];
     uint64_t own_reply[PLATE_TRACK_REPLY_WORDS];
     for (uint32_t i = 0; i < 5000; i++) {
         uint32_t p = i % PLATE_TRACK_PROPERTIES;
         if (plate_track_deck_query(&shared, p + 1, 0, NULL, 0, own_starts, 4, own_settled, 4, own_reply) != 0
-            || memcmp(own_settled, wanted[p], sizeof own_settled) != 0)
+            || memcmp(own_settled, wanted[p], sizeof own_settled) != 0
+            || plate_track_deck_route(&shared, p + 1, 0, 2, own_vertices, 4, own_marks, 4, own_reply) != 0
+            || memcmp(own_vertices, over_1, sizeof own_vertices) != 0)
             *(int *)wrong = 1;
     }
     return NULL;
@@ -256,6 +324,8 @@ int main(void)
     uint64_t answer = 7;
     stale_count();
     accepted();
+    routes();
+    no_routes();
     refused();
     unopened();
     empty(NULL, NULL, NULL);

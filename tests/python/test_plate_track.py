@@ -76,6 +76,20 @@ class DeckA(unittest.TestCase):
         self.assertEqual(deck.batch(array("I", [DELETE, 0, 1, 0, INSERT, 0, 1, 5])), (5, 4, 5))
         self.assertEqual([values(deck, p, 0) for p in (TIME, HEADROOM, WORST)], [[0, 5, 9, 9], [M, 5, 4, 9], [0, 5, 5, 9]])
 
+    def test_routes(self):
+        deck = Deck.read(TEXT)
+        marks = {TIME: [1, 1], HANDOVERS: [1, 1], HEADROOM: [1, 0], WORST: [1, 0], REACH: [0, 0]}
+        for prop, wanted in marks.items():
+            self.assertEqual(deck.route(prop, 0, 2), ([0, 1, 2], [(0, 1, 4), (1, 2, 4)], wanted))
+            self.assertEqual(deck.route(prop, 1, 1), ([1], [], []))
+        deck.open([0])
+        deck.batch([(DELETE, 0, 1, 0)])
+        marks = {TIME: [1, 1, 1], HANDOVERS: [1, 1, 1], HEADROOM: [1, 1, 0], WORST: [1, 0, 0], REACH: [0, 0, 0]}
+        for prop, wanted in marks.items():
+            self.assertEqual(deck.route(prop, 0, 1), ([0, 3, 2, 1], [(0, 3, 9), (3, 2, 2), (2, 1, 4)], wanted))
+        route = deck.route(TIME, 0, 2)
+        self.assertEqual((route.vertices, route.marks, sum(w for _, _, w in route.edges)), ([0, 3, 2], [1, 1], 11))
+
     def test_query_tells_starts_and_tally(self):
         deck = deck_a(2)
         answer = deck.query(TIME, 1)
@@ -134,6 +148,10 @@ class Refusals(unittest.TestCase):
         self.refuses(6, "vertex (station)", 1, deck.query, TIME, 0, [1, 4])
         self.refuses(5, "property", 0, deck.query, 6, 0)
         self.refuses(5, "property", 0, deck.row, 2, 0, TIME)
+        self.refuses(15, "no route", 0, deck.route, TIME, 3, 0)
+        self.refuses(6, "vertex (station)", 0, deck.route, TIME, 3, 4)
+        self.refuses(6, "vertex (station)", 0, deck.route, TIME, 4, 0)
+        self.refuses(5, "property", 0, deck.route, 6, 0, 4)
         self.refuses(3, "landmarks (posts)", 0, deck.open, [0, 1, 2, 3, 0])
         self.refuses(3, "landmarks (posts)", 0, deck.open, [1, 1])
         self.refuses(3, "landmarks (posts)", 0, deck.open, [4])
@@ -148,6 +166,9 @@ class Refusals(unittest.TestCase):
         self.assertEqual(deck.batch([(DELETE, 0, 1, 0)])[:2], (4, 10))
         self.refuses(3, "landmarks (posts)", 0, Deck.read(TEXT).query, TIME, 0)
         self.refuses(1, "size", 0, Deck(257).open, [0])
+        self.refuses(1, "size", 0, Deck(257).route, TIME, 0, 0)
+        self.refuses(1, "size", 0, Deck(0).route, TIME, 0, 0)
+        self.refuses(4, "table", 0, Deck(3, [(1, 1, 1)]).route, TIME, 0, 1)
         self.refuses(4, "table", 1, Deck(3, [(0, 1, 1), (0, 1, 2)]).open, [0])
         self.refuses(4, "table", 0, Deck(256, [(i // 200, i % 200 + 30, 1) for i in range(2049)]).open, [0])
         self.assertEqual(str(Refused(14, 2)), "refused 14, text, at 2")
@@ -159,6 +180,7 @@ class Refusals(unittest.TestCase):
             self.assertRaises(OverflowError, deck.query, wrong, 0)
             self.assertRaises(OverflowError, deck.query, TIME, 0, [wrong])
             self.assertRaises(OverflowError, deck.row, 0, wrong, TIME)
+            self.assertRaises(OverflowError, deck.route, TIME, 0, wrong)
             self.assertRaises(OverflowError, deck.choose, wrong)
             self.assertRaises(OverflowError, Deck, wrong)
             self.assertRaises(OverflowError, Deck, 2, [(0, 1, wrong)])
@@ -170,6 +192,7 @@ class Refusals(unittest.TestCase):
         self.assertRaises(OverflowError, deck.batch, [(2**32 + 2, 0, 1, 0)])
         self.assertRaises(TypeError, deck.query, TIME, 1.0)
         self.assertRaises(TypeError, deck.query, "1", 0)
+        self.assertRaises(TypeError, deck.route, TIME, 0, 2.0)
         for text in (b"\0\0\0\0", bytearray(4), "0", b""):
             self.assertRaises(TypeError, deck.open, text)
         self.assertRaises(TypeError, deck.query, TIME, 0, b"\0\0\0\0")
@@ -202,6 +225,9 @@ class Lending(unittest.TestCase):
                 network, starts, settled = self.lists(of), of([7] * 5), of([7] * 5)
                 self.assertEqual(calls.query(*network, TIME, 0, of([]), starts, settled), (0, 1, 0))
                 self.assertEqual(list(settled), [0, 4, 8, 9, 7])
+                vertices, marks = of([7] * 5), of([7] * 5)
+                self.assertEqual(calls.route(4, *network[2:6], HEADROOM, 0, 2, vertices, marks), 3)
+                self.assertEqual((list(vertices), list(marks)), ([0, 1, 2, 7, 7], [1, 0, 7, 7, 7]))
                 self.assertEqual(calls.batch(*network, of([DELETE, 0, 1, 0])), (4, 10, 10))
                 self.assertEqual(list(network[2])[:5], [0, 1, 2, 3, 0])
 
@@ -241,6 +267,29 @@ class Lending(unittest.TestCase):
         # read twice is no harm
         self.assertEqual(calls.choose(4, network[2], network[2], network[2], 0, 1), [0])
 
+    def test_what_is_not_lent_to_a_route(self):
+        n, _, *table, count, _, _ = self.lists(lambda ws: array("I", ws))
+        out = array("I", [7] * 4)
+
+        def route(**changed):
+            return calls.route(n, *table, count, TIME, 0, 2, **{"vertices": array("I", [7] * 4), "marks": out, **changed})
+
+        for wrong in ([0] * 4, array("i", [7] * 4), array("Q", [7] * 4), bytearray(16), memoryview(bytes(16)).cast("I"), None):
+            self.assertRaises(TypeError, route, vertices=wrong)
+            self.assertRaises(TypeError, route, marks=wrong)
+        self.assertRaises(ValueError, route, vertices=out)
+        self.assertRaises(ValueError, route, vertices=memoryview(array("I", [7] * 8))[1:5], marks=table[1])
+        both = memoryview(array("I", [7] * 8))
+        self.assertRaises(ValueError, route, vertices=both[:5], marks=both[4:])
+        for short in ("vertices", "marks"):
+            for words in (0, 3):
+                with self.assertRaises(Refused) as caught:
+                    route(**{short: array("I", [7] * words)})
+                self.assertEqual(caught.exception.number, plate_track.SHORT)
+        self.assertEqual(list(out) + list(both), [7] * 12)
+        # beside each other is no overlap
+        self.assertEqual((route(vertices=both[:4], marks=both[4:]), list(both)), (3, [0, 1, 2, 7, 1, 1, 7, 7]))
+
     def test_a_list_can_not_shrink_while_it_is_lent(self):
         out = array("I", [7] * 4)
         with native._lent("out", calls.WRITTEN_WORDS, out) as (at, size):
@@ -261,6 +310,7 @@ class Threads(unittest.TestCase):
                 begin.wait()
                 for _ in range(200):
                     wrong.extend(prop for prop, right in wanted.items() if values(deck, prop, 0) != right)
+                    wrong.extend(prop for prop in wanted if deck.route(prop, 0, 2).vertices != [0, 1, 2])
             except Exception as error:
                 wrong.append(error)
 
@@ -358,6 +408,31 @@ class Graphs(unittest.TestCase):
                 now = plate_track.to_networkx(deck, nodes)
                 self.assertEqual((set(now), now.edges), (set(graph), graph.edges))
                 self.assertEqual({e: now.edges[e]["weight"] for e in now.edges}, {e: graph.edges[e]["weight"] for e in graph.edges})
+
+    def test_routes_against_all_simple_paths(self):
+        """Of all best routes the one with the fewest edges, then the lowest vertex at the first place where two differ: weights are few, so that
+        many routes are best. A route with the fewest edges goes through no vertex twice."""
+        costs = {  # of a route by its weights, less is better
+            TIME: sum, HANDOVERS: len, HEADROOM: lambda ws: -min(ws, default=M), WORST: lambda ws: max(ws, default=0), REACH: lambda ws: -1,
+        }  # fmt: skip
+        draw = random.Random(15)
+        for _ in range(6):
+            n = draw.randrange(6, 10)
+            graph = networkx.gnm_random_graph(n, 2 * n, seed=draw.randrange(10**6), directed=True)
+            for u, v in graph.edges:
+                graph[u][v]["weight"] = draw.randrange(1, 5)
+            deck, _ = plate_track.from_networkx(graph)
+            for (source, target), (prop, cost) in itertools.product(itertools.product(graph, graph), costs.items()):
+                paths = [[source]] if source == target else list(networkx.all_simple_paths(graph, source, target))
+                routes = [(path, [graph[u][v]["weight"] for u, v in zip(path, path[1:])]) for path in paths]
+                if not routes:
+                    with self.assertRaises(Refused) as caught:
+                        deck.route(prop, source, target)
+                    self.assertEqual((caught.exception.number, caught.exception.place), (plate_track.NO_ROUTE, 0))
+                    continue
+                best, ws = min(routes, key=lambda route: (cost(route[1]), len(route[0]), route[0]))
+                marks = [int(prop in (TIME, HANDOVERS) or cost(ws[: i + 1]) != cost(ws[:i])) for i in range(len(ws))]
+                self.assertEqual(deck.route(prop, source, target), (best, list(zip(best, best[1:], ws)), marks))
 
     def test_forms(self):
         graph = networkx.DiGraph([("b", "a")])

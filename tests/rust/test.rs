@@ -1,10 +1,12 @@
-//! bindings/plate_track.rs: what it gives beside the calls, and a refusal as Rust has it. The expected words are document 01's, or follow from it and from document 02, One, by hand. The calls
-//! themselves are held to a reference by tests/differential. tests/rust/run runs it.
+//! bindings/plate_track.rs: what it gives beside the calls, and a refusal as Rust has it. The expected words are documents 01's and 02's, or follow
+//! from 01 and from 02, One and Two, by hand. The calls themselves are held to a reference by tests/differential. tests/rust/run runs it.
 
 #[path = "../../bindings/plate_track.rs"]
 mod plate_track;
 
 use plate_track::*;
+
+const DECK_A: &[u8] = b"p sp 4 5\na 1 2 4\na 1 4 9\na 2 3 4\na 3 2 4\na 4 3 2\n";
 
 #[test]
 fn archive_and_file_have_one_version() {
@@ -55,4 +57,37 @@ fn a_batch_tells_the_count() {
     let absent = [[UPDATE, 3, 2, 2], [UPDATE, 2, 3, 2]];
     let refused = batch(4, &[0], &mut tails, &mut heads, &mut weights, count, &mut forward, &mut backward, &absent, &mut reply);
     assert_eq!((refused, weights[4]), (Err(Refused { number: ABSENT, place: 1 }), 3));
+}
+
+/// Deck A, and Deck A without 0->1: vertices and marks by property, words past them as they were.
+#[test]
+fn a_route_has_vertices_and_marks() {
+    let (mut tails, mut heads, mut weights, mut reply) = ([0; MOST_EDGES], [0; MOST_EDGES], [0; MOST_EDGES], [0; REPLY_WORDS]);
+    read(DECK_A, &mut tails, &mut heads, &mut weights, &mut reply).unwrap();
+    for (property, wanted) in [(TIME, [1, 1]), (HANDOVERS, [1, 1]), (HEADROOM, [1, 0]), (WORST, [1, 0]), (REACH, [0, 0])] {
+        let (mut vertices, mut marks) = ([7; 5], [7; 5]);
+        route(4, &tails, &heads, &weights, 5, property, 0, 2, &mut vertices, &mut marks, &mut reply).unwrap();
+        assert_eq!((reply[ROUTE_VERTICES], vertices, marks), (3, [0, 1, 2, 7, 7], [wanted[0], wanted[1], 7, 7, 7]));
+    }
+    read(b"p sp 4 4\na 1 4 9\na 2 3 4\na 3 2 4\na 4 3 2\n", &mut tails, &mut heads, &mut weights, &mut reply).unwrap();
+    let marks_to_1 = [(TIME, [1, 1, 1]), (HANDOVERS, [1, 1, 1]), (HEADROOM, [1, 1, 0]), (WORST, [1, 0, 0]), (REACH, [0, 0, 0])];
+    for (property, wanted) in marks_to_1 {
+        let (mut vertices, mut marks) = ([7; 4], [7; 4]);
+        route(4, &tails, &heads, &weights, 4, property, 0, 1, &mut vertices, &mut marks, &mut reply).unwrap();
+        assert_eq!((reply[ROUTE_VERTICES], vertices, marks), (4, [0, 3, 2, 1], [wanted[0], wanted[1], wanted[2], 7]));
+    }
+}
+
+#[test]
+fn a_route_is_refused() {
+    let (mut tails, mut heads, mut weights, mut reply) = ([0; MOST_EDGES], [0; MOST_EDGES], [0; MOST_EDGES], [7; REPLY_WORDS]);
+    read(DECK_A, &mut tails, &mut heads, &mut weights, &mut reply).unwrap();
+    let (mut vertices, mut marks) = ([7; 4], [7; 4]);
+    let mut to = |target, words: usize| route(4, &tails, &heads, &weights, 5, TIME, 3, target, &mut vertices[..words], &mut marks, &mut reply);
+    let refused = to(0, 4).unwrap_err();
+    assert_eq!((refused.number, refused.place, refused.to_string().as_str()), (NO_ROUTE, 0, "refused 15, no route, at 0"));
+    assert_eq!(to(4, 4), Err(Refused { number: VERTEX, place: 0 }));
+    assert_eq!(to(2, 3), Err(Refused { number: SHORT, place: 0 }));
+    assert_eq!(to(2, 0), Err(Refused { number: SHORT, place: 0 }));
+    assert_eq!((vertices, marks), ([7; 4], [7; 4]));
 }

@@ -1,6 +1,6 @@
 /* How many bytes of stack each call takes: it runs on a painted stack of its own, and the lowest byte that changed is looked up.
- * 256 vertices, 2,048 edges, 4 landmarks, a schedule of 4,096, a batch of 1,024, 256 sources. Exit status 1 where a call is refused or
- * takes more than the header promises. */
+ * 256 vertices, 2,048 edges, 4 landmarks, a schedule of 4,096, a batch of 1,024, 256 sources, a route over all vertices for each property. Exit
+ * status 1 where a call is refused or takes more than the header promises. */
 #include "plate_track.h"
 
 #include <stdio.h>
@@ -13,6 +13,7 @@ static unsigned char stack[SIZE] __attribute__((aligned(4096)));
 static ucontext_t here, there;
 static uint32_t tails[2048], heads[2048], weights[2048], landmarks[4] = {0, 77, 154, 255};
 static uint32_t forward[5120], backward[5120], starts[256], settled[256], schedule[4096], sources[256];
+static uint32_t chain_tails[2048], chain_heads[2048], chain_weights[2048], vertices[256], marks[256];
 static plate_track_change changes[1024];
 static uint8_t text[PLATE_TRACK_LONGEST_TEXT], source_text[4096];
 static size_t text_len, source_len;
@@ -20,7 +21,24 @@ static uint64_t reply[8];
 static uint32_t number;
 
 #define TABLE tails, 2048, heads, 2048, weights, 2048
+#define CHAIN chain_tails, 2048, chain_heads, 2048, chain_weights, 2048
 #define ROWS forward, 5120, backward, 5120
+
+/* Each vertex leads to the next one, and else only back, to seven before it or as many as there are, the last 29 to eight: 255 + 1,764 + 29 edges. The
+ * one route from 0 to 255 has all vertices. */
+static void fill_chain(void)
+{
+    uint32_t k = 0;
+    for (uint32_t v = 0; v < 256; v++) {
+        uint32_t back = v < 7 ? v : v < 227 ? 7 : 8;
+        for (uint32_t h = v - back; h <= v + 1 && h < 256; h++) {
+            if (h == v) continue;
+            chain_tails[k] = v;
+            chain_heads[k] = h;
+            chain_weights[k++] = 1 + (v * 7919 + h * 10473) % 65535;
+        }
+    }
+}
 
 static void fill(void)
 {
@@ -54,6 +72,14 @@ static void choose(void) { number = plate_track_choose(256, TABLE, 2048, 4, repl
 static void row(void) { number = plate_track_row(256, landmarks, 4, ROWS, 1, 154, 3, reply, 8); }
 static void write_(void) { number = plate_track_write(256, TABLE, 2048, text, sizeof text, reply, 8); }
 static void read_(void) { number = plate_track_read(text, text_len, TABLE, reply, 8); }
+static void route(void)
+{
+    number = 0;
+    for (uint32_t p = 1; p <= PLATE_TRACK_PROPERTIES && number == 0; p++) {
+        number = plate_track_route(256, CHAIN, 2048, p, 0, 255, vertices, 256, marks, 256, reply, 8);
+        if (number == 0 && reply[PLATE_TRACK_ROUTE_VERTICES] != 256) number = 99;
+    }
+}
 static void read_sources(void) { number = plate_track_read_sources(source_text, source_len, 256, sources, 256, reply, 8); }
 
 static size_t measure(void (*call)(void))
@@ -77,9 +103,10 @@ int main(void)
         {"open", open_, PLATE_TRACK_STACK_OPEN}, {"query", query, PLATE_TRACK_STACK_QUERY}, {"batch", batch, PLATE_TRACK_STACK_BATCH},
         {"settled", check, PLATE_TRACK_STACK_SETTLED}, {"choose", choose, PLATE_TRACK_STACK_CHOOSE}, {"row", row, PLATE_TRACK_STACK_ROW},
         {"write", write_, PLATE_TRACK_STACK_WRITE}, {"read", read_, PLATE_TRACK_STACK_READ},
-        {"read_sources", read_sources, PLATE_TRACK_STACK_READ_SOURCES}};
+        {"read_sources", read_sources, PLATE_TRACK_STACK_READ_SOURCES}, {"route", route, PLATE_TRACK_STACK_ROUTE}};
     int bad = 0;
     fill();
+    fill_chain();
     size_t base = measure(nothing);
     for (size_t i = 0; i < sizeof calls / sizeof *calls; i++) {
         size_t used = measure(calls[i].call) - base;
