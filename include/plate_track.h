@@ -141,7 +141,7 @@ enum {
     PLATE_TRACK_STACK_READ = 28 * 1024,
     PLATE_TRACK_STACK_WRITE = 1024,
     PLATE_TRACK_STACK_READ_SOURCES = 2 * 1024,
-    PLATE_TRACK_STACK_ROUTE = 16 * 1024
+    PLATE_TRACK_STACK_ROUTE = 14 * 1024
 };
 
 /* The word of a refusal number; in parentheses document 01's, where it is another. */
