@@ -1,86 +1,10 @@
 // Times of the calls beside the same rounds in plain Rust (plain.rs) and Boost.Graph, on the same networks in the same process. Every
 // result that is timed is compared first. Usage: bench [REPEATS]; bench boost WHAT runs Boost alone, to count instructions:
 // rows, query1 to query5, better1 to worse100 (its rows on each retuned table).
-#include "network.h"
+#include "boost.h"
+#include "times.h"
 
-#include <boost/graph/breadth_first_search.hpp>
-#include <boost/graph/compressed_sparse_row_graph.hpp>
-#include <boost/graph/dijkstra_shortest_paths.hpp>
-
-#include <chrono>
-#include <cstdio>
 #include <cstring>
-#include <functional>
-
-namespace {
-
-// ---- Boost.Graph
-
-struct Weight {
-    uint32_t weight;
-};
-using Graph = boost::compressed_sparse_row_graph<boost::directedS, boost::no_property, Weight>;
-
-struct Both {
-    Graph ahead, back;
-};
-
-Graph build(const Network &w, bool reversed)
-{
-    std::vector<std::pair<uint32_t, uint32_t>> pairs;
-    std::vector<Weight> weights;
-    for (uint32_t i = 0; i < w.count; i++) {
-        pairs.push_back(reversed ? std::make_pair(w.heads[i], w.tails[i]) : std::make_pair(w.tails[i], w.heads[i]));
-        weights.push_back({w.weights[i]});
-    }
-    return Graph(boost::edges_are_unsorted_multi_pass, pairs.begin(), pairs.end(), weights.begin(), w.n);
-}
-
-Both build(const Network &w) { return {build(w, false), build(w, true)}; }
-
-struct Sum {
-    uint32_t operator()(uint32_t a, uint32_t b) const { return a > M - b ? M : a + b; }
-};
-struct Least {
-    uint32_t operator()(uint32_t a, uint32_t b) const { return std::min(a, b); }
-};
-struct Greatest {
-    uint32_t operator()(uint32_t a, uint32_t b) const { return std::max(a, b); }
-};
-
-template <class Better, class Along> void dijkstra(const Graph &g, uint32_t s, uint32_t *out, Better better, uint32_t none, uint32_t start, Along along)
-{
-    boost::dijkstra_shortest_paths(g, s,
-                                   boost::weight_map(boost::get(&Weight::weight, g))
-                                       .distance_map(boost::make_iterator_property_map(out, boost::get(boost::vertex_index, g)))
-                                       .distance_compare(better)
-                                       .distance_combine(along)
-                                       .distance_inf(none)
-                                       .distance_zero(start));
-}
-
-void hops(const Graph &g, uint32_t s, uint32_t *out)
-{
-    std::fill(out, out + num_vertices(g), M);
-    out[s] = 0;
-    auto map = boost::make_iterator_property_map(out, boost::get(boost::vertex_index, g));
-    boost::breadth_first_search(g, s, boost::visitor(boost::make_bfs_visitor(boost::record_distances(map, boost::on_tree_edge()))));
-}
-
-void boost_row(const Graph &g, uint32_t property, uint32_t s, uint32_t *out)
-{
-    switch (property) {
-    case 1: dijkstra(g, s, out, std::less<uint32_t>(), M, 0, Sum()); break;
-    case 2: hops(g, s, out); break;
-    case 3: dijkstra(g, s, out, std::greater<uint32_t>(), 0, M, Least()); break;
-    case 4: dijkstra(g, s, out, std::less<uint32_t>(), M, 0, Greatest()); break;
-    default:
-        hops(g, s, out);
-        std::transform(out, out + num_vertices(g), out, [](uint32_t v) { return v == M ? 0u : 1u; });
-    }
-}
-
-} // namespace
 
 extern "C" __attribute__((noinline)) void boost_rows(const void *both, const void *network, uint32_t *forward, uint32_t *backward)
 {
@@ -101,33 +25,6 @@ extern "C" __attribute__((noinline)) void boost_query(const void *network, uint3
 namespace {
 
 // ---- time
-
-// Microseconds of f(i), on average over i below `inputs`: the best of several repeats for each i, so that another process that takes
-// the core for a while does not show. What `undo` does after each is not timed.
-double best(int repeats, int inputs, const std::function<void(int)> &f, const std::function<void(int)> &undo = [](int) {})
-{
-    double sum = 0;
-    for (int i = 0; i < inputs; i++) {
-        double least = 1e300;
-        for (int k = 0; k < repeats; k++) {
-            auto a = std::chrono::steady_clock::now();
-            f(i);
-            std::chrono::duration<double, std::micro> d = std::chrono::steady_clock::now() - a;
-            least = std::min(least, d.count());
-            undo(i);
-        }
-        sum += least;
-    }
-    return sum / inputs;
-}
-
-void same(const char *what, const std::vector<uint32_t> &a, const std::vector<uint32_t> &b)
-{
-    if (a != b) {
-        std::printf("bench: %s: the results differ\n", what);
-        std::exit(1);
-    }
-}
 
 void open_times(int repeats, uint32_t n, uint32_t edges)
 {
@@ -154,7 +51,6 @@ void open_times(int repeats, uint32_t n, uint32_t edges)
 
 void query_times(int repeats, uint32_t n, uint32_t edges)
 {
-    static const char *const names[] = {"time", "handovers", "headroom", "worst", "reach"};
     Network w = make(n, edges, 100);
     open(w);
     Both g = build(w);

@@ -1,8 +1,11 @@
 // Runs one thing alone on the first network of 256 vertices and 2,048 edges, to count its instructions: open, plain, batch1, batch10,
 // batch100, better1 to better100 and worse1 to worse100 (updates), bettertake1 to worsetake100 (a delete and an insert of the same pairs),
 // fixed (an update that changes nothing), each and eachtake (every edge alone, then the drawn retunes), query1 to query5 (from each vertex
-// in turn), read, readany, readplain, readanyplain, write, writeplain.
+// in turn), route1 to route5 (of each drawn pair), routefixed (from a vertex to itself), read, readany, readplain, readanyplain, write, writeplain.
+// drawn prints the network and the pairs for route.py.
 #include "network.h"
+
+#include <cstdio>
 
 namespace {
 
@@ -69,6 +72,24 @@ void queries_once(const Network &w, uint32_t property)
         query(w, property, s, starts, settled);
 }
 
+void routes_once(const Network &w, uint32_t property, const std::vector<Pair> &pairs)
+{
+    Route r(w.n);
+    for (Pair pair : pairs)
+        route(w, property, pair, r);
+}
+
+// How many vertices, edges and pairs, then a line for each edge and for each pair; vertices count from 0.
+void print_drawn(const Network &w)
+{
+    auto pairs = drawn_pairs(w);
+    std::printf("%u %u %zu\n", w.n, w.count, pairs.size());
+    for (uint32_t i = 0; i < w.count; i++)
+        std::printf("%u %u %u\n", w.tails[i], w.heads[i], w.weights[i]);
+    for (Pair pair : pairs)
+        std::printf("%u %u\n", pair.source, pair.target);
+}
+
 int once(const std::string &what)
 {
     Network w = make(256, 2048, 100);
@@ -89,6 +110,12 @@ int once(const std::string &what)
         batch(w, {{PLATE_TRACK_UPDATE, w.tails[0], w.heads[0], w.weights[0]}});
     else if (starts_with(what, "query"))
         queries_once(w, number_in(what));
+    else if (what == "routefixed")
+        routes_once(w, PLATE_TRACK_REACH, {{0, 0}});
+    else if (starts_with(what, "route"))
+        routes_once(w, number_in(what), drawn_pairs(w));
+    else if (what == "drawn")
+        print_drawn(w);
     return 0;
 }
 

@@ -113,6 +113,45 @@ void batch(Network &w, const Changes &changes)
     w.count = static_cast<uint32_t>(reply[0]);
 }
 
+// ---- routes
+
+struct Pair {
+    uint32_t source, target;
+};
+
+// The lists that are lent for a route, and how many vertices it has: 0 where there is none.
+struct Route {
+    uint32_t count = 0;
+    std::vector<uint32_t> vertices, marks;
+    explicit Route(uint32_t n) : vertices(n), marks(n) {}
+};
+
+void route(const Network &w, uint32_t property, Pair pair, Route &r)
+{
+    uint64_t reply[8];
+    uint32_t number = plate_track_route(w.n, w.tails.data(), w.tails.size(), w.heads.data(), w.heads.size(), w.weights.data(), w.weights.size(), w.count,
+                                        property, pair.source, pair.target, r.vertices.data(), r.vertices.size(), r.marks.data(), r.marks.size(), reply, 8);
+    if (number && number != PLATE_TRACK_NO_ROUTE)
+        std::abort();
+    r.count = number ? 0 : static_cast<uint32_t>(reply[PLATE_TRACK_ROUTE_VERTICES]);
+}
+
+// The 100 pairs whose routes are timed and counted: different vertices, with a route from source to target. Queries find these, so that no route is
+// asked for beside those that are counted.
+std::vector<Pair> drawn_pairs(const Network &w)
+{
+    Random r{7};
+    std::vector<Pair> list;
+    std::vector<uint32_t> starts(w.n), settled(w.n);
+    while (list.size() < 100) {
+        Pair pair{r.below(w.n), r.below(w.n)};
+        query(w, PLATE_TRACK_REACH, pair.source, starts, settled);
+        if (pair.source != pair.target && settled[pair.target] == 1)
+            list.push_back(pair);
+    }
+    return list;
+}
+
 // ---- text
 
 using Text = std::vector<uint8_t>;
