@@ -1,6 +1,6 @@
-//! Cases worked by hand from document 01 and from request One of document 02, one a line, in networks.txt and texts.txt; README.md has their layout. Each is made through the
-//! archive and through the reference of tests/differential: either must answer what the line says, and both must leave the same in every lent
-//! list. Prints how many cases of each group did, and each line that did not.
+//! Cases worked by hand from document 01 and from requests One and Two of document 02, one a line, in networks.txt and texts.txt; README.md has their
+//! layout. Each is made through the archive and through the reference of tests/differential: either must answer what the line says, and both must leave
+//! the same in every lent list. Prints how many cases of each group did, and each line that did not.
 
 #[path = "../differential/src/calls.rs"]
 mod calls;
@@ -19,7 +19,7 @@ use reference::{Network, M};
 const FILES: [(&str, &str); 2] = [("networks.txt", include_str!("networks.txt")), ("texts.txt", include_str!("texts.txt"))];
 
 /// The words that a line may say of what is lent; those of the second list have an index.
-const NAMES: &str = " full widest n count landmarks tails heads weights forward backward rows open delete property source schedule starts settled changes k side landmark room said lines sources ";
+const NAMES: &str = " full widest ascending descending n count landmarks tails heads weights forward backward rows open delete property source schedule starts settled changes k side landmark room said lines sources target vertices marks reply ";
 const PLACED: &str = " record change forward backward ";
 
 // ---- lines
@@ -56,6 +56,7 @@ fn call_named(name: &str) -> Option<Call> {
         "read" => Call::Read,
         "write" => Call::Write,
         "sources" => Call::ReadSources,
+        "route" => Call::Route,
         _ => return None,
     })
 }
@@ -67,9 +68,14 @@ fn number(word: &str) -> u32 {
     word.parse().unwrap_or_else(|_| panic!("no number: {word:?}"))
 }
 
-/// `0*7,4` is seven zeros and a 4.
+/// `0*7,4` is seven zeros and a 4; `1..3` is 1, 2, 3, and `3..1` the same downward.
 fn numbers(list: &str) -> Vec<u32> {
-    let part = |p: &str| p.split_once('*').map_or_else(|| vec![number(p)], |(v, k)| vec![number(v); number(k) as usize]);
+    let part = |p: &str| match (p.split_once('*'), p.split_once("..")) {
+        (Some((v, k)), _) => vec![number(v); number(k) as usize],
+        (_, Some((a, b))) if number(a) > number(b) => (number(b)..=number(a)).rev().collect(),
+        (_, Some((a, b))) => (number(a)..=number(b)).collect(),
+        _ => vec![number(p)],
+    };
     list.split(',').filter(|p| !p.is_empty()).flat_map(part).collect()
 }
 
@@ -189,6 +195,10 @@ impl Line {
             (0..2_049).map(full_record).collect()
         } else if self.has("widest") {
             (99..256).flat_map(|t| (99..256).filter(move |&h| h != t).map(move |h| [t, h, 65_535])).take(2_048).collect()
+        } else if self.has("ascending") {
+            (0..255).map(|t| [t, t + 1, 65_535]).collect()
+        } else if self.has("descending") {
+            (1..256).map(|t| [t, t - 1, 65_535]).collect()
         } else {
             DECK_A.to_vec()
         };
@@ -199,9 +209,14 @@ impl Line {
         records
     }
 
-    /// Deck A with landmark 0, or a full table, but for what the line says. Row words are 7.
+    /// Deck A with landmark 0, or the table of 256 vertices that the line names, but for what it says beside. Row words are 7.
     fn network(&self) -> Network {
-        let (n, count, rows) = if self.has("full") || self.has("widest") { (256, 2_048, 1_280) } else { (4, 5, 20) };
+        let named = |names: [&str; 2]| names.iter().any(|name| self.has(name));
+        let (n, count, rows) = match (named(["full", "widest"]), named(["ascending", "descending"])) {
+            (true, _) => (256, 2_048, 1_280),
+            (_, true) => (256, 255, 1_280),
+            _ => (4, 5, 20),
+        };
         let records = self.records();
         let column = |name: &str, i: usize| records.iter().map(|r| r[i]).take(self.number(name, 2_048) as usize).collect();
         let row_list = |name: &str| vec![7; self.number(name, self.number("rows", rows)) as usize];
@@ -259,9 +274,13 @@ impl Line {
             w.backward[i] = word[0];
         }
         let answer = |name: &str| vec![7; self.number(name, self.number("n", w.n).min(257)) as usize];
-        let mut c = Case { starts: answer("starts"), settled: answer("settled"), ..Case::new(self.call, w) };
+        let lists = ["starts", "settled", "vertices", "marks"].map(answer);
+        let mut c = Case::new(self.call, w);
+        [c.starts, c.settled, c.vertices, c.marks] = lists;
+        c.reply.truncate(self.number("reply", 8) as usize);
         c.property = self.number("property", 1);
         c.source = self.number("source", 0);
+        c.target = self.number("target", 2);
         c.schedule = self.value("schedule").map_or(vec![], numbers);
         c.k = self.number("k", 4);
         c.side = self.number("side", 0);
@@ -290,10 +309,13 @@ impl Line {
         let (verdict, rest) = self.said.split_first().expect("what is expected");
         if verdict.name != "ok" {
             let mut kept = before.clone();
-            kept.reply[0] = rest.first().map_or(0, |place| u64::from(number(&place.name)));
+            // a reply list that is too short gets no place
+            if kept.reply.len() >= 8 {
+                kept.reply[0] = rest.first().map_or(0, |place| u64::from(number(&place.name)));
+            }
             let said = number(&verdict.name);
-            if *number_given != said || after.reply[0] != kept.reply[0] {
-                return Some(format!("number {number_given} at {}", after.reply[0]));
+            if *number_given != said || after.reply.first() != kept.reply.first() {
+                return Some(format!("number {number_given}, reply {:?}", after.reply));
             }
             return (*after != kept).then(|| "refused, and a lent word is another".into());
         }
@@ -306,7 +328,7 @@ impl Line {
                 let read = (0..after.reply[1] as usize).all(|i| [after.network.tails[i], after.network.heads[i], after.network.weights[i]] == records[i]);
                 (!read).then(|| "other records".into())
             }
-            (reply, "") => unlike_words("reply", 0, &numbers(reply), &list(after, "reply"), None),
+            (reply, "") if reply.starts_with(|c: char| c.is_ascii_digit()) => unlike_words("reply", 0, &numbers(reply), &list(after, "reply"), None),
             (name, value) => {
                 let want = if value.starts_with('"') { bytes(value).into_iter().map(u32::from).collect() } else { numbers(value) };
                 let was = w.index.is_none().then(|| list(before, name));
@@ -334,6 +356,8 @@ fn list(c: &Case, name: &str) -> Vec<u32> {
         "starts" => &c.starts,
         "settled" => &c.settled,
         "sources" => &c.sources,
+        "vertices" => &c.vertices,
+        "marks" => &c.marks,
         "tails" => &w.tails,
         "heads" => &w.heads,
         "weights" => &w.weights,

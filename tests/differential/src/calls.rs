@@ -51,13 +51,15 @@ pub fn call(case: &Case, salt: u32) -> Result<(u32, Case), String> {
     let mut changes = Lent::new(&case.changes, [salt, !salt, salt, !salt]);
     let mut text = Lent::new(&case.text, salt as u8);
     let mut sources = Lent::new(&case.sources, salt);
+    let mut vertices = Lent::new(&case.vertices, !salt);
+    let mut marks = Lent::new(&case.marks, salt);
     let mut reply = Lent::new(&case.reply, u64::from(salt) << 20);
     macro_rules! lend {
         ($($list:ident)*) => { $(let $list = $list.lend();)* };
     }
     let answer = {
         let (n, count) = (w.n, w.count);
-        lend!(landmarks tails heads weights forward backward schedule starts settled changes text sources reply);
+        lend!(landmarks tails heads weights forward backward schedule starts settled changes text sources vertices marks reply);
         match case.call {
             Call::Open => plate_track::open(n, landmarks, tails, heads, weights, count, forward, backward, reply),
             Call::Query => plate_track::query(
@@ -70,6 +72,7 @@ pub fn call(case: &Case, salt: u32) -> Result<(u32, Case), String> {
             Call::Read => plate_track::read(text, tails, heads, weights, reply),
             Call::Write => plate_track::write(n, tails, heads, weights, count, text, reply),
             Call::ReadSources => plate_track::read_sources(text, n, sources, reply),
+            Call::Route => plate_track::route(n, tails, heads, weights, count, case.property, case.source, case.target, vertices, marks, reply),
         }
     };
     let number = answer.err().map_or(plate_track::ACCEPTED, |refused| refused.number);
@@ -78,7 +81,7 @@ pub fn call(case: &Case, salt: u32) -> Result<(u32, Case), String> {
             return Err(format!("words beside the list {} were touched", stringify!($list)));
         })* };
     }
-    guarded!(landmarks tails heads weights forward backward schedule starts settled changes text sources reply);
+    guarded!(landmarks tails heads weights forward backward schedule starts settled changes text sources vertices marks reply);
     let mut after = case.clone();
     after.network.landmarks.copy_from_slice(landmarks.list());
     after.network.tails.copy_from_slice(tails.list());
@@ -92,6 +95,8 @@ pub fn call(case: &Case, salt: u32) -> Result<(u32, Case), String> {
     after.changes.copy_from_slice(changes.list());
     after.text.copy_from_slice(text.list());
     after.sources.copy_from_slice(sources.list());
+    after.vertices.copy_from_slice(vertices.list());
+    after.marks.copy_from_slice(marks.list());
     after.reply.copy_from_slice(reply.list());
     Ok((number, after))
 }

@@ -13,6 +13,7 @@ pub enum Call {
     Read,
     Write,
     ReadSources,
+    Route,
 }
 
 /// Every list that any call takes; a call reads and writes its own.
@@ -31,6 +32,9 @@ pub struct Case {
     pub landmark: u32,
     pub text: Vec<u8>,
     pub sources: Vec<u32>,
+    pub target: u32,
+    pub vertices: Vec<u32>,
+    pub marks: Vec<u32>,
     pub reply: Vec<u64>,
 }
 
@@ -50,6 +54,9 @@ impl Case {
             landmark: 0,
             text: vec![],
             sources: vec![],
+            target: 0,
+            vertices: vec![],
+            marks: vec![],
             reply: vec![7; 8],
         }
     }
@@ -71,6 +78,7 @@ impl Case {
             Call::Read => reference::read(&c.text, &mut c.network.tails, &mut c.network.heads, &mut c.network.weights),
             Call::Write => reference::write(&c.network, &mut c.text),
             Call::ReadSources => reference::read_sources(&c.text, c.network.n, &mut c.sources),
+            Call::Route => reference::route(&c.network, c.property, c.source, c.target, &mut c.vertices, &mut c.marks),
         };
         match answer {
             Ok(words) => {
@@ -113,6 +121,8 @@ pub fn difference(expected: &(u32, Case), real: &(u32, Case)) -> Option<String> 
     list(&mut told, "changes", &a.changes, &b.changes);
     list(&mut told, "text", &a.text, &b.text);
     list(&mut told, "sources", &a.sources, &b.sources);
+    list(&mut told, "vertices", &a.vertices, &b.vertices);
+    list(&mut told, "marks", &a.marks, &b.marks);
     Some(told.join("; "))
 }
 
@@ -135,10 +145,11 @@ pub fn describe(c: &Case) -> String {
     for (name, list) in [("tails", &w.tails), ("heads", &w.heads), ("weights", &w.weights), ("forward", &w.forward), ("backward", &w.backward)] {
         s += &format!("{name} ({} words) {}\n", list.len(), short(list));
     }
-    s += &format!("property {} source {} k {} side {} landmark {}\n", c.property, c.source, c.k, c.side, c.landmark);
+    s += &format!("property {} source {} target {} k {} side {} landmark {}\n", c.property, c.source, c.target, c.k, c.side, c.landmark);
     s += &format!("schedule ({}) {}\n", c.schedule.len(), short(&c.schedule));
     s += &format!("changes ({}) {}\n", c.changes.len(), short(&c.changes));
     s += &format!("starts ({}), settled ({}), sources ({}), reply ({}) {:?}\n", c.starts.len(), c.settled.len(), c.sources.len(), c.reply.len(), c.reply);
+    s += &format!("vertices ({}) {}\nmarks ({}) {}\n", c.vertices.len(), short(&c.vertices), c.marks.len(), short(&c.marks));
     s += &format!("text ({} bytes) {:?}\n", c.text.len(), String::from_utf8_lossy(&c.text));
     s
 }

@@ -463,6 +463,12 @@ pub fn case(r: &mut Random, call: Call, w: &Network, bad: bool) -> Case {
             c.text = source_text(r, n, bad);
             c.sources = out_list(r, 256);
         }
+        Call::Route => {
+            c.source = r.below(n);
+            c.target = if r.one_in(12) { c.source } else { r.below(n) };
+            c.vertices = out_list(r, n as usize);
+            c.marks = out_list(r, n as usize);
+        }
         Call::Open | Call::Settled => {}
     }
     c
@@ -501,7 +507,7 @@ pub fn damage(r: &mut Random, c: &mut Case) {
     for _ in 0..r.pick(&[1, 1, 1, 2, 3]) {
         let (n, k) = (c.network.n, c.network.landmarks.len());
         let rows = (k * 5).saturating_mul(n as usize).min(6_000);
-        match r.below(17) {
+        match r.below(19) {
             0 => c.network.n = r.pick(&[0, 257, M, n.wrapping_add(1), n.wrapping_sub(1), 256, 1]),
             1 => {
                 let list = match r.below(3) {
@@ -555,6 +561,15 @@ pub fn damage(r: &mut Random, c: &mut Case) {
                     c.side = r.pick(&[2, M, 1]);
                 } else {
                     c.landmark = r.pick(&[n, M, 0, n.wrapping_sub(1)]);
+                }
+            }
+            16 => c.target = r.pick(&[n, M, n.wrapping_sub(1), 0]),
+            17 => {
+                let least = n.min(300) as usize;
+                if r.one_in(2) {
+                    shorten(r, &mut c.vertices, least);
+                } else {
+                    shorten(r, &mut c.marks, least);
                 }
             }
             _ => shorten(r, &mut c.sources, 256),

@@ -4,7 +4,7 @@
 use crate::case::{Call, Case};
 use crate::random::Random;
 use crate::reference::{self, Change, Edge, Network};
-use crate::{check, generate, unlike_now, Counts, Failure};
+use crate::{check, generate, unlike_now, value_told, Counts, Failure};
 
 const HISTORIES: u64 = 200;
 const BATCHES: u32 = 5;
@@ -52,6 +52,23 @@ impl Followed<'_> {
         Ok(())
     }
 
+    /// Every property from these sources to these targets: the value along a route is the query's settled word.
+    fn routes(&mut self, sources: &[u32], targets: &[u32]) -> Held {
+        for p in 1..=5 {
+            for &source in sources {
+                let asked = Case { property: p, source, schedule: vec![], ..self.drawn(Call::Query) };
+                let settled = self.accepted(&asked)?.settled;
+                for &target in targets {
+                    let c = Case { property: p, source, target, ..self.drawn(Call::Route) };
+                    let (number, after) = self.call(&c)?;
+                    hold(&c, matches!(number, 0 | 15), "a good call is refused")?;
+                    hold(&c, value_told(number, &after) == Some(settled[target as usize]), "the value along a route is not the settled word")?;
+                }
+            }
+        }
+        Ok(())
+    }
+
     /// Every row of both sides.
     fn rows(&mut self) -> Held {
         for landmark in self.w.landmarks.clone() {
@@ -84,8 +101,8 @@ impl Followed<'_> {
         self.call(&c).map(|_| ())
     }
 
-    /// All that can be asked of a state.
-    fn state(&mut self, sources: &[u32]) -> Held {
+    /// All that can be asked of a state, from these sources to these targets.
+    fn state(&mut self, sources: &[u32], targets: &[u32]) -> Held {
         let c = self.drawn(Call::Settled);
         let said = unlike_now(&self.w, &self.now);
         hold(&c, said.is_none(), said.as_deref().unwrap_or_default())?;
@@ -96,6 +113,7 @@ impl Followed<'_> {
             self.accepted(&c)?;
         }
         self.queries(sources)?;
+        self.routes(sources, targets)?;
         self.rows()?;
         self.texts()
     }
@@ -136,12 +154,12 @@ fn drawn(mut r: Random, counts: &mut Counts) -> Held {
     let mut f = Followed { now: w.edges(), r, w, counts };
     let all: Vec<u32> = (0..f.w.n).collect();
     f.open()?;
-    f.state(&all)?;
+    f.state(&all, &all)?;
     for _ in 0..BATCHES {
         let bad = f.r.one_in(4);
         let changes = generate::changes(&mut f.r, &f.w, bad);
         f.batch(changes)?;
-        f.state(&all)?;
+        f.state(&all, &all)?;
     }
     Ok(())
 }
@@ -153,15 +171,16 @@ fn full(mut r: Random, counts: &mut Counts) -> Held {
     let mut f = Followed { now: w.edges(), r, w, counts };
     let pairs: Vec<(u32, u32)> = f.now.iter().step_by(2).map(|e| (e.tail, e.head)).collect();
     let sources = [77, f.w.landmarks[3]];
+    let targets: Vec<u32> = (0..256).step_by(15).collect();
     f.open()?;
-    f.state(&sources)?;
+    f.state(&sources, &targets)?;
     f.batch(pairs.iter().map(|&(t, h)| [2, t, h, 0]).collect())?;
-    f.state(&sources)?;
+    f.state(&sources, &targets)?;
     f.batch(pairs.iter().map(|&(t, h)| [1, t, h, 7 + t]).collect())?;
-    f.state(&sources)?;
+    f.state(&sources, &targets)?;
     let others: Vec<Edge> = f.now.iter().skip(1).step_by(2).copied().collect();
     f.batch(others.iter().enumerate().map(|(i, e)| [3, e.tail, e.head, [2 * e.weight, 1 + e.weight / 2, e.weight][i % 3]]).collect())?;
-    f.state(&sources)
+    f.state(&sources, &targets)
 }
 
 /// Every history of a seed; the number of the first that fails.

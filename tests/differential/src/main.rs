@@ -25,6 +25,9 @@ use std::time::Instant;
 /// The calls of the gate: about a minute.
 const SHORT: u64 = 1_500_000;
 
+/// The most vertices at which every walk is listed.
+const LISTED: u32 = 5;
+
 /// How many calls of each kind were accepted or refused with each number.
 #[derive(Default)]
 struct Counts {
@@ -33,6 +36,7 @@ struct Counts {
     histories: u64,
     batches: u64,
     updates: u64,
+    listed: u64,
 }
 
 struct Failure {
@@ -49,20 +53,53 @@ fn check(case: &Case, salt: u32, counts: &mut Counts) -> Result<(u32, Case), Box
     if let Some(said) = difference(&expected, &real) {
         return Err(fail(said));
     }
+    if case.call == Call::Route && matches!(real.0, 0 | 15) {
+        let few = case.network.n <= LISTED;
+        if let Some(said) = unlike_best(real.0, &real.1, few) {
+            return Err(fail(said.into()));
+        }
+        counts.listed += u64::from(few);
+    }
     *counts.by.entry((format!("{:?}", case.call), real.0)).or_default() += 1;
     Ok(real)
 }
 
+/// What a call of a route that is accepted or refused with 15 says the value to be: that along the vertices it wrote, none where they are no route from
+/// source to target; or the no-route word.
+fn value_told(number: u32, after: &Case) -> Option<u32> {
+    if number == 15 {
+        return Some(reference::no_route(after.property));
+    }
+    let edges = after.network.edges();
+    let vertices = &after.vertices[..after.reply[0] as usize];
+    let joined = |pair: &[u32]| edges.iter().find(|e| [e.tail, e.head] == *pair).copied();
+    let route: Vec<reference::Edge> = vertices.windows(2).map(joined).collect::<Option<_>>()?;
+    let leads = vertices.first() == Some(&after.source) && vertices.last() == Some(&after.target);
+    leads.then(|| reference::value_along(after.property, &route))
+}
+
+/// Says where a route is not of the best value, which is reckoned without routes, or where the reference's two ways to it differ.
+fn unlike_best(number: u32, after: &Case, few: bool) -> Option<&'static str> {
+    let (n, p, edges) = (after.network.n, after.property, after.network.edges());
+    let best = reference::best_values(p, n, &edges, after.source)[after.target as usize];
+    if value_told(number, after) != Some(best) {
+        return Some("the value along the route is not the best value");
+    }
+    let ways = [reference::route_by_lengths, reference::route_by_listing].map(|way| few.then(|| way(p, n, &edges, after.source, after.target)));
+    (ways[0] != ways[1]).then_some("the route by lengths is not the one by listing every walk")
+}
+
 fn kind(r: &mut Random) -> Call {
     match r.below(100) {
-        0..=33 => Call::Query,
-        34..=64 => Call::Batch,
-        65..=71 => Call::Settled,
-        72..=77 => Call::Choose,
-        78..=83 => Call::Row,
-        84..=87 => Call::Open,
-        88..=92 => Call::Read,
-        93..=95 => Call::Write,
+        0..=29 => Call::Query,
+        30..=57 => Call::Batch,
+        58..=69 => Call::Route,
+        70..=75 => Call::Settled,
+        76..=80 => Call::Choose,
+        81..=85 => Call::Row,
+        86..=89 => Call::Open,
+        90..=93 => Call::Read,
+        94..=96 => Call::Write,
         _ => Call::ReadSources,
     }
 }
@@ -163,8 +200,8 @@ fn session(seed: u64, number: u64, counts: &mut Counts, tell: bool) -> Result<()
 fn report(counts: &Counts, began: Instant) {
     let took = began.elapsed().as_secs_f64();
     println!(
-        "{} calls on {} networks, {} batches accepted with {} updates, {:.1} s, {:.0} calls a second",
-        counts.calls, counts.histories, counts.batches, counts.updates, took, counts.calls as f64 / took
+        "{} calls on {} networks, {} batches accepted with {} updates, {} routes listed, {:.1} s, {:.0} calls a second",
+        counts.calls, counts.histories, counts.batches, counts.updates, counts.listed, took, counts.calls as f64 / took
     );
     let mut kinds: Vec<&str> = counts.by.keys().map(|k| k.0.as_str()).collect();
     kinds.dedup();

@@ -1,4 +1,4 @@
-//! An independent implementation of document 01 with request One of document 02, written from the documents alone and for plainness: no bit words, no index beyond a
+//! An independent implementation of document 01 with requests One and Two of document 02, written from the documents alone and for plainness: no bit words, no index beyond a
 //! list of edges for each vertex, no scratch that is shared. Each call takes what the call takes and answers number and place, or
 //! the words of its reply; what it lends is changed only where it accepts.
 
@@ -528,6 +528,127 @@ pub fn row(w: &Network, side: u32, landmark: u32, p: u32) -> Answer<Vec<u64>> {
         return refuse(5, 0);
     }
     Ok(vec![w.row_start(at.unwrap(), p) as u64])
+}
+
+// ---- the route behind a value
+
+/// The best value over the walks of exactly k edges from each vertex to the target, for every k below n; none where there is no such walk. A route with
+/// the fewest edges passes no vertex twice, so that longer ones need not be looked at. Values of walks are met from their last edge back: sums, lesser
+/// and greater do not go by order.
+fn exact_lengths(p: u32, n: u32, edges: &[Edge], target: u32) -> Vec<Vec<Option<u32>>> {
+    let mut table = vec![vec![None; n as usize]];
+    table[0][target as usize] = Some(source_value(p));
+    for k in 1..n as usize {
+        let mut row: Vec<Option<u32>> = vec![None; n as usize];
+        for e in edges {
+            let value = table[k - 1][e.head as usize].map(|rest| along(p, rest, e.weight));
+            let word = &mut row[e.tail as usize];
+            if value.is_some_and(|v| word.is_none_or(|best| better(p, v, best))) {
+                *word = value;
+            }
+        }
+        table.push(row);
+    }
+    table
+}
+
+/// The edges of the route, or none where no route leads to the target. Its length is the least at which the best value of all lengths is met; each step
+/// then goes to the lowest vertex from which the edges that are left can still end with that value: the best they have by themselves, joined with the
+/// running value, is the best they can end with.
+pub fn route_by_lengths(p: u32, n: u32, edges: &[Edge], source: u32, target: u32) -> Option<Vec<Edge>> {
+    let table = exact_lengths(p, n, edges, target);
+    let of_length = |k: usize| table[k][source as usize];
+    let best = (0..n as usize).filter_map(of_length).reduce(|a, b| if better(p, b, a) { b } else { a })?;
+    let length = (0..n as usize).find(|&k| of_length(k) == Some(best))?;
+    let (mut at, mut value) = (source, source_value(p));
+    let mut route = Vec::new();
+    for left in (0..length).rev() {
+        let keeps = |e: &&Edge| table[left][e.head as usize].is_some_and(|rest| join(p, along(p, value, e.weight), rest) == best);
+        let step = *edges.iter().filter(|e| e.tail == at).filter(keeps).min_by_key(|e| e.head)?;
+        (at, value) = (step.head, along(p, value, step.weight));
+        route.push(step);
+    }
+    Some(route)
+}
+
+/// The vertices of a route: the source, then the head of each edge.
+fn visited(source: u32, route: &[Edge]) -> Vec<u32> {
+    std::iter::once(source).chain(route.iter().map(|e| e.head)).collect()
+}
+
+/// The value of a route: "starts at the source's and goes along".
+pub fn value_along(p: u32, route: &[Edge]) -> u32 {
+    route.iter().fold(source_value(p), |value, e| along(p, value, e.weight))
+}
+
+/// The same route by listing every walk of fewer than n edges and choosing in document 02's words: a best one, "the fewest segments, then the lowest
+/// station at the first place where two differ". For a few vertices only.
+pub fn route_by_listing(p: u32, n: u32, edges: &[Edge], source: u32, target: u32) -> Option<Vec<Edge>> {
+    let mut walks: Vec<Vec<Edge>> = vec![vec![]];
+    let mut longest = 0..walks.len();
+    for _ in 1..n {
+        for i in longest.clone() {
+            let end = walks[i].last().map_or(source, |e| e.head);
+            for &e in edges.iter().filter(|e| e.tail == end) {
+                walks.push([&walks[i][..], &[e]].concat());
+            }
+        }
+        longest = longest.end..walks.len();
+    }
+    let mut there: Vec<Vec<Edge>> = walks.into_iter().filter(|walk| visited(source, walk).last() == Some(&target)).collect();
+    let values: Vec<u32> = there.iter().map(|walk| value_along(p, walk)).collect();
+    there.retain(|walk| !values.iter().any(|&v| better(p, v, value_along(p, walk))));
+    there.into_iter().min_by_key(|walk| (walk.len(), visited(source, walk)))
+}
+
+/// For each edge of a route 1 where it set the value and 0 where it passed it on: "for headroom and worst stretch it sets where the running value changes,
+/// for time and handovers always, for reach never".
+pub fn marks_of(p: u32, route: &[Edge]) -> Vec<u32> {
+    let mut value = source_value(p);
+    let mut marks = Vec::new();
+    for e in route {
+        let next = along(p, value, e.weight);
+        let sets = match p {
+            1 | 2 => true,
+            3 | 4 => next != value,
+            _ => false,
+        };
+        marks.push(u32::from(sets));
+        value = next;
+    }
+    marks
+}
+
+/// Only n, the table and the count of `w` are taken.
+pub fn route(w: &Network, p: u32, source: u32, target: u32, vertices: &mut [u32], marks: &mut [u32]) -> Answer<Vec<u64>> {
+    let n = w.n as usize;
+    if w.bad_size() {
+        return refuse(1, 0);
+    }
+    if w.short_table() || vertices.len() < n || marks.len() < n {
+        return refuse(2, 0);
+    }
+    if let Some(place) = w.bad_table() {
+        return refuse(4, place);
+    }
+    if !(1..=5).contains(&p) {
+        return refuse(5, 0);
+    }
+    if source >= w.n || target >= w.n {
+        return refuse(6, 0);
+    }
+    let edges = w.edges();
+    let Some(found) = route_by_lengths(p, w.n, &edges, source, target) else {
+        return refuse(15, 0);
+    };
+    let through = visited(source, &found);
+    for (word, v) in vertices.iter_mut().zip(&through) {
+        *word = *v;
+    }
+    for (word, mark) in marks.iter_mut().zip(marks_of(p, &found)) {
+        *word = mark;
+    }
+    Ok(vec![through.len() as u64])
 }
 
 // ---- text
