@@ -1,4 +1,4 @@
-// Refusals 2 and 3 of a network, the chains of refusals that its calls share, and the rows: where one starts, its property, its landmark.
+// Refusals 2 and 3 of a network and of the lists for an answer, the chains of refusals that its calls share, and the rows: where one starts, its property, its landmark.
 use graph::Judged;
 use graph::rules;
 use property::PROPERTIES;
@@ -13,7 +13,7 @@ ghost use Rattle.graph.specs.Table.{shortTable, table};
 ghost use Rattle.graph.specs.Code.{told, Room, columns};
 ghost use Rattle.network.specs.Network.{isIn, areLandmarks, shortRows};
 ghost use Rattle.network.specs.Network as number;
-ghost use Rattle.network.specs.Query.{rowAt};
+ghost use Rattle.network.specs.Query.{shortWords, rowAt};
 ghost use Rattle.calls.specs.Code.{rowLists, network};
 
 // Whether `v` is among the vertices from index `from` on.
@@ -142,6 +142,14 @@ pub fn judge_all(
         return lists;
     };
     judge_network(n, landmarks, tails, heads, weights, count)
+}
+
+// Number 2: of two lists lent for the answer one has fewer than `n` words.
+pub fn judge_outputs(n: u32, a: usize, b: usize) -> Judged
+    ensures { λ r. ⌜ told r ≡ shortWords n a b ⌝ }
+{
+    let words = n as usize;
+    rules::refuse_if((a < words) | (b < words), 2, 0)
 }
 
 // Whether `p` is the number of a property.

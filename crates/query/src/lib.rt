@@ -16,7 +16,7 @@ ghost use Rattle.graph.specs.Code.{told};
 ghost use Rattle.graph.specs.Index.{Fit, Own};
 ghost use Rattle.run.specs.Code.{Scheduled};
 ghost use Rattle.run.specs.Start as start;
-ghost use Rattle.network.specs.Query.{scheduled, longSchedule, shortWords, requested, queryFaults, queryCall};
+ghost use Rattle.network.specs.Query.{scheduled, longSchedule, requested, queryFaults, queryCall};
 ghost use Rattle.calls.specs.Code.{network};
 ghost use Rattle.query.specs.Code.{asking, wordsOf, asOutcome, runFrom, Ended, knownBy, Rowed};
 
@@ -49,14 +49,6 @@ fn judge_sizes(n: u32, entries: usize) -> Judged
         return size;
     };
     rules::refuse_if(entries > graph::MAX_SCHEDULE, 1, 0)
-}
-
-// Number 2: a list lent for the answer has fewer than `n` words.
-fn judge_outputs(n: u32, starts: usize, settled: usize) -> Judged
-    ensures { λ r. ⌜ told r ≡ shortWords n starts settled ⌝ }
-{
-    let words = n as usize;
-    rules::refuse_if((starts < words) | (settled < words), 2, 0)
 }
 
 // Numbers 5 and 6: no property, a source or an entry of the schedule that is no vertex.
@@ -98,7 +90,7 @@ fn judge_query(
     let Judged::Fine = lists else {
         return lists;
     };
-    let outputs = judge_outputs(n, starts, settled);
+    let outputs = calls::judge_outputs(n, starts, settled);
     let Judged::Fine = outputs else {
         return outputs;
     };

@@ -1,6 +1,7 @@
 -- What the functions of a route take and answer. Assumes nothing.
 --
 --   requesting p s t      == numbers as a request
+--   requestOf r           == the program's request as one
 --   answerOf xs ys        == two lists as those lent for the answer
 --   routing r             == the program's reply as document 02's
 --   routeOutcome r xs ys  == the program's reply r and the two lists at exit, as an outcome
@@ -28,12 +29,16 @@ use Rattle.graph.specs.Code.{equal}
 use Rattle.graph.specs.Trail.{visited}
 use Rattle.answers.specs.Routing.{Request, Answer, preferred, noRoute, withRoute}
 use Rattle.calls.specs.Code.{Tabled}
+use Rattle.routing.specs.declared.Request as declared
 use Rattle.routing.specs.declared.Routed.{Routed}
 use Rattle.routing.specs.declared.Routed.the-variants.{Vertices, Refused}
 use Rattle.routing.specs.Search.{unfound, Search}
 
 abbrev pub requesting : ℕ → ℕ → ℕ → Request
 requesting p s t = record { property = p; source = s; target = t }
+
+abbrev pub requestOf : declared.Request → Request
+requestOf r = requesting (r .property) (r .source) (r .target)
 
 abbrev pub answerOf : List ℕ → List ℕ → Answer
 answerOf xs ys = record { vertices = xs; marks = ys }

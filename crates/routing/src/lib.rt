@@ -8,7 +8,14 @@ ghost use mathlib.Core.Path.{_≡_};
 ghost use lib.ListN.{length};
 ghost use Rattle.graph.specs.Code.{told, columns};
 ghost use Rattle.answers.specs.Routing.{routeFaults, routeCall};
-ghost use Rattle.routing.specs.Code.{requesting, answerOf, routeOutcome, unfaulted, Routable};
+ghost use Rattle.routing.specs.Code.{requesting, requestOf, answerOf, routeOutcome, unfaulted, Routable};
+
+// What is asked: the route for a property from a source to a target.
+struct Request {
+    property: u32,
+    source: u32,
+    target: u32,
+}
 
 // The reply to a request for a route: how many vertices it has.
 pub enum Routed {
@@ -23,24 +30,21 @@ fn judge_route(
     heads: &[u32],
     weights: &[u32],
     count: u32,
-    property: u32,
-    source: u32,
-    target: u32,
+    request: Request,
     vertices: usize,
     marks: usize,
 ) -> Judged
-    ensures { λ r. ⌜ told r ≡ routeFaults n (columns (now (tails .entry)) (now (heads .entry)) (now (weights .entry))) count (requesting property source target) vertices marks ⌝ }
+    ensures { λ r. ⌜ told r ≡ routeFaults n (columns (now (tails .entry)) (now (heads .entry)) (now (weights .entry))) count (requestOf request) vertices marks ⌝ }
 {
-    let words = n as usize;
-    let short = rules::refuse_if((vertices < words) | (marks < words), 2, 0);
-    let bare = rules::judge_bare(n, tails, heads, weights, count, short);
+    let outputs = calls::judge_outputs(n, vertices, marks);
+    let bare = rules::judge_bare(n, tails, heads, weights, count, outputs);
     let Judged::Fine = bare else {
         return bare;
     };
-    if !calls::is_property(property) {
+    if !calls::is_property(request.property) {
         return Judged::Refused(5, 0);
     }
-    rules::refuse_if(!((source < n) & (target < n)), 6, 0)
+    rules::refuse_if(!((request.source < n) & (request.target < n)), 6, 0)
 }
 
 // The route of a request that numbers 1 to 6 let pass: 15, or its vertices and marks are written. `via` is scratch.
@@ -50,22 +54,23 @@ fn find_route(
     heads: &[u32],
     weights: &[u32],
     count: usize,
-    property: u32,
-    source: u32,
-    target: u32,
+    request: Request,
     via: &mut [u32],
     vertices: &mut [u32],
     marks: &mut [u32],
 ) -> Routed
-    requires { ⌜ Routable n count property source target (now tails) (now heads) (now weights) (now vertices) (now marks) × (length (now via) ≡ n) ⌝ }
-    ensures { λ r. ⌜ routeOutcome r (now (vertices .exit)) (now (marks .exit)) ≡ unfaulted n (columns (now (tails .entry)) (now (heads .entry)) (now (weights .entry))) count (requesting property source target) (answerOf (now (vertices .entry)) (now (marks .entry))) ⌝ }
+    requires { ⌜ Routable n count (request .property) (request .source) (request .target) (now tails) (now heads) (now weights) (now vertices) (now marks) × (length (now via) ≡ n) ⌝ }
+    ensures { λ r. ⌜ routeOutcome r (now (vertices .exit)) (now (marks .exit)) ≡ unfaulted n (columns (now (tails .entry)) (now (heads .entry)) (now (weights .entry))) count (requestOf request) (answerOf (now (vertices .entry)) (now (marks .entry))) ⌝ }
 {
+    let p = request.property;
+    let source = request.source;
+    let target = request.target;
     let s = source as usize;
     let t = target as usize;
-    if !search::find(property, n, s, t, count, tails, heads, weights, via) {
+    if !search::find(p, n, s, t, count, tails, heads, weights, via) {
         return Routed::Refused(15, 0);
     }
-    Routed::Vertices(write::write_route(property, source, target, via, vertices, marks))
+    Routed::Vertices(write::write_route(p, source, target, via, vertices, marks))
 }
 
 // The route from source to target: refused, or its vertices and marks are written to their lists; words past them stay.
@@ -83,15 +88,18 @@ pub fn route(
 ) -> Routed
     ensures { λ r. ⌜ routeOutcome r (now (vertices .exit)) (now (marks .exit)) ≡ routeCall n (columns (now (tails .entry)) (now (heads .entry)) (now (weights .entry))) count (requesting property source target) (answerOf (now (vertices .entry)) (now (marks .entry))) ⌝ }
 {
+    let request = Request {
+        property,
+        source,
+        target,
+    };
     let judged = judge_route(
         n,
         tails,
         heads,
         weights,
         count,
-        property,
-        source,
-        target,
+        request,
         vertices.len(),
         marks.len(),
     );
@@ -106,9 +114,7 @@ pub fn route(
         heads,
         weights,
         count as usize,
-        property,
-        source,
-        target,
+        request,
         &mut via[..size],
         vertices,
         marks,

@@ -5,7 +5,7 @@ use Rattle.graph.specs.Table.{Columns}
 use Rattle.graph.specs.Code.{columns}
 use Rattle.answers.specs.Routing.{Request, preferred}
 use Rattle.routing.specs.Search.{isUnfound, searched}
-use Rattle.routing.specs.Code.{requesting, Trace}
+use Rattle.routing.specs.Code.{requestOf, Trace}
 use Rattle.routing.proofs.Answering.{routable-asked, told-lacks, told-finds, lacks-route, some-route, found-preferred, route-lacking, route-written}
 use Rattle.routing.proofs.find_route.Statement.{statement}
 use Rattle.routing.proofs.find_route.Tie as tie
@@ -17,7 +17,7 @@ abbrev table : tie.Start → Columns
 table s = columns (s .args .tails .now) (s .args .heads .now) (s .args .weights .now)
 
 abbrev asked : tie.Start → Request
-asked s = requesting (s .args .property) (s .args .source) (s .args .target)
+asked s = requestOf (s .args .request)
 
 find-requires : tie.Need-find-requires
 find-requires c κs =
@@ -33,16 +33,16 @@ returns c =
     (lacks-route (s .args .n) (table s) (s .args .count) (asked s) (routable-asked (s .pre .0)) (told-lacks _ _ (f .find .ensures .1) (c .if1 .taken)))
 
 finds : (c : tie.Else1) → let s = begin (c .before .before .before) in
-    isUnfound (searched (s .args .property) (edges (s .args .tails .now) (s .args .heads .now) (s .args .weights .now) (s .args .count)) (s .args .n) (s .args .source) (s .args .target)) (s .args .target) ≡ false
+    isUnfound (searched (s .args .request .property) (edges (s .args .tails .now) (s .args .heads .now) (s .args .weights .now) (s .args .count)) (s .args .n) (s .args .request .source) (s .args .request .target)) (s .args .request .target) ≡ false
 finds c = told-finds _ _ (c .before .before .before .find .ensures .1) (c .if1 .left)
 
 -- the words that the search left lead back along the preferred route
 traces : (c : tie.Else1) → let f = c .before .before .before in let s = begin f in
-    Trace (s .args .source) (s .args .target) (f .find .last .1 .1 .1 .1 .1 .1 .1 .1 .0) (preferred (s .args .n) (table s) (s .args .count) (asked s))
+    Trace (s .args .request .source) (s .args .request .target) (f .find .last .1 .1 .1 .1 .1 .1 .1 .1 .0) (preferred (s .args .n) (table s) (s .args .count) (asked s))
 traces c =
     let f = c .before .before .before in
     let s = begin f in
-    subst (λ (vs : List ℕ). Trace (s .args .source) (s .args .target) vs (preferred (s .args .n) (table s) (s .args .count) (asked s))) (sym (f .find .ensures .0))
+    subst (λ (vs : List ℕ). Trace (s .args .request .source) (s .args .request .target) vs (preferred (s .args .n) (table s) (s .args .count) (asked s))) (sym (f .find .ensures .0))
     (found-preferred (s .args .n) (table s) (s .args .count) (asked s) (routable-asked (s .pre .0)) (finds c))
 
 write-route-requires : tie.Need-write-route-requires
@@ -67,6 +67,8 @@ pub find-route-spec : {M : Type 1} → statement M
 find-route-spec =
     tie.close
     (tie.spec
+    (λ c. search needs)
+    (λ c. search needs)
     find-requires
     (λ c. search needs)
     returns

@@ -15,7 +15,7 @@ bare : (c : tie.After-judge-bare) → let a = c .before .before .before .before 
     told (c .judge-bare .result) ≡ bareFaults (a .n) (columns (a .tails .now) (a .heads .now) (a .weights .now)) (a .count) (shortWords (a .n) (a .vertices) (a .marks))
 bare c =
     let a = c .before .before .before .before .before .args in
-    c .judge-bare .ensures ∙ ap (λ (v : Verdict). bareFaults (a .n) (columns (a .tails .now) (a .heads .now) (a .weights .now)) (a .count) v) (c .before .refuse-if .ensures)
+    c .judge-bare .ensures ∙ ap (λ (v : Verdict). bareFaults (a .n) (columns (a .tails .now) (a .heads .now) (a .weights .now)) (a .count) v) (c .before .judge-outputs .ensures)
 
 returns : tie.Need-returns
 unfolding routeFaults
@@ -28,16 +28,17 @@ returns-2 c =
     let e = i .before in
     let a = e .before .before .before .before .before .before .before .args in
     then-judged _ _ _ _ (bare (e .before .before)) (e .enum-told .given .1)
-    (if-refused (not (isProperty (a .property))) 5 0 _ (ap not (sym (i .is-property .ensures)) ∙ c .if1 .taken))
+    (if-refused (not (isProperty (a .request .property))) 5 0 _ (ap not (sym (i .is-property .ensures)) ∙ c .if1 .taken))
 
 returns-3 : tie.Need-returns-3
 unfolding routeFaults
 returns-3 c =
-    let i = c .before .before in
+    let l = c .before .before .before in
+    let i = l .before in
     let e = i .before in
     let a = e .before .before .before .before .before .before .before .args in
     then-judged _ _ _ _ (bare (e .before .before)) (e .enum-told .given .1)
-    (if-judged (not (isProperty (a .property))) 5 0 _ _ (ap not (sym (i .is-property .ensures)) ∙ c .before .if1 .left) (c .refuse-if2 .ensures))
+    (if-judged (not (isProperty (a .request .property))) 5 0 _ _ (ap not (sym (i .is-property .ensures)) ∙ l .if1 .left) (c .refuse-if .ensures))
 
 pub judge-route-spec : {M : Type 1} → statement M
 judge-route-spec =
