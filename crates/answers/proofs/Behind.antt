@@ -1,13 +1,13 @@
 -- The route behind a query's word has that word for its value: the claim, proved. Assumes nothing.
-use Rattle.property.proofs.Basics.{_≡_, _∙_, subst, _↔_, List}
+use Rattle.property.proofs.Basics.{_≡_, sym, _∙_, subst, ⊎-elim, _↔_, List}
 use Rattle.property.specs.Property.{property}
 use Rattle.property.proofs.Instances.{property-laws}
 use Rattle.graph.specs.Refusal.{refused}
 use Rattle.graph.specs.Edge.{Edge}
 use Rattle.graph.specs.Route.{here, Best}
-use Rattle.graph.specs.Trail.{Leads, valueAlong}
+use Rattle.graph.specs.Leads.{Leads, valueAlong}
 use Rattle.theory.proofs.Exists.{best-same}
-use Rattle.theory.proofs.Trail.{leads-route, route-leads, leads-best}
+use Rattle.theory.proofs.Leads.{leads-route, route-leads, leads-best}
 use Rattle.network.specs.History.{moment}
 use Rattle.network.proofs.History.{best-over-routes}
 use Rattle.network.proofs.Moment.{moment-good}
@@ -30,7 +30,8 @@ route-behind n ls w h bs q words tally e t l out =
       valued = λ k a.
           let (ps, z) = c .written k a in
           let y = subst (λ xs. Leads xs (q .source) ps t × Best P xs (q .source) t (valueAlong P (P .start) ps)) now (leads-best .0 (z .route .best)) in
-          (ps, y .0, z .vertices, best-same (property-laws (q .property)) (y .1) b);
+          (ps, y .0, z .count, z .vertices, best-same (property-laws (q .property)) (y .1) b);
+      served = λ a d. ⊎-elim (λ x. let (ps, l, z) = route-leads x in c .served a ps (subst (λ xs. Leads xs (q .source) ps t) (sym now) l)) (λ z. absurd (d (z .1))) (b .attained);
       unrouted = λ a.
           let d = subst (λ xs. ((routeNow n m (wanted q t) out) .reply ≡ refused 15 0) ↔ ((ps : List Edge) → Leads xs (q .source) ps t → ⊥)) now (c .barred a) in
           (λ k. r .1 (λ u x. let (ps, j, z) = route-leads x in d .0 k ps j), λ k. d .1 (λ ps j. r .0 k _ (leads-route here j)));

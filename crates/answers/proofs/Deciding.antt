@@ -4,7 +4,7 @@ use Rattle.property.specs.Property.{Property, property, sswp, ssnp}
 use Rattle.property.proofs.Tests.{tests}
 use Rattle.graph.specs.Limits.{maxWeight}
 use Rattle.graph.specs.Edge.{Edge, exists}
-use Rattle.graph.specs.Trail.{Leads, stop, on, valueAlong}
+use Rattle.graph.specs.Leads.{Leads, stop, on, valueAlong}
 use Rattle.graph.proofs.Order.{Sound, sound-fit, rules-accept}
 use Rattle.answers.specs.Routing.{SetsValue, MarksFor, done, sets, passes}
 use Rattle.answers.specs.Deciding.{decided, MarksDecide}

@@ -3,7 +3,6 @@
 --   Foremost f es e      == of the edges of es that pass the test f, e stands first
 --   Headed ks t u k rs   == the list rs, which leads from u to t in k + 1 edges of ks, taken apart after its first edge
 --   heads ps             == the heads of the edges ps
---   Least ks s t ps      == of the routes along the edges ks, ps is one with the fewest edges, and of those none is lower
 --   Lowest k u qs        == qs leads from u to t in k edges, and no such list of k edges is lower
 use Rattle.property.proofs.Basics.{_≡_, refl, sym, ap, _∙_, subst, _⊎_, inl, inr, ⊎-elim, Bool, true, false, _&&_, cond, true≢false, some, List, [], _∷_, map, List·Memᴰ, List·Memᴰ·head, List·Memᴰ·tail, List·Memᴰ·cases-cons, List·Memᴰ·not-nil, ℕ, zero, suc, _≤_, _<_, ℕ-discrete, arith, length, eqb, eqb-true, eq-eqb, ne-eqb, le-ltb}
 use Rattle.property.specs.Property.{M, bfs}
@@ -11,11 +10,12 @@ use Rattle.property.proofs.Tests.{by-test}
 use Rattle.graph.specs.Edge.{Edge, precedes}
 use Rattle.graph.specs.Table.{isEdge}
 use Rattle.graph.specs.Route.{Best}
-use Rattle.graph.specs.Trail.{Leads, stop, on, visited, lower}
+use Rattle.graph.specs.Leads.{Leads, stop, on, visited, lower}
 use Rattle.graph.proofs.Tests.{both, and-true}
 use Rattle.graph.proofs.Order.{table-ordered, Sound, Less, less-of}
-use Rattle.graph.proofs.Keeps.{leads-mem}
+use Rattle.graph.proofs.Keeps.{ahead-mem}
 use Rattle.run.specs.Run.{word}
+use Rattle.theory.proofs.Leads.{Least, leads-none}
 use Rattle.theory.proofs.Kept.{hops-least, hops-attained, hop-down}
 use Rattle.answers.specs.Routing.{firstOf, leadsOn, followed}
 
@@ -39,7 +39,7 @@ firstOf-foremost f n (o ∷ es) h x m q = by-test (f o)
     (λ z. (
       o,
       firstOf-here f o es z,
-      (List·Memᴰ·head refl, z, λ y k g. ⊎-elim inl (λ j. inr (leads-mem table-ordered (isEdge n) o es (h .1) (h .2) y j)) (List·Memᴰ·cases-cons k)),
+      (List·Memᴰ·head refl, z, λ y k g. ⊎-elim inl (λ j. inr (ahead-mem table-ordered (isEdge n) o es (h .1) (h .2) y j)) (List·Memᴰ·cases-cons k)),
     ))
     (λ z.
     let other : (y : Edge) → List·Memᴰ y (o ∷ es) → f y ≡ true → List·Memᴰ y es = λ y k g.
@@ -55,10 +55,6 @@ Headed ks t u k rs = (e : Edge) × (ps : List Edge) × (rs ≡ e ∷ ps) × (e .
 headed : {ks : List Edge} {t u k : ℕ} {rs : List Edge} → Leads ks u rs t → length rs ≡ suc k → Headed ks t u k rs
 headed stop z = absurd (omega arith)
 headed (on {e = e} {ps = ps} m l) z = (e, ps, refl, refl, m, l, omega arith)
-
-ended : {ks : List Edge} {t u : ℕ} {rs : List Edge} → Leads ks u rs t → length rs ≡ 0 → u ≡ t
-ended stop z = refl
-ended (on m l) z = absurd (omega arith)
 
 -- ---- lower lists
 
@@ -76,10 +72,6 @@ lower-cons u v us vs h k = rw (le-ltb u v h) (pick (ℕ-discrete u v))
     pick (no d) = rw (ne-eqb u v d)
 
 -- ---- the route that is followed
-
-abbrev pub Least : List Edge → ℕ → ℕ → List Edge → Type 0
-Least ks s t ps = Leads ks s ps t
-    × ((qs : List Edge) → Leads ks s qs t → (length ps ≤ length qs) × (length qs ≡ length ps → lower (visited s qs) (visited s ps) ≡ false))
 
 module _ (n : ℕ) (ks : List Edge) (sound : Sound n ks) (t : ℕ) (hs : List ℕ) (best : (u : ℕ) → Best bfs ks u t (word bfs hs u)) where
   abbrev heads : List Edge → List ℕ
@@ -120,7 +112,7 @@ module _ (n : ℕ) (ks : List Edge) (sound : Sound n ks) (t : ℕ) (hs : List �
   unfolding followed
   followed-lowest zero u h q =
       let (rs, l, z) = hops-attained ks t hs best u (omega arith) in
-      (subst (λ x. Leads ks u [] x) (ended l (z ∙ q)) stop, refl, λ qs k y. lower-nil (heads qs))
+      (subst (λ x. Leads ks u [] x) ((leads-none l (omega arith)) .1) stop, refl, λ qs k y. lower-nil (heads qs))
   followed-lowest (suc k) u h q =
       let (rs, l, z) = hops-attained ks t hs best u (omega arith) in
       let (o, os, y, po, mo, lo, zo) = headed l (z ∙ q) in

@@ -13,7 +13,7 @@ use Rattle.graph.specs.Limits.{maxVertices}
 use Rattle.graph.specs.Edge.{Edge, reverse, keep}
 use Rattle.graph.specs.Table.{Columns, edgesOf}
 use Rattle.graph.specs.Route.{Route, here, Best}
-use Rattle.graph.specs.Trail.{Leads, valueAlong, BestLeads, Preferred}
+use Rattle.graph.specs.Leads.{Leads, valueAlong, BestLeads, Preferred}
 use Rattle.graph.proofs.Order.{Sound, Within, within, accept-rules}
 use Rattle.graph.proofs.Keeps.{keep-sound}
 use Rattle.run.specs.Run.{word, tight}
@@ -22,10 +22,9 @@ use Rattle.theory.proofs.Walk.{walk-of}
 use Rattle.theory.proofs.Reverse.{within-reverse, forth, reversed-best}
 use Rattle.theory.proofs.Hops.{values-best, hops-few}
 use Rattle.theory.proofs.Routed.{best-routed}
-use Rattle.theory.proofs.Trail.{leads-route, route-leads, leads-best, count-along, reach-along}
+use Rattle.theory.proofs.Leads.{Least, leads-route, route-leads, leads-best, count-along, reach-along}
 use Rattle.theory.proofs.Kept.{own, owned-best, tights-best}
 use Rattle.answers.specs.Routing.{Request, eligible, bestWord, candidates, hops, preferred}
-pub use Rattle.answers.proofs.Follow.{Least}
 use Rattle.answers.proofs.Follow.{followed-least}
 
 -- ---- where the value goes by the number of edges

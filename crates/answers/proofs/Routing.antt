@@ -6,12 +6,12 @@ use Rattle.property.proofs.Instances.{property-laws}
 use Rattle.graph.specs.Refusal.{Verdict, accept, refuse, _▷_, refuseIf, accepted, refused, replied, Outcome, over}
 use Rattle.graph.specs.Edge.{Edge}
 use Rattle.graph.specs.Table.{Columns, edgesOf, bareFaults}
-use Rattle.graph.specs.Trail.{Leads, stop, visited, valueAlong, BestLeads, Preferred}
+use Rattle.graph.specs.Leads.{Leads, stop, visited, valueAlong, BestLeads, Preferred}
 use Rattle.graph.proofs.Tests.{both}
 use Rattle.graph.proofs.Verdicts.{not-accept, then-accept, accept-then, accept-if, refuse-then, if-accept, reply-accepted, reply-refused, choose-accept, outcome-refused, outcome-accepted}
 use Rattle.graph.proofs.Judging.{bare-accept}
 use Rattle.graph.proofs.Order.{within, rules-accept}
-use Rattle.theory.proofs.Trail.{along-after, preferred-unique}
+use Rattle.theory.proofs.Leads.{along-after, preferred-unique}
 use Rattle.network.specs.Query.{shortWords}
 use Rattle.answers.specs.Routing.{Request, Answer, preferred, marksOf, routeFaults, noRoute, withRoute, routeCall, WritesRoute, otherFaults, bestWord, RoutesPreferred, OneVertex}
 use Rattle.answers.proofs.Marks.{marks-for}
@@ -91,6 +91,14 @@ module _ (n : ℕ) (cs : Columns) (m : ℕ) (q : Request) where
 
     -- ---- refused
 
+    served : faults ≡ accept → (ps : List Edge) → Leads es (q .source) ps (q .target) → (k : ℕ) × ((routeCall n cs m q out) .reply ≡ accepted k)
+    unfolding routeCall
+    served h ps l =
+        let d : bestWord n cs m q ≢ P .none = λ z. unrouted n es (q .property) (q .source) (q .target) (faults-asked _ _ h) .0 z ps l in (
+          suc (length (preferred n cs m q)),
+          ap (λ o. o .reply) (outcome-accepted (faults ▷ none) _ (withRoute n cs m q out) out (accept-then h ∙ accept-if 15 0 (ne-eqb _ _ d))),
+        )
+
     -- where the other numbers let pass, the reply is 15 where the best value is the no-route word, and that is where there is no route
     barred : faults ≡ accept → ((routeCall n cs m q out) .reply ≡ refused 15 0) ↔ ((ps : List Edge) → Leads es (q .source) ps (q .target) → ⊥)
     unfolding routeCall replied
@@ -118,6 +126,7 @@ routes-preferred n cs m q out = record {
   written = written n cs m q out;
   fits = fits n cs m q out;
   only = λ ps qs a b. preferred-unique a b;
+  served = served n cs m q out;
   barred = barred n cs m q out;
   judged = judged n cs m q out;
   stays = stays n cs m q out;

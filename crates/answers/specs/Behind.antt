@@ -2,16 +2,18 @@
 --
 --   wanted q t           == the request for the route behind the word of t that the query q gives
 --   routeNow n w q out   == the call of the route on the table of the network w
---   Behind ..            == an accepted route to t has the word of t for its value; and where numbers 1 to 6 let pass, 15 comes exactly at the no-route word
+--   Behind ..            == an accepted route to t has the word of t for its value; and where numbers 1 to 6 let pass, 15 comes at the no-route word, and
+--                           every other word has its route
 --   RouteBehind          == the claim: after any list of batches, for any accepted query and any vertex
 use mathlib.Core.Path.{_≡_}
-use mathlib.Core.Logic.{_↔_}
+use mathlib.Core.Logic.{_≢_, _↔_}
 use mathlib.Core.List.{List}
-use Prim.Native.Nat.{ℕ, _<_}
+use Prim.Native.Nat.{ℕ, suc, _<_}
+use lib.ListN.{length}
 use Rattle.property.specs.Property.{property}
 use Rattle.graph.specs.Refusal.{accept, accepted, refused, Outcome, over}
 use Rattle.graph.specs.Edge.{Edge}
-use Rattle.graph.specs.Trail.{Leads, visited, valueAlong}
+use Rattle.graph.specs.Leads.{Leads, visited, valueAlong}
 use Rattle.run.specs.Run.{Tally, word}
 use Rattle.network.specs.Network.{Network, faults}
 use Rattle.network.specs.Query.{Query, Words, queryCall}
@@ -27,8 +29,10 @@ routeNow n w q out = routeCall n (w .memory .table) (w .count) q out
 
 pub record Behind (n : ℕ) (es : List Edge) (w : Network) (q : Query) (t v : ℕ) (out : Answer) : Type 0 where
   pub valued : (k : ℕ) → (routeNow n w (wanted q t) out) .reply ≡ accepted k
-      → (ps : List Edge) × Leads es (q .source) ps t × ((routeNow n w (wanted q t) out) .memory .vertices ≡ over (visited (q .source) ps) (out .vertices))
+      → (ps : List Edge) × Leads es (q .source) ps t × (k ≡ suc (length ps)) × ((routeNow n w (wanted q t) out) .memory .vertices ≡ over (visited (q .source) ps) (out .vertices))
       × (valueAlong (property (q .property)) (property (q .property) .start) ps ≡ v)
+  pub served : otherFaults n (w .memory .table) (w .count) (wanted q t) out ≡ accept → v ≢ property (q .property) .none
+      → (k : ℕ) × ((routeNow n w (wanted q t) out) .reply ≡ accepted k)
   pub unrouted : otherFaults n (w .memory .table) (w .count) (wanted q t) out ≡ accept
       → ((routeNow n w (wanted q t) out) .reply ≡ refused 15 0) ↔ (v ≡ property (q .property) .none)
 

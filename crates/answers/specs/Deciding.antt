@@ -14,7 +14,7 @@ use Rattle.property.specs.Property.{property}
 use Rattle.graph.specs.Refusal.{accept}
 use Rattle.graph.specs.Edge.{Edge, exists}
 use Rattle.graph.specs.Table.{rules}
-use Rattle.graph.specs.Trail.{Leads, valueAlong}
+use Rattle.graph.specs.Leads.{Leads, valueAlong}
 use Rattle.answers.specs.Routing.{MarksFor}
 
 unfoldable pub decided : ℕ → List Edge → List ℕ → ℕ

@@ -7,9 +7,9 @@
 --   bestWords, bestWord  == the best values from the source; that of the target
 --   candidates           == the eligible edges, in table order
 --   hops                 == for each vertex the fewest eligible edges on to the target
---   leadsOn hs k u e     == e leaves u, and its head has k hops to go
+--   leadsOn ws k u e     == e leaves u, and its head has k hops to go, where ws are the hops
 --   firstOf f es         == the first edge of es that passes the test f
---   followed ks hs k u   == k edges from u on, each the first of ks whose head has one hop less to go
+--   followed ks ws k u   == k edges from u on, each the first of ks whose head has one hop less to go
 --   preferred            == the edges of the route that is written
 --   isMarked p v e       == the mark of e: always (1, 2), where the running value v changes (3, 4), never (5)
 --   marksOf p v ps       == the marks of the edges ps, 1 or 0, from the running value v on
@@ -20,8 +20,8 @@
 --   SetsValue p v e      == document 02: e "set the value", where the running value before it is v
 --   MarksFor p v ps ms   == ms has 1 for each edge of ps that set the value, from v on, and 0 for each that "passed it on"
 --   WritesRoute .. k ps  == the lists hold the vertices and marks of ps, which is the preferred route, and k is how many vertices it has
---   RouteHolds ..        == what is accepted is the preferred route, the only one, of at most n vertices; where the other numbers let pass, 15 comes
---                           exactly where there is no route; and a refusal leaves both lists
+--   RouteHolds ..        == what is accepted is the preferred route, the only one, of at most n vertices; where the other numbers let pass, what has a
+--                           route is accepted, and 15 comes exactly where there is none; and a refusal leaves both lists
 --   RoutesPreferred      == the claim: so it is for all that can be asked
 --   OneVertex            == the claim: where source and target are one, the route is that vertex, and nothing is marked
 use mathlib.Core.Path.{_≡_}
@@ -36,7 +36,7 @@ use Rattle.property.specs.Property.{bfs, property, isProperty}
 use Rattle.graph.specs.Refusal.{Verdict, accept, refuse, _▷_, refuseIf, accepted, refused, Outcome, outcome, over}
 use Rattle.graph.specs.Edge.{Edge, reverse, keep}
 use Rattle.graph.specs.Table.{Columns, edgesOf, bareFaults}
-use Rattle.graph.specs.Trail.{Leads, visited, Preferred}
+use Rattle.graph.specs.Leads.{Leads, visited, Preferred}
 use Rattle.run.specs.Run.{word, tight}
 use Rattle.run.specs.Start.{valuesFrom}
 use Rattle.network.specs.Query.{shortWords}
@@ -60,12 +60,12 @@ firstOf f [] = none
 firstOf f (e ∷ es) = cond (f e) (some e) (firstOf f es)
 
 abbrev pub leadsOn : List ℕ → ℕ → ℕ → Edge → Bool
-leadsOn hs k u e = eqb (e .tail) u && eqb (word bfs hs (e .head)) k
+leadsOn ws k u e = eqb (e .tail) u && eqb (word bfs ws (e .head)) k
 
-module _ (ks : List Edge) (hs : List ℕ) where
+module _ (ks : List Edge) (ws : List ℕ) where
   unfoldable pub followed : ℕ → ℕ → List Edge
   followed zero u = []
-  followed (suc k) u = elim (firstOf (leadsOn hs k u) ks) [ none ↦ [] | some e ↦ e ∷ followed k (e .head) ]
+  followed (suc k) u = elim (firstOf (leadsOn ws k u) ks) [ none ↦ [] | some e ↦ e ∷ followed k (e .head) ]
 
 -- ---- the marks
 
@@ -142,6 +142,8 @@ module _ (n : ℕ) (cs : Columns) (m : ℕ) (q : Request) (out : Answer) where
     pub fits : (k : ℕ) → (routeCall n cs m q out) .reply ≡ accepted k → k ≤ n
     pub only : (ps qs : List Edge) → Preferred (property (q .property)) (edgesOf cs m) (q .source) (q .target) ps
         → Preferred (property (q .property)) (edgesOf cs m) (q .source) (q .target) qs → visited (q .source) ps ≡ visited (q .source) qs
+    pub served : otherFaults ≡ accept → (ps : List Edge) → Leads (edgesOf cs m) (q .source) ps (q .target)
+        → (k : ℕ) × ((routeCall n cs m q out) .reply ≡ accepted k)
     pub barred : otherFaults ≡ accept
         → ((routeCall n cs m q out) .reply ≡ refused 15 0) ↔ ((ps : List Edge) → Leads (edgesOf cs m) (q .source) ps (q .target) → ⊥)
     pub judged : (k i : ℕ) → otherFaults ≡ refuse k i → (routeCall n cs m q out) .reply ≡ refused k i

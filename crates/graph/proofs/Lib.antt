@@ -18,5 +18,5 @@ pub mod Counts
 pub mod Places
 pub mod Own
 pub mod Arcs
-pub mod Trails
+pub mod Leading
 pub mod Parted

@@ -7,7 +7,7 @@ pub mod Table
 pub mod Route
 pub mod Code
 pub mod Routed
-pub mod Trail
+pub mod Leads
 pub mod Arc
 pub mod Index
 pub mod Parted

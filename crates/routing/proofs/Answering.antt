@@ -7,23 +7,23 @@ use Rattle.graph.specs.declared.Judged.the-variants as judged
 use Rattle.graph.specs.Refusal.{Verdict, accept, _▷_, refuseIf, outcome, over}
 use Rattle.graph.specs.Edge.{Edge, keep, edges}
 use Rattle.graph.specs.Table.{Columns, edgesOf, bareFaults}
-use Rattle.graph.specs.Trail.{Leads, visited, Preferred}
+use Rattle.graph.specs.Leads.{Leads, visited, Preferred}
 use Rattle.graph.specs.Code.{told, columns}
 use Rattle.graph.proofs.Tests.{neither, or-right}
 use Rattle.graph.proofs.Verdicts.{then-accept, refuse-then, accept-then, if-accept, accept-if, outcome-refused, outcome-accepted}
 use Rattle.graph.proofs.Judging.{bare-accept}
 use Rattle.graph.proofs.Edges.{keep-in, in-keep}
 use Rattle.graph.proofs.Order.{rules-accept}
-use Rattle.graph.proofs.Trails.{visited-edges}
+use Rattle.graph.proofs.Leading.{visited-edges}
 use Rattle.run.specs.Start.{valuesFrom}
-use Rattle.theory.proofs.Trail.{leads-map, preferred-unique}
+use Rattle.theory.proofs.Leads.{leads-map, preferred-unique}
 use Rattle.answers.specs.Routing.{Request, Answer, eligible, bestWords, bestWord, preferred, marksOf, routeFaults, noRoute, withRoute, routeCall}
 use Rattle.network.specs.Query.{shortWords}
 use Rattle.answers.proofs.Routing.{faults-asked}
 use Rattle.answers.proofs.Preferring.{Asked, fewest-preferred, least-preferred, eligible-leads, unrouted, preferred-holds}
-use Rattle.routing.specs.declared.Routed.{Routed}
-use Rattle.routing.specs.declared.Routed.the-variants.{Vertices, Refused}
-use Rattle.routing.specs.Search.{Search, isUnfound, passes, searched}
+use Rattle.routing.specs.declared.RouteReply.{RouteReply}
+use Rattle.routing.specs.declared.RouteReply.the-variants.{Vertices, Refused}
+use Rattle.routing.specs.Search.{Search, isUnfound, isSearched, searched}
 use Rattle.routing.specs.Code.{requesting, routing, answerOf, routeOutcome, unfaulted, Routable, Trace}
 use Rattle.routing.proofs.Searching.{Found, search-finds, search-lacks}
 
@@ -75,11 +75,11 @@ module _ (n : ℕ) (cs : Columns) (m : ℕ) (q : Request) where
   abbrev st : Search
   st = searched (q .property) es n (q .source) (q .target)
 
-  abbrev isPassing : Edge → Bool
-  isPassing = passes (q .property) (bestWords n cs m q) (q .target)
+  abbrev isSought : Edge → Bool
+  isSought = isSearched (q .property) (bestWords n cs m q) (q .target)
 
-  abbrev isEligible : Edge → Bool
-  isEligible = eligible (q .property) (bestWords n cs m q) (bestWord n cs m q)
+  abbrev isCandidate : Edge → Bool
+  isCandidate = eligible (q .property) (bestWords n cs m q) (bestWord n cs m q)
 
   -- ---- the search and the preferred route
 
@@ -88,27 +88,27 @@ module _ (n : ℕ) (cs : Columns) (m : ℕ) (q : Request) where
     pub lacks-route : isUnfound st (q .target) ≡ true → bestWord n cs m q ≡ P .none
     lacks-route h = pick (ℕ-discrete (bestWord n cs m q) (P .none))
       where
-        searches : (e : Edge) → List·Memᴰ e (keep isEligible es) → List·Memᴰ e (keep isPassing es)
+        searches : (e : Edge) → List·Memᴰ e (keep isCandidate es) → List·Memᴰ e (keep isSought es)
         searches e k =
-            let (a, b) = keep-in isEligible es e k in
-            in-keep isPassing a (or-right (eqb (q .property) 2) (or-right (ltb 4 (q .property)) b))
+            let (a, b) = keep-in isCandidate es e k in
+            in-keep isSought a (or-right (eqb (q .property) 2) (or-right (ltb 4 (q .property)) b))
 
         pick : Dec (bestWord n cs m q ≡ P .none) → bestWord n cs m q ≡ P .none
         pick (yes z) = z
         pick (no d) =
             let (qs, l) = eligible-leads n es (q .property) (q .source) (q .target) g d in
-            absurd (search-lacks isPassing es n (q .source) (g .sound) (g .few) (g .source) (q .target) h qs (leads-map searches l))
+            absurd (search-lacks isSought es n (q .source) (g .sound) (g .few) (g .source) (q .target) h qs (leads-map searches l))
 
     module _ (h : isUnfound st (q .target) ≡ false) where
-      found : Found (keep isPassing es) (q .source) (q .target) (st .via)
-      found = search-finds isPassing es n (q .source) (g .sound) (g .few) (g .source) (q .target) (g .target) h
+      found : Found (keep isSought es) (q .source) (q .target) (st .via)
+      found = search-finds isSought es n (q .source) (g .sound) (g .few) (g .source) (q .target) (g .target) h
 
       abbrev ps : List Edge
       ps = found .0
 
       -- it is a route of the table
       leads : Leads es (q .source) ps (q .target)
-      leads = leads-map (λ e k. (keep-in isPassing es e k) .0) (found .1)
+      leads = leads-map (λ e k. (keep-in isSought es e k) .0) (found .1 .0)
 
       pub some-route : bestWord n cs m q ≢ P .none
       some-route z = unrouted n es (q .property) (q .source) (q .target) g .0 z ps leads
@@ -117,12 +117,12 @@ module _ (n : ℕ) (cs : Columns) (m : ℕ) (q : Request) where
       -- searched, and what comes first of their routes is.
       is-preferred : Preferred P es (q .source) (q .target) ps
       is-preferred = by-test (eqb (q .property) 2)
-          (λ z. fewest-preferred (q .property) (inl (eqb-true _ _ z)) (leads, λ qs l. found .3 qs (leads-map (λ e k. in-keep isPassing k (rw z)) l)))
+          (λ z. fewest-preferred (q .property) (inl (eqb-true _ _ z)) (leads, λ qs l. found .1 .1 qs (leads-map (λ e k. in-keep isSought k (rw z)) l)))
           (λ z. by-test (ltb 4 (q .property))
-          (λ y. fewest-preferred (q .property) (inr (ltb-true _ _ y)) (leads, λ qs l. found .3 qs (leads-map (λ e k. in-keep isPassing k (rw (z, y))) l)))
+          (λ y. fewest-preferred (q .property) (inr (ltb-true _ _ y)) (leads, λ qs l. found .1 .1 qs (leads-map (λ e k. in-keep isSought k (rw (z, y))) l)))
           (λ y. least-preferred n es (q .property) (q .source) (q .target) g some-route (
-            leads-map (λ e k. let (a, b) = keep-in isPassing es e k in in-keep isEligible a (rw (z, y) at b)) (found .1),
-            λ qs l. found .3 qs (leads-map (λ e k. let (a, b) = keep-in isEligible es e k in in-keep isPassing a (rw (z, y) b)) l),
+            leads-map (λ e k. let (a, b) = keep-in isSought es e k in in-keep isCandidate a (rw (z, y) at b)) (found .1 .0),
+            λ qs l. found .1 .1 qs (leads-map (λ e k. let (a, b) = keep-in isCandidate es e k in in-keep isSought a (rw (z, y) b)) l),
           )))
 
       -- there is one preferred route, and in a table its vertices determine its edges

@@ -4,23 +4,20 @@
 --
 --   rank a ps        == the number a with the head of each edge of ps put after it as a digit; a route's number is its rank after 1
 --   Narrow ps        == the heads of ps are digits
---   NoLater s ps qs  == of two routes from s, ps has no more edges than qs, and where it has as many, qs is not lower
 use Rattle.property.proofs.Basics.{_≡_, refl, sym, _∙_, ⊎-elim, true, false, true≢false, List, [], _∷_, _++_, map, foldl, List·Memᴰ, List·Memᴰ·head, List·Memᴰ·tail, List·Memᴰ·cases-cons, List·Memᴰ·not-nil, ℕ, zero, suc, _+_, _*_, _≤_, _<_, arith, length, getD, ltb, eqb, ltb-true, ltb-false, le-ltb, eq-eqb, eqb-true}
 use mathlib.Core.List.{foldl-append}
 use Rattle.property.proofs.Tests.{by-test, is-false}
 use Rattle.graph.specs.Limits.{maxVertices}
 use Rattle.graph.specs.Edge.{Edge}
-use Rattle.graph.specs.Trail.{Leads, stop, on, visited, lower}
+use Rattle.graph.specs.Leads.{Leads, stop, on, visited, lower}
 use Rattle.graph.proofs.Tests.{both}
+use Rattle.theory.proofs.Leads.{NoLater}
 
 abbrev pub rank : ℕ → List Edge → ℕ
 rank a ps = foldl (λ k e. k * maxVertices + e .head) a ps
 
 abbrev pub Narrow : List Edge → Type 0
 Narrow ps = (e : Edge) → List·Memᴰ e ps → e .head < maxVertices
-
-abbrev pub NoLater : ℕ → List Edge → List Edge → Type 0
-NoLater s ps qs = (length ps ≤ length qs) × (length qs ≡ length ps → lower (visited s qs) (visited s ps) ≡ false)
 
 -- ---- the order of numbers is the order of routes
 
@@ -58,14 +55,14 @@ rank-lower a (e ∷ ps) (f ∷ qs) l d h = by-test (ltb (e .head) (f .head))
     narrow : Narrow ps
     narrow x m = d x (List·Memᴰ·tail m)
 
-lower-same : (s : ℕ) (us vs : List ℕ) → lower (s ∷ us) (s ∷ vs) ≡ lower us vs
+lower-behind : (s : ℕ) (us vs : List ℕ) → lower (s ∷ us) (s ∷ vs) ≡ lower us vs
 unfolding lower
-lower-same s us vs = rw (le-ltb s s (omega arith), eq-eqb s s refl)
+lower-behind s us vs = rw (le-ltb s s (omega arith), eq-eqb s s refl)
 
 pub rank-no-later : (s : ℕ) (ps qs : List Edge) → Narrow qs → rank 1 ps ≤ rank 1 qs → NoLater s ps qs
 rank-no-later s ps qs d h = (
   by-test (ltb (length qs) (length ps)) (λ q. let z = rank-fewer 1 1 qs ps (omega arith) (ltb-true _ _ q) d in absurd (omega arith)) (λ q. ltb-false _ _ q),
-  λ l. is-false (lower (visited s qs) (visited s ps)) (λ q. let z = rank-lower 1 qs ps l d (sym (lower-same s _ _) ∙ q) in omega arith),
+  λ l. is-false (lower (visited s qs) (visited s ps)) (λ q. let z = rank-lower 1 qs ps l d (sym (lower-behind s _ _) ∙ q) in omega arith),
 )
 
 -- ---- the edges of a route
@@ -73,11 +70,6 @@ rank-no-later s ps qs d h = (
 pub leads-mem : {es ps : List Edge} {s t : ℕ} {e : Edge} → Leads es s ps t → List·Memᴰ e ps → List·Memᴰ e es
 leads-mem stop m = absurd (List·Memᴰ·not-nil m)
 leads-mem (on i l) m = ⊎-elim (λ p. rw p i) (λ k. leads-mem l k) (List·Memᴰ·cases-cons m)
-
--- a route goes on along an edge from its end
-pub leads-on : {es ps : List Edge} {s t : ℕ} {e : Edge} → Leads es s ps t → List·Memᴰ e es → e .tail ≡ t → Leads es s (ps ++ e ∷ []) (e .head)
-leads-on {es} {e = e} (stop {s = s}) m p = rw (sym p) (on m stop)
-leads-on (on i l) m p = on i (leads-on l m p)
 
 pub leads-last : {es ps : List Edge} {s t : ℕ} → Leads es s ps t → getD (visited s ps) (length ps) 0 ≡ t
 leads-last stop = refl
@@ -88,7 +80,3 @@ pub leads-tail : {es ps : List Edge} {s t : ℕ} → Leads es s ps t → (d : Ed
 leads-tail stop d i h = absurd (omega arith)
 leads-tail (on m l) d zero h = refl
 leads-tail (on m l) d (suc i) h = leads-tail l d i (omega arith)
-
-pub leads-none : {es ps : List Edge} {s t : ℕ} → Leads es s ps t → length ps ≤ 0 → (ps ≡ []) × (s ≡ t)
-leads-none stop h = (refl, refl)
-leads-none (on i l) h = absurd (omega arith)

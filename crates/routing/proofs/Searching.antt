@@ -2,7 +2,7 @@
 -- the lowest. Its words lead back along that route. Assumes nothing.
 --
 --   Found ks s t vs  == a route of ks from s to t is no later than any other, and the words vs lead back along it
---   Entered vs j g   == entry j is g: its route leads to its vertex and has at most j edges, and vs has the arc of each of them
+--   Entered vs j g   == entry j is g: its route leads to its vertex and has at most j edges, and vs has the arc of each of them, reversed
 --   Held gs st       == the search st has the entries gs, one for each vertex found, in the order of their routes
 --   Under gs st i b  == and their routes' numbers are below b, and the heads of all edges from the first i entries are found by routes that are no later
 --   Gone ..          == and then entries are put after gs, so that the edges that P names are gone over too
@@ -18,20 +18,21 @@ use Rattle.graph.specs.Limits.{maxVertices}
 use Rattle.graph.specs.Arc.{arc}
 use Rattle.graph.specs.Edge.{Edge, edge, keep, leaving}
 use Rattle.graph.specs.Code.{equal}
-use Rattle.graph.specs.Trail.{Leads, stop, on, visited}
+use Rattle.graph.specs.Leads.{Leads, stop, on, visited}
 use Rattle.graph.proofs.Tests.{both, and-true}
 use Rattle.graph.proofs.Lists.{at-set, getD-mem}
 use Rattle.graph.proofs.Counts.{equal-all, equal-set}
 use Rattle.graph.proofs.Edges.{keep-in, in-keep, leaving-in, in-leaving}
 use Rattle.graph.proofs.Order.{Sound, EdgeFacts, sound-fit}
-use Rattle.routing.specs.Search.{unfound, noArc, Search, isUnfound, finds, reach, expand, begun, search}
+use Rattle.theory.proofs.Leads.{Least, leads-snoc, leads-none}
+use Rattle.routing.specs.Search.{unfound, noArc, Search, isUnfound, finds, look, expand, begun, search}
 use Rattle.routing.specs.Code.{weightAt, Trace}
-use Rattle.routing.proofs.Routes.{rank, Narrow, NoLater, rank-on, rank-no-later, leads-mem, leads-on, leads-last, leads-tail, leads-none}
+use Rattle.routing.proofs.Routes.{rank, Narrow, rank-on, rank-no-later, leads-mem, leads-last, leads-tail}
 use Rattle.routing.proofs.Entries.{Entry, entry, key, Before, Known, Reached, Grows, Rising, each-on, grows-none, grows-then, grows-one, reached-grows, leaving-rising}
 use Rattle.routing.proofs.Turns.{search-none, search-more, search-stops}
 
 abbrev pub Found : List Edge → ℕ → ℕ → List ℕ → Type 0
-Found ks s t vs = (ps : List Edge) × Leads ks s ps t × Trace s t vs ps × ((qs : List Edge) → Leads ks s qs t → NoLater s ps qs)
+Found ks s t vs = (ps : List Edge) × Least ks s t ps × Trace s t vs ps
 
 module _ (f : Edge → Bool) (es : List Edge) (n s : ℕ) (sound : Sound n es) (small : n ≤ maxVertices) (home : s < n) where
   kept-fit : (e : Edge) → List·Memᴰ e (keep f es) → EdgeFacts n e
@@ -103,7 +104,7 @@ module _ (f : Edge → Bool) (es : List Edge) (n s : ℕ) (sound : Sound n es) (
         let h′ = stays i (entry gs i) h in
         let t : getD later (e .head) 0 ≡ arc (e .tail) (e .weight) = getD-set-same (st .via) (e .head) (arc (e .tail) (e .weight)) 0 inside in
         record {
-          leads = leads-on (h .leads) m p;
+          leads = leads-snoc (h .leads) (sym p) m;
           found = λ q. arc-found e m (sym t ∙ q);
           traced = λ x k. ⊎-elim (λ a. h′ .traced x a) (λ a. ⊎-elim (λ q. rw q t) (λ z. absurd (List·Memᴰ·not-nil z)) (List·Memᴰ·cases-cons a)) (List·Memᴰ·append-cases ((entry gs i) .route) k);
           few = (let a = h .few in let d = length-append ((entry gs i) .route) (e ∷ []) in omega arith);
@@ -162,10 +163,10 @@ module _ (f : Edge → Bool) (es : List Edge) (n s : ℕ) (sound : Sound n es) (
     )
 
   -- An edge that is searched: its head is found already, by a route that is no later than the one along this edge since all are, or it is found now.
-  reach-gone : (gs : List Entry) (st : Search) (i k c : ℕ) → i < length gs → key (entry gs i) ≡ k → Under gs st i (k * maxVertices + c)
-      → (e : Edge) → List·Memᴰ e es → e .tail ≡ (entry gs i) .vertex → c ≤ e .head → Gone gs (reach f st e) i k (suc (e .head)) (λ x. x ≡ e)
-  unfolding reach finds
-  reach-gone gs st i k c l q u e m p a = by-test (f e)
+  look-gone : (gs : List Entry) (st : Search) (i k c : ℕ) → i < length gs → key (entry gs i) ≡ k → Under gs st i (k * maxVertices + c)
+      → (e : Edge) → List·Memᴰ e es → e .tail ≡ (entry gs i) .vertex → c ≤ e .head → Gone gs (look f st e) i k (suc (e .head)) (λ x. x ≡ e)
+  unfolding look finds
+  look-gone gs st i k c l q u e m p a = by-test (f e)
       (λ t. by-test (isUnfound st (e .head))
       (λ o. rw (t, o) (subst (λ x. Gone gs (finds true st e) i x (suc (e .head)) (λ y. y ≡ e)) q
       (gone-finds gs st i _ u l e (in-keep f m t) p (omega (arith, q, a)) (eqb-true (getD (st .via) (e .head) 0) unfound o))))
@@ -187,14 +188,14 @@ module _ (f : Edge → Bool) (es : List Edge) (n s : ℕ) (sound : Sound n es) (
 
   -- they ascend by head, so each comes after what the one before has found
   edges-gone : (os : List Edge) (gs : List Entry) (st : Search) (i k v c : ℕ) → i < length gs → key (entry gs i) ≡ k → (entry gs i) .vertex ≡ v → Under gs st i (k * maxVertices + c)
-      → ((e : Edge) → List·Memᴰ e os → List·Memᴰ e es × (e .tail ≡ v)) → Rising c os → c ≤ maxVertices → Gone gs (foldl (reach f) st os) i k maxVertices (λ e. List·Memᴰ e os)
+      → ((e : Edge) → List·Memᴰ e os → List·Memᴰ e es × (e .tail ≡ v)) → Rising c os → c ≤ maxVertices → Gone gs (foldl (look f) st os) i k maxVertices (λ e. List·Memᴰ e os)
   edges-gone [] gs st i k v c l q p u own r h = (gs, grows-none gs, under-raise _ (omega (arith, h)) u, λ e m _. absurd (List·Memᴰ·not-nil m))
   edges-gone (e ∷ os) gs st i k v c l q p u own r h =
       let o = own e (List·Memᴰ·head refl) in
       let b = (sound-fit n es sound e (o .0)) .head-below in
-      let (gs′, g, w, a) = reach-gone gs st i k c l q u e (o .0) (o .1 ∙ sym p) (r .0) in
+      let (gs′, g, w, a) = look-gone gs st i k c l q u e (o .0) (o .1 ∙ sym p) (r .0) in
       let d = g .longer in
-      let (gs″, g′, w′, a′) = edges-gone os gs′ (reach f st e) i k v (suc (e .head)) (omega arith) (ap key (g .same i l) ∙ q) (ap (λ (x : Entry). x .vertex) (g .same i l) ∙ p) w
+      let (gs″, g′, w′, a′) = edges-gone os gs′ (look f st e) i k v (suc (e .head)) (omega arith) (ap key (g .same i l) ∙ q) (ap (λ (x : Entry). x .vertex) (g .same i l) ∙ p) w
       (λ x m. own x (List·Memᴰ·tail m)) (r .1) (omega (arith, small)) in
       (gs″, grows-then g g′, w′, λ x m t. ⊎-elim (λ y. reached-grows g′ (a x y t)) (λ y. a′ x y t) (List·Memᴰ·cases-cons m))
 
@@ -359,8 +360,8 @@ module _ (f : Edge → Bool) (es : List Edge) (n s : ℕ) (sound : Sound n es) (
 
       entry-trace : Trace s ((entry gs j) .vertex) (st .via) ps
       entry-trace = record {
-        most = (omega (arith, u .held .sized, small));
-        few = (let z = o .few in let y = u .held .once in omega (arith, u .held .sized, h));
+        few = (omega (arith, u .held .sized, small));
+        short = (let z = o .few in let y = u .held .once in omega (arith, u .held .sized, h));
         last = leads-last (o .leads);
         inside = λ k l. (let z = visited-below k l in omega (arith, u .held .sized));
         back = λ k l. rw (step-head k, leads-tail (o .leads) (edge 0 0 0) k l, step-weight k) (o .traced (step k) (step-in k l));
@@ -372,7 +373,7 @@ module _ (f : Edge → Bool) (es : List Edge) (n s : ℕ) (sound : Sound n es) (
       }
 
       entry-found : Found (keep f es) s ((entry gs j) .vertex) (st .via)
-      entry-found = (ps, o .leads, entry-trace, λ qs l. rank-no-later s ps qs (leads-narrow l) (entry-first j h qs l))
+      entry-found = (ps, (o .leads, λ qs l. rank-no-later s ps qs (leads-narrow l) (entry-first j h qs l)), entry-trace)
 
   -- ---- the theorems
 

@@ -17,7 +17,7 @@ use Rattle.graph.proofs.Lists.{at-set, getD-within, replicate-at}
 use Rattle.graph.proofs.Counts.{equal-all, equal-set}
 use Rattle.run.specs.Start.{valuesFrom}
 use Rattle.answers.specs.Routing.{eligible}
-use Rattle.routing.specs.Search.{unfound, noArc, Search, isUnfound, finds, reach, expand, begun, search, passes, searched}
+use Rattle.routing.specs.Search.{unfound, noArc, Search, isUnfound, finds, look, expand, begun, search, isSearched, searched}
 use Rattle.routing.specs.Code.{isEligible, searchOf, Searching}
 use Rattle.routing.proofs.Turns.{search-none, search-more, search-stops}
 
@@ -43,10 +43,10 @@ eligible-word p v u h w a ws r i j f g e =
 -- ---- a vertex is found
 
 -- the edge does not pass, or its head is found already
-pub reach-keeps : (h m : ℕ) (qs vs : List ℕ) (f : Edge → Bool) (e : Edge) (t : Bool) → f e ≡ t → e .head ≡ h → (t ≡ false) ⊎ (eqb (getD vs h 0) unfound ≡ false)
-    → searchOf m qs vs ≡ reach f (searchOf m qs vs) e
-unfolding reach finds
-reach-keeps h m qs vs f e t q p g =
+pub look-keeps : (h m : ℕ) (qs vs : List ℕ) (f : Edge → Bool) (e : Edge) (t : Bool) → f e ≡ t → e .head ≡ h → (t ≡ false) ⊎ (eqb (getD vs h 0) unfound ≡ false)
+    → searchOf m qs vs ≡ look f (searchOf m qs vs) e
+unfolding look finds
+look-keeps h m qs vs f e t q p g =
     let r : f e && isUnfound (searchOf m qs vs) (e .head) ≡ false = ap₂ _&&_ q (ap (λ (x : ℕ). eqb (getD vs x 0) unfound) p) ∙ and-false t _ g in
     rw r
 
@@ -71,10 +71,10 @@ module _ (h by m : ℕ) (qs vs : List ℕ) (l : h < length vs) (b : by ≢ unfou
       }
 
   -- the edge passes and its head is found by it
-  pub reach-finds : (f : Edge → Bool) (e : Edge) → f e ≡ true → e .head ≡ h → arc (e .tail) (e .weight) ≡ by
-      → searchOf (m + 1) (set qs m h) (set vs h by) ≡ reach f (searchOf m qs vs) e
-  unfolding reach finds
-  reach-finds f e q p a =
+  pub look-finds : (f : Edge → Bool) (e : Edge) → f e ≡ true → e .head ≡ h → arc (e .tail) (e .weight) ≡ by
+      → searchOf (m + 1) (set qs m h) (set vs h by) ≡ look f (searchOf m qs vs) e
+  unfolding look finds
+  look-finds f e q p a =
       let z = queue-room in
       let r : f e && isUnfound (searchOf m qs vs) (e .head) ≡ true = ap₂ _&&_ q (ap (λ (x : ℕ). eqb (getD vs x 0) unfound) p ∙ t) in
       rw (r, add-one, take-suc-set qs m h (omega (arith, s .room)), p, a)
@@ -82,9 +82,9 @@ module _ (h by m : ℕ) (qs vs : List ℕ) (l : h < length vs) (b : by ≢ unfou
 -- ---- a vertex is expanded
 
 -- an index has the edges of a vertex
-pub expand-own : (f : Edge → Bool) (es : List Edge) (is : List ℕ) (st : Search) (u : ℕ) → own is u ≡ leaving u es → foldl (reach f) st (own is u) ≡ expand f es st u
+pub expand-own : (f : Edge → Bool) (es : List Edge) (is : List ℕ) (st : Search) (u : ℕ) → own is u ≡ leaving u es → foldl (look f) st (own is u) ≡ expand f es st u
 unfolding expand
-expand-own f es is st u e = ap (foldl (reach f) st) e
+expand-own f es is st u e = ap (foldl (look f) st) e
 
 -- ---- the search begins
 
@@ -152,12 +152,12 @@ module _ (n s t : ℕ) (es : List Edge) (ws : List ℕ) where
       → search (eligible p ws (getD ws t 0)) es t n 0 (begun n s) ≡ searched p es n s t
   searched-best p a l e =
       let (b, c) = neither (eqb p 2) (ltb 4 p) a in
-      rw (← e) (along-same (eligible p ws (getD ws t 0)) (passes p ws t) (λ x. rw (b, c, getD-within ws t (property p .none) 0 l)))
+      rw (← e) (along-same (eligible p ws (getD ws t 0)) (isSearched p ws t) (λ x. rw (b, c, getD-within ws t (property p .none) 0 l)))
 
   -- for handovers and reach every edge is, as each is eligible for reach
   pub searched-all : (p : ℕ) → (eqb p 2 || ltb 4 p) ≡ true → search (eligible 5 ws 1) es t n 0 (begun n s) ≡ searched p es n s t
   unfolding property
-  searched-all p a = along-same (eligible 5 ws 1) (passes p (valuesFrom (property p) es n s) t)
+  searched-all p a = along-same (eligible 5 ws 1) (isSearched p (valuesFrom (property p) es n s) t)
       (λ x. by-test (eqb p 2) (λ b. rw b) (λ b. let c : ltb 4 p ≡ true = rw b at a in rw (b, c)))
 
 -- what is told of a search is told of one that equals it

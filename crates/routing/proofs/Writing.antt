@@ -8,7 +8,7 @@ use Rattle.property.specs.Property.{property}
 use Rattle.graph.specs.Arc.{arc, arcHead, arcWeight}
 use Rattle.graph.specs.Refusal.{over}
 use Rattle.graph.specs.Edge.{Edge}
-use Rattle.graph.specs.Trail.{visited}
+use Rattle.graph.specs.Leads.{visited}
 use Rattle.graph.proofs.Arcs.{head-arc, weight-arc}
 use Rattle.answers.specs.Routing.{isMarked, marksOf}
 use Rattle.routing.specs.Code.{weightAt, Trace}

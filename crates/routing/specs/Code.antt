@@ -8,10 +8,11 @@
 --   unfaulted n cs m q out == the outcome of a request that numbers 1 to 6 let pass
 --   Routable ..           == what such a request has: few vertices, a table that keeps the rules, a property, source and target, and lists with room
 --   isEligible p v x w y  == `eligible` of an edge of weight w whose ends have the best values x and y
---   searchOf m qs vs      == the m vertices at the front of qs and the words vs, as a search
---   Searching m qs vs     == a search under way: each vertex is found once, so those found and those not found are all of them, and qs has room for them
+--   searchOf m us rs      == the m vertices at the front of us and the words rs, as a search
+--   Searching m us rs     == a search under way: each vertex is found once, so those found and those not found are all of them, and us has room for them
 --   weightAt ps i         == the weight of edge i of a route
---   Trace s t vs ps       == vs leads back from t to s along the edges ps: the word of each vertex of the route but the first is the arc of the edge to it
+--   Trace s t rs ps       == rs leads back from t to s along the edges ps: the word of each vertex of the route but the first is the arc of the reversed
+--                            edge to it
 use mathlib.Core.Path.{_≡_}
 use mathlib.Core.Logic.{_≢_}
 use mathlib.Core.Bool.{Bool, not, cond}
@@ -26,12 +27,12 @@ use Rattle.graph.specs.Refusal.{Reply, accepted, refused, Outcome, outcome}
 use Rattle.graph.specs.Edge.{Edge}
 use Rattle.graph.specs.Table.{Columns}
 use Rattle.graph.specs.Code.{equal}
-use Rattle.graph.specs.Trail.{visited}
+use Rattle.graph.specs.Leads.{visited}
 use Rattle.answers.specs.Routing.{Request, Answer, preferred, noRoute, withRoute}
 use Rattle.calls.specs.Code.{Tabled}
 use Rattle.routing.specs.declared.Request as declared
-use Rattle.routing.specs.declared.Routed.{Routed}
-use Rattle.routing.specs.declared.Routed.the-variants.{Vertices, Refused}
+use Rattle.routing.specs.declared.RouteReply.{RouteReply}
+use Rattle.routing.specs.declared.RouteReply.the-variants.{Vertices, Refused}
 use Rattle.routing.specs.Search.{unfound, Search}
 
 abbrev pub requesting : ℕ → ℕ → ℕ → Request
@@ -43,11 +44,11 @@ requestOf r = requesting (r .property) (r .source) (r .target)
 abbrev pub answerOf : List ℕ → List ℕ → Answer
 answerOf xs ys = record { vertices = xs; marks = ys }
 
-unfoldable pub routing : Routed → Reply ℕ
+unfoldable pub routing : RouteReply → Reply ℕ
 routing (Vertices k) = accepted k
 routing (Refused k i) = refused k i
 
-abbrev pub routeOutcome : Routed → List ℕ → List ℕ → Outcome ℕ Answer
+abbrev pub routeOutcome : RouteReply → List ℕ → List ℕ → Outcome ℕ Answer
 routeOutcome r xs ys = record { reply = routing r; memory = answerOf xs ys }
 
 abbrev pub unfaulted : ℕ → Columns → ℕ → Request → Answer → Outcome ℕ Answer
@@ -69,24 +70,24 @@ abbrev pub isEligible : ℕ → ℕ → ℕ → ℕ → ℕ → Bool
 isEligible p v x w y = cond (leb p 2) (eqb (property p .along x w) y) (not (property p .better v (property p .along (property p .start) w)))
 
 abbrev pub searchOf : ℕ → List ℕ → List ℕ → Search
-searchOf m qs vs = record { queue = take m qs; via = vs }
+searchOf m us rs = record { queue = take m us; via = rs }
 
-pub record Searching (m : ℕ) (qs vs : List ℕ) : Type 0 where
-  pub few : length vs ≤ maxVertices
-  pub room : length vs ≤ length qs
-  pub once : m + equal unfound vs ≡ length vs
-  pub inside : (i : ℕ) → i < m → getD qs i 0 < length vs
+pub record Searching (m : ℕ) (us rs : List ℕ) : Type 0 where
+  pub few : length rs ≤ maxVertices
+  pub room : length rs ≤ length us
+  pub once : m + equal unfound rs ≡ length rs
+  pub inside : (i : ℕ) → i < m → getD us i 0 < length rs
 
 -- ---- the way back
 
 abbrev pub weightAt : List Edge → ℕ → ℕ
 weightAt ps i = getD (map (λ e. e .weight) ps) i 0
 
-pub record Trace (s t : ℕ) (vs : List ℕ) (ps : List Edge) : Type 0 where
-  pub most : length vs ≤ maxVertices
-  pub few : length ps < length vs
+pub record Trace (s t : ℕ) (rs : List ℕ) (ps : List Edge) : Type 0 where
+  pub few : length rs ≤ maxVertices
+  pub short : length ps < length rs
   pub last : getD (visited s ps) (length ps) 0 ≡ t
-  pub inside : (i : ℕ) → i ≤ length ps → getD (visited s ps) i 0 < length vs
-  pub back : (i : ℕ) → i < length ps → getD vs (getD (visited s ps) (suc i) 0) 0 ≡ arc (getD (visited s ps) i 0) (weightAt ps i)
+  pub inside : (i : ℕ) → i ≤ length ps → getD (visited s ps) i 0 < length rs
+  pub back : (i : ℕ) → i < length ps → getD rs (getD (visited s ps) (suc i) 0) 0 ≡ arc (getD (visited s ps) i 0) (weightAt ps i)
   pub light : (i : ℕ) → i < length ps → weightAt ps i < arcWeights
   pub away : (i : ℕ) → i < length ps → getD (visited s ps) (suc i) 0 ≢ s

@@ -18,7 +18,7 @@ struct Request {
 }
 
 // The reply to a request for a route: how many vertices it has.
-pub enum Routed {
+pub enum RouteReply {
     Vertices(u32),
     Refused(u32, usize),
 }
@@ -58,7 +58,7 @@ fn find_route(
     via: &mut [u32],
     vertices: &mut [u32],
     marks: &mut [u32],
-) -> Routed
+) -> RouteReply
     requires { ⌜ Routable n count (request .property) (request .source) (request .target) (now tails) (now heads) (now weights) (now vertices) (now marks) × (length (now via) ≡ n) ⌝ }
     ensures { λ r. ⌜ routeOutcome r (now (vertices .exit)) (now (marks .exit)) ≡ unfaulted n (columns (now (tails .entry)) (now (heads .entry)) (now (weights .entry))) count (requestOf request) (answerOf (now (vertices .entry)) (now (marks .entry))) ⌝ }
 {
@@ -68,9 +68,9 @@ fn find_route(
     let s = source as usize;
     let t = target as usize;
     if !search::find(p, n, s, t, count, tails, heads, weights, via) {
-        return Routed::Refused(15, 0);
+        return RouteReply::Refused(15, 0);
     }
-    Routed::Vertices(write::write_route(p, source, target, via, vertices, marks))
+    RouteReply::Vertices(write::write_route(p, source, target, via, vertices, marks))
 }
 
 // The route from source to target: refused, or its vertices and marks are written to their lists; words past them stay.
@@ -85,7 +85,7 @@ pub fn route(
     target: u32,
     vertices: &mut [u32],
     marks: &mut [u32],
-) -> Routed
+) -> RouteReply
     ensures { λ r. ⌜ routeOutcome r (now (vertices .exit)) (now (marks .exit)) ≡ routeCall n (columns (now (tails .entry)) (now (heads .entry)) (now (weights .entry))) count (requesting property source target) (answerOf (now (vertices .entry)) (now (marks .entry))) ⌝ }
 {
     let request = Request {
@@ -104,7 +104,7 @@ pub fn route(
         marks.len(),
     );
     if let Judged::Refused(number, place) = judged {
-        return Routed::Refused(number, place);
+        return RouteReply::Refused(number, place);
     }
     let size = n as usize;
     let mut via = [0u32; graph::VERTEX_WORDS];

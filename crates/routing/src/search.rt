@@ -13,7 +13,7 @@ ghost use Rattle.graph.specs.Edge.{Edge, edges};
 ghost use Rattle.graph.specs.Index.{Fit, Own};
 ghost use Rattle.calls.specs.Code.{Tabled};
 ghost use Rattle.answers.specs.Routing.{eligible};
-ghost use Rattle.routing.specs.Search.{unfound, isUnfound, reach, expand, begun, searched};
+ghost use Rattle.routing.specs.Search.{unfound, isUnfound, look, expand, begun, searched};
 ghost use Rattle.routing.specs.Search as spec;
 ghost use Rattle.routing.specs.Code.{isEligible, searchOf, Searching};
 
@@ -34,13 +34,13 @@ fn is_eligible(p: u32, v: u32, x: u32, w: u32, y: u32) -> bool
     }
 }
 
-// Vertex `h` is found by the arc `by`, where the edge passes its test and the vertex is not found yet; how many are found then.
-fn reach(passes: bool, h: usize, by: u32, queue: &mut [u32], count: usize, via: &mut [u32]) -> usize
+// An edge to vertex `h` is looked at: `h` is found by the arc `by` where the edge passes its test and `h` is not found yet; how many are found then.
+fn look(test: bool, h: usize, by: u32, queue: &mut [u32], count: usize, via: &mut [u32]) -> usize
     requires { ⌜ (h < length (now via)) × (by ≢ unfound) × Searching count (now queue) (now via) ⌝ }
-    ensures { λ r. ⌜ ((f : Edge → Bool) (e : Edge) → f e ≡ passes → e .head ≡ h → arc (e .tail) (e .weight) ≡ by → searchOf r (now (queue .exit)) (now (via .exit)) ≡ reach f (searchOf count (now (queue .entry)) (now (via .entry))) e) ⌝ }
+    ensures { λ r. ⌜ ((f : Edge → Bool) (e : Edge) → f e ≡ test → e .head ≡ h → arc (e .tail) (e .weight) ≡ by → searchOf r (now (queue .exit)) (now (via .exit)) ≡ look f (searchOf count (now (queue .entry)) (now (via .entry))) e) ⌝ }
     ensures { λ r. ⌜ Searching r (now (queue .exit)) (now (via .exit)) ⌝ }
 {
-    if passes && via[h] == UNFOUND {
+    if test && via[h] == UNFOUND {
         via[h] = by;
         queue[count] = h as u32;
         count + 1
@@ -72,8 +72,8 @@ fn expand(
         let a = index[j];
         let h = arc::head(a) as usize;
         let w = arc::weight(a);
-        let passes = is_eligible(p, v, x, w, row[h]);
-        m = reach(passes, h, arc::arc(u as u32, w), queue, m, via);
+        let test = is_eligible(p, v, x, w, row[h]);
+        m = look(test, h, arc::arc(u as u32, w), queue, m, via);
         j += 1;
     }
     m
@@ -106,7 +106,7 @@ fn search(
     via[t] != UNFOUND
 }
 
-// The same, with the number of the property literal in each arm, so that its tests are made once and not at each edge.
+// The same for each property but handovers, with its number literal in each arm, so that its tests are made once and not at each edge.
 fn search_by(
     p: u32,
     v: u32,
@@ -128,8 +128,8 @@ fn search_by(
     }
 }
 
-// The search for a route of property `p`. For handovers and reach every edge is searched, and no best values are asked for: fewer edges are all
-// that counts.
+// The search for a route of property `p`. For handovers and reach fewer edges are all that counts: every edge is searched, as each is eligible for
+// reach, whose value is 1 wherever there is a route; no best values are asked for.
 fn search_best(
     p: u32,
     s: usize,
@@ -149,7 +149,7 @@ fn search_best(
     search_by(p, row[t], s, t, index, row, queue, via)
 }
 
-// The search in a table, with its scratch: whether `t` is found. `via` then leads back from it.
+// The search in a table, with its scratch: whether `t` is found. `via` then leads back from it. The queue's memory is first that of the index's making.
 pub fn find(
     p: u32,
     n: usize,

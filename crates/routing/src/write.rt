@@ -8,7 +8,7 @@ ghost use lib.ListN.{length};
 ghost use Rattle.property.specs.Property.{property};
 ghost use Rattle.graph.specs.Refusal.{over};
 ghost use Rattle.graph.specs.Edge.{Edge};
-ghost use Rattle.graph.specs.Trail.{visited};
+ghost use Rattle.graph.specs.Leads.{visited};
 ghost use Rattle.answers.specs.Routing.{isMarked, marksOf};
 ghost use Rattle.routing.specs.Code.{Trace};
 

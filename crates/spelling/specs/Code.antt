@@ -10,7 +10,7 @@
 --   checkWords             == 1 where settled; else 0, side, row, record
 --   choiceWords            == how many, then the four places
 --   sizeWords              == n and the count of a network that was read
---   oneWord                == a single number: where a row starts, how long a text is, how many sources there are
+--   oneWord                == a single number: where a row starts, how long a text is, how many sources there are, how many vertices a route has
 --   wordsAt j cs           == word j of each of the changes cs
 --   changeOf c             == four words as a change record
 --   changesOf cs           == a list of four words each as change records

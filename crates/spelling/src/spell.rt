@@ -7,7 +7,7 @@ use open::Opened;
 use query::Answered;
 use reader::network_text::ReadReply;
 use reader::sources::SourcesReply;
-use routing::Routed;
+use routing::RouteReply;
 use writer::WriteReply;
 ghost use mathlib.Core.Path.{_≡_};
 ghost use mathlib.Core.List.{List};
@@ -173,16 +173,16 @@ pub fn spell_sources(r: SourcesReply, reply: &mut [u64]) -> u32
 }
 
 // The reply to a request for a route.
-pub fn spell_route(r: Routed, reply: &mut [u64]) -> u32
+pub fn spell_route(r: RouteReply, reply: &mut [u64]) -> u32
     requires { ⌜ replyWords ≤ length (now reply) ⌝ }
     ensures { λ k. ⌜ Tells oneWord (routing r) k (now (reply .entry)) (now (reply .exit)) ⌝ }
 {
     match r {
-        Routed::Vertices(count) => {
+        RouteReply::Vertices(count) => {
             reply[0] = count as u64;
             0
         }
-        Routed::Refused(number, place) => {
+        RouteReply::Refused(number, place) => {
             reply[0] = place as u64;
             number
         }

@@ -10,14 +10,14 @@ use Rattle.property.proofs.Tests.{is-false}
 use Rattle.property.proofs.RouteLaws.{Strict, Selects}
 use Rattle.graph.specs.Edge.{Edge, keep}
 use Rattle.graph.specs.Route.{Route, here, step, Best}
-use Rattle.graph.specs.Trail.{Leads, stop, on, valueAlong, BestLeads}
+use Rattle.graph.specs.Leads.{Leads, stop, on, valueAlong, BestLeads}
 use Rattle.graph.proofs.Edges.{keep-in, in-keep}
 use Rattle.graph.proofs.Order.{Within}
 use Rattle.run.specs.Run.{word, tight}
 use Rattle.theory.proofs.Value.{Attained, value-fits, value-after, best-settled}
 use Rattle.theory.proofs.Exists.{best-same}
 use Rattle.theory.proofs.Tight.{source-word}
-use Rattle.theory.proofs.Trail.{leads-map, leads-route, route-leads, leads-best, along-after, along-none, count-along}
+use Rattle.theory.proofs.Leads.{leads-map, leads-route, route-leads, leads-best, along-after, along-none, count-along}
 
 abbrev pub own : Property → ℕ → Edge → Bool
 own P v e = not (P .better v (P .along (P .start) (e .weight)))

@@ -10,6 +10,6 @@ pub mod Query
 pub mod Fits
 pub mod Hops
 pub mod Routed
-pub mod Trail
+pub mod Leads
 pub mod Kept
 pub mod Drift

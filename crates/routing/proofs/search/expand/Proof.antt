@@ -7,7 +7,7 @@ use Rattle.graph.specs.Index.{part}
 use Rattle.answers.specs.Routing.{eligible}
 use Rattle.graph.proofs.Lists.{fold-turn, fold-done}
 use Rattle.run.proofs.Folds.{part-more, part-none}
-use Rattle.routing.specs.Search.{reach}
+use Rattle.routing.specs.Search.{look}
 use Rattle.routing.specs.Code.{searchOf, Searching}
 use Rattle.routing.proofs.Steps.{eligible-word, expand-own}
 use Rattle.routing.proofs.search.expand.Statement.{statement}
@@ -15,8 +15,8 @@ use Rattle.routing.proofs.search.expand.Tie as tie
 
 abbrev Inv-loop : tie.InvT-loop
 Inv-loop p v u index row queue₀ count via₀ x hi j₀ m₀ queue via j m =
-    (foldl (reach (eligible p row v)) (searchOf m queue via) (part index u j (hi - j))
-    ≡ foldl (reach (eligible p row v)) (searchOf count queue₀ via₀) (part index u j₀ (hi - j₀)))
+    (foldl (look (eligible p row v)) (searchOf m queue via) (part index u j (hi - j))
+    ≡ foldl (look (eligible p row v)) (searchOf count queue₀ via₀) (part index u j₀ (hi - j₀)))
     × (length via₀ < j) × (j ≤ hi) × (hi ≤ getD index (length via₀) 0) × (length via ≡ length via₀) × Searching m queue via × (length queue ≡ length queue₀)
 
 abbrev μ-loop : tie.MeasureT-loop
@@ -42,8 +42,8 @@ arc-requires c κs =
     let s = c .before .before .before .before .before .before .before .before .before .before .before .before .before .before in
     (omega (arith, s .pre .0, s .pre .1 .few), omega (arith, c .before .before .weight .ensures))
 
-reach-requires : tie.Need-reach-requires Inv-loop μ-loop
-reach-requires c κs =
+look-requires : tie.Need-look-requires Inv-loop μ-loop
+look-requires c κs =
     let a = c .before .before in
     let h = a .before .before .before .before in
     let l = h .before .before .before in
@@ -69,14 +69,14 @@ loop-again c =
     let i = s .pre .1 .inside (at .j) (omega arith) (omega arith) in
     let z = eligible-word (g .p) (g .v) (g .u) (h .head .result) (w .weight .result) arcAt (g .row .now) _
     (omega (arith, s .pre .0, s .pre .2)) (omega (arith, s .pre .2)) (h .head .ensures) (w .weight .ensures) (a .before .is-eligible .ensures) in
-    let q = r .reach .ensures .0 F e z (sym (h .head .ensures)) (ap (arc (g .u)) (sym (w .weight .ensures)) ∙ sym (a .arc .ensures)) in (
-      fold-turn (reach F) e (part-more _ _ _ _ (t .loop-test .taken)) q (at .inv .0),
+    let q = r .look .ensures .0 F e z (sym (h .head .ensures)) (ap (arc (g .u)) (sym (w .weight .ensures)) ∙ sym (a .arc .ensures)) in (
+      fold-turn (look F) e (part-more _ _ _ _ (t .loop-test .taken)) q (at .inv .0),
       omega arith,
       omega arith,
       at .inv .3,
       omega arith,
-      r .reach .ensures .1,
-      r .reach .kept .1 .1 .1 .0 ∙ at .inv .6,
+      r .look .ensures .1,
+      r .look .kept .1 .1 .1 .0 ∙ at .inv .6,
     )
 
 returns : tie.Need-returns Inv-loop μ-loop
@@ -86,7 +86,7 @@ returns c =
     let g = s .args in
     let F = eligible (g .p) (g .row .now) (g .v) in (
       λ es o.
-          fold-done (reach F) (part-none _ _ _ _ (c .loop-test .left)) (l .loop .inv .0)
+          fold-done (look F) (part-none _ _ _ _ (c .loop-test .left)) (l .loop .inv .0)
           ∙ expand-own F es (g .index .now) _ (g .u) (o (g .u) (s .pre .0)),
       l .loop .inv .5,
     )
@@ -117,7 +117,7 @@ expand-spec =
     (λ c κs. search needs)
     (λ c. search needs)
     arc-requires
-    reach-requires
+    look-requires
     (λ c. search needs)
     (λ c. search needs)
     loop-again

@@ -21,7 +21,7 @@ more : (c : tie.In-loop Inv-loop μ-loop) (ps : List Edge) → Trace (c .before 
 more c ps h = at-other h (c .before .loop .inv ps h .1) (c .loop-test .taken)
 
 room : (c : tie.In-loop Inv-loop μ-loop) → c .before .loop .k + 1 < length (c .before .before .before .args .via .now)
-room c = let (ps, h) = c .before .before .before .pre in omega (arith, more c ps h, h .few)
+room c = let (ps, h) = c .before .before .before .pre in omega (arith, more c ps h, h .short)
 
 loop-again : tie.Need-loop-again Inv-loop μ-loop
 loop-again c =

@@ -3,7 +3,7 @@ use Rattle.property.proofs.Basics.{needs, arith, _≡_, refl, sym, _∙_, List,
 use Rattle.graph.specs.Limits.{maxVertices}
 use Rattle.graph.specs.Refusal.{over}
 use Rattle.graph.specs.Edge.{Edge}
-use Rattle.graph.specs.Trail.{visited}
+use Rattle.graph.specs.Leads.{visited}
 use Rattle.graph.proofs.Copies.{over-back-turn, over-set, over-back-start, over-back-done}
 use Rattle.routing.specs.Code.{Trace}
 use Rattle.routing.proofs.Writing.{At, at-last, at-inside, at-back, at-weight, length-visited, length-weights}
@@ -22,7 +22,7 @@ abbrev μ-loop : tie.MeasureT-loop
 
 -- the route is shorter than the list of words, so that its places are in the lists for the answer
 few : (c : tie.Start Inv-loop μ-loop) → let a = c .args in (a .k < length (a .via .now)) × (length (a .via .now) ≤ maxVertices)
-few c = let (s, ps, h, e) = c .pre .0 in (omega (arith, h .few), h .most)
+few c = let (s, ps, h, e) = c .pre .0 in (omega (arith, h .short), h .few)
 
 -- at each turn the vertex has a word, and the place before is in the lists for the answer
 near : (c : tie.At-loop Inv-loop μ-loop) → c .loop .u < length (c .before .before .before .before .args .via .now)

@@ -6,7 +6,7 @@ use Rattle.routing.proofs.write.write_route.Tie as tie
 
 -- the route is shorter than the list of words
 few : (c : tie.After-edges-back) → let n = length (c .before .before .before .before .args .via .now) in (c .edges-back .result < n) × (n ≤ maxVertices)
-few c = let (ps, h) = c .before .before .before .before .pre .0 in (omega (arith, h .few, c .edges-back .ensures ps h), h .most)
+few c = let (ps, h) = c .before .before .before .before .pre .0 in (omega (arith, h .short, c .edges-back .ensures ps h), h .few)
 
 write-back-requires : tie.Need-write-back-requires
 write-back-requires c κs =

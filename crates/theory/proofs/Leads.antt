@@ -1,10 +1,13 @@
 -- Routes edge by edge against routes by their value; there is one preferred route only, by its vertices. Assumes nothing.
+--
+--   NoLater s ps qs  == of two routes from s, ps has no more edges than qs, and where it has as many, qs is not lower
+--   Least es s t ps  == the edges ps lead from s to t, and are no later than any others of es that do
 use Rattle.property.proofs.Basics.{_≡_, refl, sym, ap, _∙_, inl, _↔_, false, _&&_, List, [], _∷_, _++_, List·Memᴰ, ℕ, _+_, min, _≤_, arith, length, length-map, eqb, ltb, ltb-false, eq-eqb}
 use Rattle.property.specs.Property.{M, Property, plus, bfs, ssr}
 use Rattle.property.specs.Laws.{Laws}
 use Rattle.graph.specs.Edge.{Edge}
 use Rattle.graph.specs.Route.{Route, here, step, Best}
-use Rattle.graph.specs.Trail.{Leads, stop, on, visited, valueAlong, lower, BestLeads, Preferred}
+use Rattle.graph.specs.Leads.{Leads, stop, on, visited, valueAlong, lower, BestLeads, Preferred}
 use Rattle.graph.proofs.Tests.{neither}
 use Rattle.graph.proofs.Order.{Within}
 
@@ -14,9 +17,14 @@ pub leads-map : {es fs : List Edge} {s t : ℕ} {ps : List Edge} → ((e : Edge)
 leads-map f stop = stop
 leads-map f (on {e = e} m l) = on (f e m) (leads-map f l)
 
-leads-snoc : {es : List Edge} {s : ℕ} {ps : List Edge} {e : Edge} {u : ℕ} → Leads es s ps u → u ≡ e .tail → List·Memᴰ e es → Leads es s (ps ++ e ∷ []) (e .head)
+-- a route goes on along an edge from its end
+pub leads-snoc : {es : List Edge} {s : ℕ} {ps : List Edge} {e : Edge} {u : ℕ} → Leads es s ps u → u ≡ e .tail → List·Memᴰ e es → Leads es s (ps ++ e ∷ []) (e .head)
 leads-snoc stop p m = rw p (on m stop)
 leads-snoc (on k l) p m = on k (leads-snoc l p m)
+
+pub leads-none : {es ps : List Edge} {s t : ℕ} → Leads es s ps t → length ps ≤ 0 → (ps ≡ []) × (s ≡ t)
+leads-none stop h = (refl, refl)
+leads-none (on i l) h = absurd (omega arith)
 
 value-snoc : (P : Property) (v : ℕ) (ps : List Edge) (e : Edge) → valueAlong P v (ps ++ e ∷ []) ≡ P .along (valueAlong P v ps) (e .weight)
 unfolding valueAlong
@@ -76,6 +84,14 @@ pub reach-along : (x : ℕ) (ps : List Edge) → valueAlong ssr x ps ≡ x
 unfolding valueAlong
 reach-along x [] = refl
 reach-along x (e ∷ ps) = reach-along x ps
+
+-- ---- the order of routes
+
+abbrev pub NoLater : ℕ → List Edge → List Edge → Type 0
+NoLater s ps qs = (length ps ≤ length qs) × (length qs ≡ length ps → lower (visited s qs) (visited s ps) ≡ false)
+
+abbrev pub Least : List Edge → ℕ → ℕ → List Edge → Type 0
+Least es s t ps = Leads es s ps t × ((qs : List Edge) → Leads es s qs t → NoLater s ps qs)
 
 -- ---- one preferred route
 

@@ -4,7 +4,7 @@ use mathlib.Core.List.{nil≢cons, cons≢nil, head-eq-of-cons-eq, tail-eq-of-co
 use Rattle.graph.specs.Edge.{Edge, alike}
 use Rattle.graph.specs.Table.{isEdge, tableOrder}
 use Rattle.graph.specs.Sorted.{Distinct}
-use Rattle.graph.specs.Trail.{Leads, stop, on, visited}
+use Rattle.graph.specs.Leads.{Leads, stop, on, visited}
 use Rattle.graph.proofs.Edges.{true-exists}
 use Rattle.graph.proofs.Sorted.{sorted-distinct}
 use Rattle.graph.proofs.Order.{Sound, pair-alike, table-ordered}
