@@ -10,7 +10,7 @@ use Rattle.property.proofs.Tests.{by-test}
 use Rattle.graph.specs.Edge.{Edge, precedes}
 use Rattle.graph.specs.Table.{isEdge}
 use Rattle.graph.specs.Route.{Best}
-use Rattle.graph.specs.Leads.{Leads, stop, on, visited, lower}
+use Rattle.graph.specs.Leads.{Leads, stop, on, lower}
 use Rattle.graph.proofs.Tests.{both, and-true}
 use Rattle.graph.proofs.Order.{table-ordered, Sound, Less, less-of}
 use Rattle.graph.proofs.Keeps.{ahead-mem}

@@ -1,5 +1,5 @@
 -- The route that is written is the preferred one, and 15 comes exactly where there is none: the claim, proved. Assumes nothing.
-use Rattle.property.proofs.Basics.{_≡_, refl, sym, ap, _∙_, subst, _≢_, _↔_, Bool, true, not, _&&_, List, [], _∷_, ℕ, suc, _≤_, _<_, arith, length, eqb, ltb, leb, eqb-true, eqb-false, eq-eqb, ne-eqb, ltb-true, leb-true, not-false, not-suc-le-zero}
+use Rattle.property.proofs.Basics.{_≡_, refl, sym, ap, _∙_, subst, _≢_, _↔_, Bool, true, not, _&&_, List, [], _∷_, ℕ, suc, _≤_, _<_, arith, length, ltb, leb, eqb-true, eq-eqb, ne-eqb, ltb-true, leb-true, not-false, not-suc-le-zero}
 use Rattle.property.specs.Property.{Property, property, properties, isProperty}
 use Rattle.property.proofs.Tests.{is-true}
 use Rattle.property.proofs.Instances.{property-laws}
@@ -17,10 +17,9 @@ use Rattle.answers.specs.Routing.{Request, Answer, preferred, marksOf, r
 use Rattle.answers.proofs.Marks.{marks-for}
 use Rattle.answers.proofs.Preferring.{Asked, preferred-holds, unrouted}
 
--- a last refusal comes exactly where its test holds
-if-refused : (b : Bool) (k i : ℕ) → (refuseIf b k i ≡ refuse k i) ↔ (b ≡ true)
-unfolding refuseIf
-if-refused b k i = (λ h. is-true b (λ q. not-accept (sym h ∙ accept-if k i q)), λ q. rw q)
+-- a refusal comes where its test holds
+if-refused : (b : Bool) (k i : ℕ) → refuseIf b k i ≡ refuse k i → b ≡ true
+if-refused b k i h = is-true b (λ q. not-accept (sym h ∙ accept-if k i q))
 
 module _ (n : ℕ) (cs : Columns) (m : ℕ) (q : Request) where
   abbrev P : Property
@@ -54,6 +53,11 @@ module _ (n : ℕ) (cs : Columns) (m : ℕ) (q : Request) where
     abbrev none : Verdict
     none = noRoute n cs m q
 
+    -- at the no-route word 15 comes
+    refuses : bestWord n cs m q ≡ P .none → none ≡ refuse 15 0
+    unfolding refuseIf _▷_
+    refuses z = rw (eq-eqb _ _ z)
+
     -- ---- accepted
 
     module _ (k : ℕ) (e : (routeCall n cs m q out) .reply ≡ accepted k) where
@@ -65,7 +69,7 @@ module _ (n : ℕ) (cs : Columns) (m : ℕ) (q : Request) where
       asked = faults-asked _ _ ((then-accept faults none (fine .0)) .0)
 
       holds : Preferred P es (q .source) (q .target) (preferred n cs m q) × (length (preferred n cs m q) < n)
-      holds = preferred-holds n cs m q asked (eqb-false _ _ (if-accept _ _ _ ((then-accept faults none (fine .0)) .1)))
+      holds = preferred-holds n cs m q asked (λ z. not-accept (sym (refuses z) ∙ (then-accept faults none (fine .0)) .1))
 
       left : (routeCall n cs m q out) .memory ≡ withRoute n cs m q out
       unfolding routeCall
@@ -89,8 +93,7 @@ module _ (n : ℕ) (cs : Columns) (m : ℕ) (q : Request) where
       fits : k ≤ n
       fits = let a = fine .1 in let b = holds .1 in omega arith
 
-    -- ---- refused
-
+    -- what has a route has a best value that is not the no-route word
     served : faults ≡ accept → (ps : List Edge) → Leads es (q .source) ps (q .target) → (k : ℕ) × ((routeCall n cs m q out) .reply ≡ accepted k)
     unfolding routeCall
     served h ps l =
@@ -99,14 +102,15 @@ module _ (n : ℕ) (cs : Columns) (m : ℕ) (q : Request) where
           ap (λ o. o .reply) (outcome-accepted (faults ▷ none) _ (withRoute n cs m q out) out (accept-then h ∙ accept-if 15 0 (ne-eqb _ _ d))),
         )
 
+    -- ---- refused
+
     -- where the other numbers let pass, the reply is 15 where the best value is the no-route word, and that is where there is no route
     barred : faults ≡ accept → ((routeCall n cs m q out) .reply ≡ refused 15 0) ↔ ((ps : List Edge) → Leads es (q .source) ps (q .target) → ⊥)
     unfolding routeCall replied
     barred h =
-        let u = unrouted n es (q .property) (q .source) (q .target) (faults-asked _ _ h) in
-        let c = if-refused (eqb (bestWord n cs m q) (P .none)) 15 0 in (
-          λ e. u .0 (eqb-true _ _ (c .0 (sym (accept-then h) ∙ reply-refused (faults ▷ none) (suc (length (preferred n cs m q))) e))),
-          λ d. ap (λ v. replied v (suc (length (preferred n cs m q)))) (accept-then h ∙ c .1 (eq-eqb _ _ (u .1 d))),
+        let u = unrouted n es (q .property) (q .source) (q .target) (faults-asked _ _ h) in (
+          λ e. u .0 (eqb-true _ _ (if-refused _ 15 0 (sym (accept-then h) ∙ reply-refused (faults ▷ none) (suc (length (preferred n cs m q))) e))),
+          λ d. ap (λ v. replied v (suc (length (preferred n cs m q)))) (accept-then h ∙ refuses (u .1 d)),
         )
 
     judged : (k i : ℕ) → faults ≡ refuse k i → (routeCall n cs m q out) .reply ≡ refused k i

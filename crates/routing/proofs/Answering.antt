@@ -1,5 +1,5 @@
 -- What the search finds is the preferred route, and where it finds none there is none; and the outcomes of the call. Assumes nothing.
-use Rattle.property.proofs.Basics.{_≡_, refl, sym, ap, subst, _∙_, _⊎_, inl, inr, _≢_, Bool, true, false, true≢false, not, _||_, List, List·Memᴰ, ℕ, suc, ℕ-discrete, length, eqb, ltb, eqb-true, ltb-true, ltb-false, eq-eqb, ne-eqb}
+use Rattle.property.proofs.Basics.{_≡_, refl, sym, ap, subst, _∙_, inl, inr, _≢_, Bool, true, false, true≢false, not, List, List·Memᴰ, ℕ, suc, ℕ-discrete, length, eqb, ltb, eqb-true, ltb-true, ltb-false, eq-eqb, ne-eqb}
 use Rattle.property.specs.Property.{Property, property}
 use Rattle.property.proofs.Tests.{by-test}
 use Rattle.graph.specs.declared.Judged.{Judged}
@@ -15,13 +15,11 @@ use Rattle.graph.proofs.Judging.{bare-accept}
 use Rattle.graph.proofs.Edges.{keep-in, in-keep}
 use Rattle.graph.proofs.Order.{rules-accept}
 use Rattle.graph.proofs.Leading.{visited-edges}
-use Rattle.run.specs.Start.{valuesFrom}
 use Rattle.theory.proofs.Leads.{leads-map, preferred-unique}
-use Rattle.answers.specs.Routing.{Request, Answer, eligible, bestWords, bestWord, preferred, marksOf, routeFaults, noRoute, withRoute, routeCall}
+use Rattle.answers.specs.Routing.{Request, eligible, bestWords, bestWord, preferred, marksOf, routeFaults, noRoute, withRoute, routeCall}
 use Rattle.network.specs.Query.{shortWords}
 use Rattle.answers.proofs.Routing.{faults-asked}
 use Rattle.answers.proofs.Preferring.{Asked, fewest-preferred, least-preferred, eligible-leads, unrouted, preferred-holds}
-use Rattle.routing.specs.declared.RouteReply.{RouteReply}
 use Rattle.routing.specs.declared.RouteReply.the-variants.{Vertices, Refused}
 use Rattle.routing.specs.Search.{Search, isUnfound, isSearched, searched}
 use Rattle.routing.specs.Code.{requesting, routing, answerOf, routeOutcome, unfaulted, Routable, Trace}

@@ -3,7 +3,7 @@
 -- A vertex is put at the end of the queue when it is found, and then its word is an arc's, which is never `unfound`. So the words that are
 -- `unfound` fall by one whenever the queue grows by one: together they stay as many as there are vertices. Where one more is found, some word was
 -- `unfound`, so the queue has room for it; and the entry that is expanded is always below the number of vertices, so that number of steps suffices.
-use Rattle.property.proofs.Basics.{_≡_, refl, sym, ap, ap₂, _∙_, _≢_, _⊎_, inl, inr, ⊎-elim, Bool, true, false, _&&_, _||_, List, [], _∷_, foldl, not, ℕ, zero, suc, _+_, _-_, _≤_, _<_, add-one, arith, length, getD, set, take, replicate, eqb, ltb, length-set, length-replicate, length-take-le, take-suc-set, getD-take, sub-zero, getD-set-same, lt-ltb, le-ltb, eq-eqb, ne-eqb, eqb-true, eqb-false, le-leb, lt-leb}
+use Rattle.property.proofs.Basics.{_≡_, sym, ap, ap₂, _∙_, _≢_, _⊎_, inl, inr, ⊎-elim, Bool, true, false, _&&_, _||_, List, foldl, not, ℕ, zero, suc, _+_, _-_, _≤_, _<_, add-one, arith, length, getD, set, take, replicate, eqb, ltb, length-set, length-replicate, length-take-le, take-suc-set, getD-take, sub-zero, getD-set-same, lt-ltb, le-ltb, eqb-true, le-leb, lt-leb}
 use Rattle.property.proofs.Tests.{by-test}
 use Rattle.property.specs.Property.{property}
 use Rattle.property.proofs.Instances.{property-rest}

@@ -1,5 +1,5 @@
 -- `routing::route` meets its contract: judged, then found. Assumes nothing.
-use Rattle.property.proofs.Basics.{needs, arith, _≡_, sym, _∙_, ℕ, length, take, replicate, length-take-le}
+use Rattle.property.proofs.Basics.{needs, _≡_, sym, _∙_, ℕ, length, take, replicate, length-take-le}
 use Rattle.graph.specs.Limits.{maxVertices}
 use Rattle.graph.specs.Refusal.{accept}
 use Rattle.graph.specs.Table.{Columns}
