@@ -1,5 +1,5 @@
 -- The route that is written is the preferred one, and 15 comes exactly where there is none: the claim, proved. Assumes nothing.
-use Rattle.property.proofs.Basics.{_≡_, refl, sym, ap, _∙_, subst, _≢_, _↔_, Bool, true, not, _&&_, List, [], _∷_, ℕ, suc, _≤_, _<_, arith, length, ltb, leb, eqb-true, eq-eqb, ne-eqb, ltb-true, leb-true, not-false, not-suc-le-zero}
+use Rattle.property.proofs.Basics.{_≡_, sym, ap, _∙_, subst, _≢_, _↔_, Bool, true, not, _&&_, List, [], _∷_, ℕ, suc, _≤_, _<_, arith, length, ltb, leb, eqb-true, eq-eqb, ne-eqb, ltb-true, leb-true, not-false}
 use Rattle.property.specs.Property.{Property, property, properties, isProperty}
 use Rattle.property.proofs.Tests.{is-true}
 use Rattle.property.proofs.Instances.{property-laws}
@@ -11,7 +11,7 @@ use Rattle.graph.proofs.Tests.{both}
 use Rattle.graph.proofs.Verdicts.{not-accept, then-accept, accept-then, accept-if, refuse-then, if-accept, reply-accepted, reply-refused, choose-accept, outcome-refused, outcome-accepted}
 use Rattle.graph.proofs.Judging.{bare-accept}
 use Rattle.graph.proofs.Order.{within, rules-accept}
-use Rattle.theory.proofs.Leads.{along-after, preferred-unique}
+use Rattle.theory.proofs.Leads.{leads-none, along-after, preferred-unique}
 use Rattle.network.specs.Query.{shortWords}
 use Rattle.answers.specs.Routing.{Request, Answer, preferred, marksOf, routeFaults, noRoute, withRoute, routeCall, WritesRoute, otherFaults, bestWord, RoutesPreferred, OneVertex}
 use Rattle.answers.proofs.Marks.{marks-for}
@@ -138,10 +138,6 @@ routes-preferred n cs m q out = record {
 
 -- ---- source and target are one
 
-no-edge : (ps : List Edge) → length ps ≤ 0 → ps ≡ []
-no-edge [] h = refl
-no-edge (e ∷ ps) h = absurd (not-suc-le-zero h)
-
 module _ (n : ℕ) (cs : Columns) (m : ℕ) (q : Request) (out : Answer) (h : otherFaults n cs m q out ≡ accept) (z : q .source ≡ q .target) where
   able : Asked n (es n cs m q) (q .property) (q .source) (q .target)
   able = faults-asked n cs m q _ _ h
@@ -163,7 +159,7 @@ module _ (n : ℕ) (cs : Columns) (m : ℕ) (q : Request) (out : Answer) (h : ot
   }
 
   alone : preferred n cs m q ≡ []
-  alone = no-edge _ ((preferred-holds n cs m q able routed) .0 .fewest [] at-once)
+  alone = let p = (preferred-holds n cs m q able routed) .0 in (leads-none (p .best .leads) (p .fewest [] at-once)) .0
 
   -- the outcome that writes the edges ps
   abbrev writing : List Edge → Outcome ℕ Answer
