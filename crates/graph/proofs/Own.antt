@@ -4,15 +4,15 @@
 -- In a table that keeps the rules tails never fall. So the edges of tail u stand together: after as many as have a tail below u,
 -- and as many as have the tail u. An index says just these two numbers. The reversed table is made of the edges into 0, into 1, ..,
 -- so there the same numbers are those of the heads.
-use Rattle.property.proofs.Basics.{_≡_, refl, sym, ap, _∙_, List, [], _∷_, map, List·Memᴰ, ℕ, zero, suc, _+_, _-_, _<_, _≤_, add-one, arith, length, getD, take, drop, length-drop, eqb, ltb, length-take-le, getD-take, getD-drop, ltb-true, ltb-false, eqb-true, eqb-false, le-ltb, ne-eqb}
+use Rattle.property.proofs.Basics.{_≡_, refl, sym, ap, _∙_, Bool, true, false, List, [], _∷_, map, List·Memᴰ, ℕ, zero, suc, _+_, _-_, _<_, _≤_, add-zero, add-one, arith, length, getD, take, drop, length-drop, eqb, ltb, length-take-le, getD-take, getD-drop, ltb-true, ltb-false, eqb-true, eqb-false, le-ltb, ne-eqb}
 use Rattle.property.proofs.Tests.{by-test}
 use Rattle.graph.specs.Limits.{maxVertices, maxEdges, maxWeight}
 use Rattle.graph.specs.Refusal.{accept}
 use Rattle.graph.specs.Edge.{Edge, edge, reverse, keepIf, keep, leaving, edges}
 use Rattle.graph.specs.Table.{isEdge, rules}
 use Rattle.graph.specs.Code.{Room, edgeAt, below, equal, Keyed, Firsts, into}
-use Rattle.graph.specs.Arc.{arcHeads, arcWeights, arc, arcHead}
-use Rattle.graph.specs.Index.{part, Fit, Own, Indexable, ReversedArcs, Indexes}
+use Rattle.graph.specs.Arc.{arcHeads, arcWeights, arc, arcHead, arcWeight, headIn, weightIn}
+use Rattle.graph.specs.Index.{partIn, FitIn, OwnIn, IndexesIn, Indexable, ReversedArcs, Indexes}
 use Rattle.graph.specs.Parted.{Ascending}
 use Rattle.graph.proofs.Lists.{getD-mem}
 use Rattle.graph.proofs.Edges.{leaving-in, keep-in, keep-reverse, reverse-mem}
@@ -83,58 +83,61 @@ key-at (suc n) ks k l = by-test (ltb k (below n ks))
     (λ q. let (u, a, b, c) = key-at n ks k (ltb-true k (below n ks) q) in (u, omega arith, b, c))
     (λ q. let z = below-suc n ks in (n, omega arith, ltb-false k (below n ks) q, omega arith))
 
--- ---- an index by keys: the edges of a vertex stand after as many as have a lower key
+-- ---- places by keys: the edges of a vertex stand after as many as have a lower key, from place c on
 
-module _ (n m : ℕ) (ks is : List ℕ) (size : length ks ≡ m) (places : (u : ℕ) → u ≤ n → getD is u 0 ≡ below u ks + (n + 1)) where
-  next : (u : ℕ) → u < n → getD is (u + 1) 0 ≡ below u ks + equal u ks + (n + 1)
-  next u l = let a = places (u + 1) (omega arith) in let b = below-suc u ks in let c = ap (λ (x : ℕ). below x ks) (add-one u) in omega arith
+module _ (b : Bool) (c n m : ℕ) (ks fs xs ys : List ℕ) (size : length ks ≡ m) (places : (u : ℕ) → u ≤ n → getD fs u 0 ≡ below u ks + c) where
+  next : (u : ℕ) → u < n → getD fs (u + 1) 0 ≡ below u ks + equal u ks + c
+  next u l = let a = places (u + 1) (omega arith) in let d = below-suc u ks in let e = ap (λ (x : ℕ). below x ks) (add-one u) in omega arith
 
-  fits : n ≤ maxVertices → m ≤ maxEdges → n + 1 + m ≤ length is → ((k : ℕ) → k < m → arcHead (getD is (n + 1 + k) 0) < n) → Fit n is
-  fits f g l h =
+  fits : n ≤ maxVertices → m ≤ maxEdges → n < length fs → c + m ≤ length xs → c + m ≤ length ys → ((k : ℕ) → k < m → headIn b (getD xs (c + k) 0) < n) → FitIn b n fs xs ys
+  fits f g p l i h =
+      let z = below-zero ks in
+      let o = places 0 (omega arith) in
       let e = places n (omega arith) in
-      let b = below-le n ks in
+      let d = below-le n ks in
       record {
         few = f;
-        places = omega arith;
-        after = λ u i. let a = places u i in omega arith;
-        rising = λ u i. let a = places u (omega arith) in let c = next u i in omega arith;
-        within = λ u i. let a = places (u + 1) (omega arith) in let c = below-mono (u + 1) n ks (omega arith) in omega arith;
-        last = omega arith;
+        places = p;
+        after = λ u j. let a = places u j in omega arith;
+        rising = λ u j. let a = places u (omega arith) in let y = next u j in omega arith;
+        within = λ u j. let a = places (u + 1) (omega arith) in let y = below-mono (u + 1) n ks (omega arith) in omega arith;
+        heads = omega arith;
+        weights = omega arith;
         short = omega arith;
-        inside = λ k a c. let j : n + 1 + (k - (n + 1)) ≡ k = omega arith in rw j at (h (k - (n + 1)) (omega arith));
+        inside = λ k a y. let j : c + (k - c) ≡ k = omega arith in rw j at (h (k - c) (omega arith));
       }
 
-  owns : (es : List Edge) → ((u : ℕ) → u < n → part is u (below u ks + (n + 1)) (equal u ks) ≡ leaving u es) → Own n is es
+  owns : (es : List Edge) → ((u : ℕ) → u < n → partIn b xs ys u (below u ks + c) (equal u ks) ≡ leaving u es) → OwnIn b n fs xs ys es
   owns es g u l =
       let a = places u (omega arith) in
-      let b = next u l in
-      let d : getD is (u + 1) 0 - getD is u 0 ≡ equal u ks = omega arith in
-      ap (λ (x : ℕ). part is u (getD is u 0) x) d ∙ ap (λ (x : ℕ). part is u x (equal u ks)) a ∙ g u l
+      let d = next u l in
+      let e : getD fs (u + 1) 0 - getD fs u 0 ≡ equal u ks = omega arith in
+      ap (λ (x : ℕ). partIn b xs ys u (getD fs u 0) x) e ∙ ap (λ (x : ℕ). partIn b xs ys u x (equal u ks)) a ∙ g u l
 
--- ---- the arcs of a table's edges
+-- ---- two lists that hold a table's edges from place c on
 
-module _ (n m : ℕ) (ts hs ws is : List ℕ) (r : Room m ts hs ws) (light : (k : ℕ) → k < m → getD ws k 0 < arcWeights)
-    (arcs : (k : ℕ) → k < m → getD is (n + 1 + k) 0 ≡ arc (getD hs k 0) (getD ws k 0)) where
-  part-edges : (u j k : ℕ) → j + k ≤ m → ((i : ℕ) → j ≤ i → i < j + k → getD ts i 0 ≡ u) → part is u (j + (n + 1)) k ≡ take k (drop j (edges ts hs ws m))
-  unfolding part
+module _ (b : Bool) (c m : ℕ) (ts hs ws xs ys : List ℕ) (r : Room m ts hs ws)
+    (held : (k : ℕ) → k < m → (headIn b (getD xs (c + k) 0) ≡ getD hs k 0) × (weightIn b (getD ys (c + k) 0) ≡ getD ws k 0)) where
+  part-edges : (u j k : ℕ) → j + k ≤ m → ((i : ℕ) → j ≤ i → i < j + k → getD ts i 0 ≡ u) → partIn b xs ys u (j + c) k ≡ take k (drop j (edges ts hs ws m))
+  unfolding partIn
   part-edges u j zero l h = refl
   part-edges u j (suc k) l h =
-      let x : j + (n + 1) ≡ n + 1 + j = omega arith in
-      let y : suc (j + (n + 1)) ≡ suc j + (n + 1) = omega arith in
-      let e = ap (λ (i : ℕ). getD is i 0) x ∙ arcs j (omega arith) in
-      let w = light j (omega arith) in
-      rw (edges-more ts hs ws m r j (omega arith), h j (omega arith) (omega arith), add-one j, e, head-arc (getD hs j 0) (getD ws j 0) w, weight-arc (getD hs j 0) (getD ws j 0) w)
-      (ap (λ (l : List Edge). edge u (getD hs j 0) (getD ws j 0) ∷ l) (ap (λ (i : ℕ). part is u i k) y ∙ part-edges u (suc j) k (omega arith) (λ i a b. h i (omega arith) (omega arith))))
+      let x : j + c ≡ c + j = omega arith in
+      let y : suc (j + c) ≡ suc j + c = omega arith in
+      let d = ap (λ (i : ℕ). headIn b (getD xs i 0)) x ∙ held j (omega arith) .0 in
+      let w = ap (λ (i : ℕ). weightIn b (getD ys i 0)) x ∙ held j (omega arith) .1 in
+      rw (edges-more ts hs ws m r j (omega arith), h j (omega arith) (omega arith), add-one j, d, w)
+      (ap (λ (l : List Edge). edge u (getD hs j 0) (getD ws j 0) ∷ l) (ap (λ (i : ℕ). partIn b xs ys u i k) y ∙ part-edges u (suc j) k (omega arith) (λ i a e. h i (omega arith) (omega arith))))
 
   -- a part of the table that is the edges of one tail
-  part-leaving : (u j k : ℕ) (es : List Edge) → j + k ≤ m → take k (drop j (edges ts hs ws m)) ≡ leaving u es → part is u (j + (n + 1)) k ≡ leaving u es
+  part-leaving : (u j k : ℕ) (es : List Edge) → j + k ≤ m → take k (drop j (edges ts hs ws m)) ≡ leaving u es → partIn b xs ys u (j + c) k ≡ leaving u es
   part-leaving u j k es l g = part-edges u j k l tail ∙ g
     where
       tail : (i : ℕ) → j ≤ i → i < j + k → getD ts i 0 ≡ u
-      tail i a b =
+      tail i a d =
           let es′ = edges ts hs ws m in
           let z = edges-length ts hs ws m r in
-          let d = length-drop j es′ in
+          let q = length-drop j es′ in
           let t = length-take-le k (drop j es′) (omega arith) in
           let f : j + (i - j) ≡ i = omega arith in
           let e : getD (take k (drop j es′)) (i - j) (edge 0 0 0) ≡ edgeAt ts hs ws i =
@@ -165,6 +168,26 @@ module _ (n m : ℕ) (ts hs ws : List ℕ) (r : Room m ts hs ws) (a : rules n (e
       precedes-tail (edgeAt ts hs ws i) (edgeAt ts hs ws j) (rw (edges-at ts hs ws m r i (omega arith), edges-at ts hs ws m r j b) at p))
       (λ q. let c = ltb-false i j q in let e : i ≡ j = omega arith in rw e (omega arith))
 
+  -- lists that hold its edges from place c on, by places that go by its tails
+  table-held : (b : Bool) (c : ℕ) (fs xs ys : List ℕ) → n ≤ maxVertices → m ≤ maxEdges → n < length fs → c + m ≤ length xs → c + m ≤ length ys
+      → ((u : ℕ) → u ≤ n → getD fs u 0 ≡ below u (take m ts) + c) → ((k : ℕ) → k < m → (headIn b (getD xs (c + k) 0) ≡ getD hs k 0) × (weightIn b (getD ys (c + k) 0) ≡ getD ws k 0))
+      → IndexesIn b n fs xs ys (edges ts hs ws m)
+  table-held b c fs xs ys f g p x y at held =
+      let es = edges ts hs ws m in
+      let ks = take m ts in
+      let z = length-take-le m ts (r .tails) in
+      record {
+        fit = fits b c n m ks fs xs ys z at f g p x y (λ k l. omega (arith, held k l .0, heads-below k l));
+        own = owns b c n m ks fs xs ys z at es (λ u l.
+            let e = below-le (suc u) ks in
+            let d = below-suc u ks in
+            part-leaving b c m ts hs ws xs ys r held u (below u ks) (equal u ks) es (omega arith) (rw (edges-tails ts hs ws m r) at (leaving-part n u es (rules-accept n es a))));
+      }
+
+  -- the table itself
+  pub table-placed : (fs : List ℕ) → n ≤ maxVertices → m ≤ maxEdges → n < length fs → Firsts n (take m ts) fs → IndexesIn false n fs hs ws (edges ts hs ws m)
+  table-placed fs f g p at = table-held false 0 fs hs ws f g p (omega (arith, r .heads)) (omega (arith, r .weights)) (λ u l. at u l ∙ sym (add-zero _)) (λ k l. let e : 0 + k ≡ k = omega arith in rw e (refl, refl))
+
 -- ---- an index of a table that may have one
 
 pub firsts-within : (n m : ℕ) (ks fs : List ℕ) → m ≤ length ks → m ≤ maxEdges → Firsts n (take m ks) fs → (u : ℕ) → u ≤ n → getD fs u 0 ≤ maxEdges
@@ -190,26 +213,16 @@ module _ {n m : ℕ} {ts hs ws fs₀ is₀ : List ℕ} (o : Indexable n m ts hs 
 
   module _ (fs is : List ℕ) (size : n + 1 + m ≤ length is) (places : (u : ℕ) → u ≤ n → getD is u 0 ≡ getD fs u 0 + (n + 1)) where
     pub table-indexed : Firsts n (take m ts) fs → ((k : ℕ) → k < m → getD is (n + 1 + k) 0 ≡ arc (getD hs k 0) (getD ws k 0)) → Indexes n is (edges ts hs ws m)
-    table-indexed f arcs =
-        let es = edges ts hs ws m in
-        let ks = take m ts in
-        let at : (u : ℕ) → u ≤ n → getD is u 0 ≡ below u ks + (n + 1) = λ u l. places u l ∙ ap (λ (x : ℕ). x + (n + 1)) (f u l) in
-        let z = length-take-le m ts (o .room .tails) in
-        record {
-          fit = fits n m ks is z at (o .few) (o .records) size (λ k l. let e = ap arcHead (arcs k l) ∙ head-arc _ _ (light k l) in omega (arith, e, heads-below n m ts hs ws (o .room) (o .rules) k l));
-          own = owns n m ks is z at es (λ u l.
-              let b = below-le (suc u) ks in
-              let d = below-suc u ks in
-              part-leaving n m ts hs ws is (o .room) light arcs u (below u ks) (equal u ks) es (omega arith) (rw (edges-tails ts hs ws m (o .room)) at (leaving-part n u es (rules-accept n es (o .rules)))));
-        }
+    table-indexed f arcs = table-held n m ts hs ws (o .room) (o .rules) true (n + 1) is is is (o .few) (o .records) (omega arith) size size
+        (λ u l. places u l ∙ ap (λ (x : ℕ). x + (n + 1)) (f u l)) (λ k l. (ap arcHead (arcs k l) ∙ head-arc _ _ (light k l), ap arcWeight (arcs k l) ∙ weight-arc _ _ (light k l)))
 
     pub reversed-indexed : Firsts n (take m hs) fs → ReversedArcs n m ts hs ws is → Indexes n is (map reverse (edges ts hs ws m))
     reversed-indexed f r =
         let ks = take m hs in
         let at : (u : ℕ) → u ≤ n → getD is u 0 ≡ below u ks + (n + 1) = λ u l. places u l ∙ ap (λ (x : ℕ). x + (n + 1)) (f u l) in
         record {
-          fit = fits n m ks is (length-take-le m hs (o .room .heads)) at (o .few) (o .records) size head;
-          own = owns n m ks is (length-take-le m hs (o .room .heads)) at (map reverse (edges ts hs ws m)) (λ u l. r u l ∙ into-leaving u (edges ts hs ws m));
+          fit = fits true (n + 1) n m ks is is is (length-take-le m hs (o .room .heads)) at (o .few) (o .records) (omega arith) size size head;
+          own = owns true (n + 1) n m ks is is is (length-take-le m hs (o .room .heads)) at (map reverse (edges ts hs ws m)) (λ u l. r u l ∙ into-leaving u (edges ts hs ws m));
         }
       where
         -- each arc lies in some vertex's part, and its head is the tail of an edge

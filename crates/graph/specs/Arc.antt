@@ -5,6 +5,9 @@
 --   arc h w       == the arc of head h and weight w
 --   arcHead a     == the head of an arc
 --   arcWeight a   == the weight of an arc
+--   headIn b a    == the head that a word gives: of an arc where b holds, else the word itself
+--   weightIn b a  == the weight that a word gives, likewise
+use mathlib.Core.Bool.{Bool, cond}
 use Prim.Native.Nat.{ℕ, _+_, _*_, _/_, _%_}
 
 abbrev pub arcWeights : ℕ
@@ -21,3 +24,9 @@ arcHead a = a / arcWeights
 
 abbrev pub arcWeight : ℕ → ℕ
 arcWeight a = a % arcWeights
+
+abbrev pub headIn : Bool → ℕ → ℕ
+headIn b a = cond b (arcHead a) a
+
+abbrev pub weightIn : Bool → ℕ → ℕ
+weightIn b a = cond b (arcWeight a) a

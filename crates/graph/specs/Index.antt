@@ -1,14 +1,19 @@
--- An index: one list that holds, for n vertices, n + 1 places and then the arcs of all edges. Word u is the place of vertex u's first arc in
--- this same list, word u + 1 the place after its last; what stands after the last arc of all is never read. Assumes nothing.
+-- The edges of n vertices by vertex, in two forms. A table with its places: a list of n + 1 places, and the heads and weights of the table; word u of
+-- the places says where vertex u's edges start in these, word u + 1 where they end. An index: one list that holds n + 1 places and then the arcs
+-- of all edges; word u is the place of vertex u's first arc in this same list, so that it stands for all three. What stands after the last edge is
+-- never read. Assumes nothing.
 --
---   part is u j k   == the k edges of tail u whose arcs stand from place j on
---   own is u        == the edges of vertex u
---   Fit n is        == an index of n vertices: nothing that a run reads is out of range
---   Own n is es     == the index gives each vertex its edges of es, in table order
+--   partIn b hs ws u j k       == the k edges of tail u whose words stand from place j on: arcs where b holds, else heads and weights
+--   FitIn b n fs hs ws         == places fs of n vertices in hs and ws: nothing that a run reads is out of range
+--   OwnIn b n fs hs ws es      == they give each vertex its edges of es, in table order
+--   part is u j k, own is u    == the k edges of tail u whose arcs stand from place j on in an index; the edges of vertex u
+--   Fit n is, Own n is es      == an index of n vertices; it gives each vertex its edges of es
 --   Indexable n m ts hs ws fs is == m edges that keep the rules of n vertices, and lists with room for their index: fs for its making, is for it
 --   ReversedArcs n m ts hs ws is == from place n + 1 on stand the arcs of the edges into 0, into 1, .., reversed
---   Indexes n is es == is is an index of the edges es between n vertices
+--   IndexesIn b n fs hs ws es  == the places fs in hs and ws are those of the edges es between n vertices
+--   Indexes n is es            == is is an index of the edges es between n vertices
 use mathlib.Core.Path.{_≡_}
+use mathlib.Core.Bool.{Bool, true}
 use mathlib.Core.List.{List, [], _∷_}
 use Prim.Native.Nat.{ℕ, zero, suc, _+_, _-_, _≤_, _<_}
 use lib.ListN.{length, getD, take}
@@ -17,27 +22,48 @@ use Rattle.graph.specs.Refusal.{accept}
 use Rattle.graph.specs.Edge.{Edge, edge, leaving, edges}
 use Rattle.graph.specs.Table as table
 use Rattle.graph.specs.Code.{Room, below, equal, into}
-use Rattle.graph.specs.Arc.{arcHead, arcWeight}
+use Rattle.graph.specs.Arc.{headIn, weightIn}
 
-unfoldable pub part : List ℕ → ℕ → ℕ → ℕ → List Edge
-part is u j zero = []
-part is u j (suc k) = edge u (arcHead (getD is j 0)) (arcWeight (getD is j 0)) ∷ part is u (suc j) k
+-- ---- either form
+
+unfoldable pub partIn : Bool → List ℕ → List ℕ → ℕ → ℕ → ℕ → List Edge
+partIn b hs ws u j zero = []
+partIn b hs ws u j (suc k) = edge u (headIn b (getD hs j 0)) (weightIn b (getD ws j 0)) ∷ partIn b hs ws u (suc j) k
+
+pub record FitIn (b : Bool) (n : ℕ) (fs hs ws : List ℕ) : Type 0 where
+  pub few : n ≤ maxVertices
+  pub places : n < length fs
+  pub after : (u : ℕ) → u ≤ n → getD fs 0 0 ≤ getD fs u 0
+  pub rising : (u : ℕ) → u < n → getD fs u 0 ≤ getD fs (u + 1) 0
+  pub within : (u : ℕ) → u < n → getD fs (u + 1) 0 ≤ getD fs n 0
+  pub heads : getD fs n 0 ≤ length hs
+  pub weights : getD fs n 0 ≤ length ws
+  pub short : getD fs n 0 ≤ getD fs 0 0 + maxEdges
+  pub inside : (k : ℕ) → getD fs 0 0 ≤ k → k < getD fs n 0 → headIn b (getD hs k 0) < n
+
+abbrev pub OwnIn : Bool → ℕ → List ℕ → List ℕ → List ℕ → List Edge → Type 0
+OwnIn b n fs hs ws es = (u : ℕ) → u < n → partIn b hs ws u (getD fs u 0) (getD fs (u + 1) 0 - getD fs u 0) ≡ leaving u es
+
+pub record IndexesIn (b : Bool) (n : ℕ) (fs hs ws : List ℕ) (es : List Edge) : Type 0 where
+  pub fit : FitIn b n fs hs ws
+  pub own : OwnIn b n fs hs ws es
+
+-- ---- an index
+
+abbrev pub part : List ℕ → ℕ → ℕ → ℕ → List Edge
+part is u j k = partIn true is is u j k
 
 abbrev pub own : List ℕ → ℕ → List Edge
 own is u = part is u (getD is u 0) (getD is (u + 1) 0 - getD is u 0)
 
-pub record Fit (n : ℕ) (is : List ℕ) : Type 0 where
-  pub few : n ≤ maxVertices
-  pub places : n < length is
-  pub after : (u : ℕ) → u ≤ n → n < getD is u 0
-  pub rising : (u : ℕ) → u < n → getD is u 0 ≤ getD is (u + 1) 0
-  pub within : (u : ℕ) → u < n → getD is (u + 1) 0 ≤ getD is n 0
-  pub last : getD is n 0 ≤ length is
-  pub short : getD is n 0 ≤ n + 1 + maxEdges
-  pub inside : (k : ℕ) → n < k → k < getD is n 0 → arcHead (getD is k 0) < n
+abbrev pub Fit : ℕ → List ℕ → Type 0
+Fit n is = FitIn true n is is is
 
 abbrev pub Own : ℕ → List ℕ → List Edge → Type 0
-Own n is es = (u : ℕ) → u < n → own is u ≡ leaving u es
+Own n is es = OwnIn true n is is is es
+
+abbrev pub Indexes : ℕ → List ℕ → List Edge → Type 0
+Indexes n is es = IndexesIn true n is is is es
 
 pub record Indexable (n m : ℕ) (ts hs ws fs is : List ℕ) : Type 0 where
   pub few : n ≤ maxVertices
@@ -49,7 +75,3 @@ pub record Indexable (n m : ℕ) (ts hs ws fs is : List ℕ) : Type 0 where
 
 abbrev pub ReversedArcs : ℕ → ℕ → List ℕ → List ℕ → List ℕ → List ℕ → Type 0
 ReversedArcs n m ts hs ws is = (u : ℕ) → u < n → part is u (below u (take m hs) + (n + 1)) (equal u (take m hs)) ≡ into u (edges ts hs ws m)
-
-pub record Indexes (n : ℕ) (is : List ℕ) (es : List Edge) : Type 0 where
-  pub fit : Fit n is
-  pub own : Own n is es

@@ -10,7 +10,7 @@ use Rattle.frontier.proofs.Laws.{count-remove}
 use Rattle.graph.specs.Limits.{maxVertices}
 use Rattle.graph.specs.Arc.{arcHead}
 use Rattle.graph.specs.Edge.{Edge, edge}
-use Rattle.graph.specs.Index.{Fit, part, own, Own}
+use Rattle.graph.specs.Index.{Fit, partIn, part, own, Own}
 use Rattle.graph.proofs.Tests.{both, and-true, or-right, or-false}
 use Rattle.graph.proofs.Lists.{replicate-at, getD-within, at-set}
 use Rattle.graph.proofs.Edges.{leaving-in, in-leaving}
@@ -131,10 +131,10 @@ pub fit-arc : {n : ℕ} {is : List ℕ} → Fit n is → (u k : ℕ) → u < n �
 fit-arc f u k h a b =
     let w = f .within u h in
     let x = f .after u (omega arith) in
-    (omega (arith, f .last), f .inside k (omega arith) (omega arith))
+    (omega (arith, f .heads), f .inside k (omega arith) (omega arith))
 
 part-mem : (is : List ℕ) (u j c k : ℕ) → j ≤ k → k < j + c → List·Memᴰ (arcEdge is u k) (part is u j c)
-unfolding part
+unfolding partIn
 part-mem is u j zero k a b = absurd (omega arith)
 part-mem is u j (suc c) k a b = elim (ℕ-discrete k j) [
   | yes e ↦ List·Memᴰ·head (ap (λ (i : ℕ). arcEdge is u i) e)
@@ -143,7 +143,7 @@ part-mem is u j (suc c) k a b = elim (ℕ-discrete k j) [
 
 mem-part : (is : List ℕ) (u j c : ℕ) (e : Edge) → List·Memᴰ e (part is u j c)
     → (k : ℕ) × (j ≤ k) × (k < j + c) × (arcEdge is u k ≡ e)
-unfolding part
+unfolding partIn
 mem-part is u j zero e m = absurd (List·Memᴰ·not-nil m)
 mem-part is u j (suc c) e m =
     ⊎-elim (λ p. (j, omega arith, omega arith, sym p))

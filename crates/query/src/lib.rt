@@ -1,9 +1,10 @@
 // A query: its refusals, its start words, its run.
 use graph::Judged;
-use graph::pack;
+use graph::ends;
 use graph::rules;
 use run::Tally;
 ghost use mathlib.Core.Path.{_≡_};
+ghost use mathlib.Core.Bool.{false};
 ghost use mathlib.Core.List.{List};
 ghost use Prim.Native.Nat.{ℕ, _+_, _<_, _≤_};
 ghost use lib.ListN.{length, getD};
@@ -13,7 +14,7 @@ ghost use Rattle.graph.specs.Refusal.{_▷_, over};
 ghost use Rattle.graph.specs.Edge.{Edge};
 ghost use Rattle.graph.specs.Table.{size};
 ghost use Rattle.graph.specs.Code.{told};
-ghost use Rattle.graph.specs.Index.{Fit, Own};
+ghost use Rattle.graph.specs.Index.{FitIn, OwnIn};
 ghost use Rattle.run.specs.Code.{Scheduled};
 ghost use Rattle.run.specs.Start as start;
 ghost use Rattle.network.specs.Query.{scheduled, longSchedule, requested, queryFaults, queryCall};
@@ -158,28 +159,36 @@ fn start_words(
     out[source] = property::start(p);
 }
 
-// The run of a query from its start words, by an index of the table: they go to both lists, and the run goes on in the second. Nothing waits
+// The run of a query from its start words, over the lists of the table: they go to the list `settled`, and the run goes on there. Nothing waits
 // after n rounds.
 fn run_query(
     p: u32,
     n: usize,
     source: usize,
-    index: &[u32],
+    firsts: &[u32],
+    heads: &[u32],
+    weights: &[u32],
     schedule: &[u32],
     start: &[u32],
-    starts: &mut [u32],
     settled: &mut [u32],
 ) -> Tally
-    requires { ⌜ Fit n (now index) × Scheduled n (now schedule) × (source < n) × (n ≤ maxVertices) ⌝ }
-    requires { ⌜ (length (now start) ≡ n) × (n ≤ length (now starts)) × (n ≤ length (now settled)) ⌝ }
-    ensures { λ _. ⌜ now (starts .exit) ≡ over (now (start .entry)) (now (starts .entry)) ⌝ }
-    ensures { λ r. ⌜ ((es : List Edge) → Own n (now (index .entry)) es → Ended (runFrom (property p) es n source (now (schedule .entry)) (now (start .entry))) r (now (settled .entry)) (now (settled .exit))) ⌝ }
+    requires { ⌜ FitIn false n (now firsts) (now heads) (now weights) × Scheduled n (now schedule) × (source < n) × (n ≤ maxVertices) ⌝ }
+    requires { ⌜ (length (now start) ≡ n) × (n ≤ length (now settled)) ⌝ }
+    ensures { λ r. ⌜ ((es : List Edge) → OwnIn false n (now (firsts .entry)) (now (heads .entry)) (now (weights .entry)) es → Ended (runFrom (property p) es n source (now (schedule .entry)) (now (start .entry))) r (now (settled .entry)) (now (settled .exit))) ⌝ }
 {
-    graph::words::copy(n, start, starts, 0);
     graph::words::copy(n, start, settled, 0);
     let mut waiting = frontier::empty();
     run::start_at(n, source, &mut waiting);
-    run::run_counted(p, n, index, schedule, &mut settled[..n], &mut waiting)
+    run::run_counted(
+        p,
+        n,
+        firsts,
+        heads,
+        weights,
+        schedule,
+        &mut settled[..n],
+        &mut waiting,
+    )
 }
 
 // A query: refused, or answered by its tally, with start words and settled words in the lent lists; words past `n` stay.
@@ -219,17 +228,6 @@ pub fn query(
         return Answered::Refused(number, place);
     }
     let size = n as usize;
-    let mut free = [0u32; graph::PLACE_WORDS];
-    let mut index = [0u32; graph::INDEX_WORDS];
-    pack::index(
-        size,
-        count as usize,
-        tails,
-        heads,
-        weights,
-        &mut free,
-        &mut index,
-    );
     let mut start = [0u32; graph::VERTEX_WORDS];
     start_words(
         property,
@@ -240,14 +238,18 @@ pub fn query(
         backward,
         &mut start[..size],
     );
+    graph::words::copy(size, &start, starts, 0);
+    let mut firsts = [0u32; graph::PLACE_WORDS];
+    ends::index(size, count as usize, tails, &mut firsts);
     let tally = run_query(
         property,
         size,
         source as usize,
-        &index,
+        &firsts,
+        heads,
+        weights,
         schedule,
         &start[..size],
-        starts,
         settled,
     );
     Answered::Settled(tally)

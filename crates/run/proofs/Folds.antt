@@ -1,18 +1,18 @@
 -- Lists as loops go through them: what is left at a turn, and at the end. Assumes nothing.
-use Rattle.property.proofs.Basics.{_≡_, List, [], _∷_, ℕ, suc, _+_, _-_, _<_, _≤_, add-one, arith, length, getD, drop, drop-cons}
-use Rattle.graph.specs.Edge.{edge, range}
-use Rattle.graph.specs.Arc.{arcHead, arcWeight}
-use Rattle.graph.specs.Index.{part}
+use Rattle.property.proofs.Basics.{_≡_, Bool, List, [], _∷_, ℕ, suc, _+_, _-_, _<_, _≤_, add-one, arith, length, getD, drop, drop-cons}
+use Rattle.graph.specs.Edge.{range}
+use Rattle.graph.specs.Index.{partIn}
+use Rattle.graph.proofs.Arcs.{edgeIn}
 
-pub part-more : (is : List ℕ) (u j hi : ℕ) → j < hi → part is u j (hi - j) ≡ edge u (arcHead (getD is j 0)) (arcWeight (getD is j 0)) ∷ part is u (j + 1) (hi - (j + 1))
-unfolding part
-part-more is u j hi h =
+pub part-more : (b : Bool) (hs ws : List ℕ) (u j hi : ℕ) → j < hi → partIn b hs ws u j (hi - j) ≡ edgeIn b hs ws u j ∷ partIn b hs ws u (j + 1) (hi - (j + 1))
+unfolding partIn
+part-more b hs ws u j hi h =
     let e : hi - j ≡ suc (hi - (j + 1)) = omega arith in
     rw (e, add-one)
 
-pub part-none : (is : List ℕ) (u j hi : ℕ) → hi ≤ j → part is u j (hi - j) ≡ []
-unfolding part
-part-none is u j hi h =
+pub part-none : (b : Bool) (hs ws : List ℕ) (u j hi : ℕ) → hi ≤ j → partIn b hs ws u j (hi - j) ≡ []
+unfolding partIn
+part-none b hs ws u j hi h =
     let e : hi - j ≡ 0 = omega arith in
     rw e
 

@@ -5,13 +5,13 @@ use graph::arc;
 ghost use mathlib.Core.Path.{_≡_};
 ghost use mathlib.Core.List.{List};
 ghost use mathlib.Core.Bool.{true, false};
-ghost use Prim.Native.Nat.{_+_, _*_, _<_, _≤_};
+ghost use Prim.Native.Nat.{ℕ, _+_, _*_, _<_, _≤_};
 ghost use lib.ListN.{length, set, replicate};
 ghost use Rattle.property.specs.Property.{property};
 ghost use Rattle.frontier.specs.Waiting.{capacity};
 ghost use Rattle.graph.specs.Limits.{maxVertices, maxEdges};
 ghost use Rattle.graph.specs.Edge.{Edge};
-ghost use Rattle.graph.specs.Index.{Fit, Own};
+ghost use Rattle.graph.specs.Index.{Fit, Own, FitIn, OwnIn};
 ghost use Rattle.run.specs.Run as spec;
 ghost use Rattle.run.specs.Start.{opened, valuesFrom};
 ghost use Rattle.run.specs.Code.{bits, noCounts, state, Marks, Sized, Low, Ready, Ran, Scheduled};
@@ -51,30 +51,31 @@ fn relax(
     }
 }
 
-// Vertex `u` is handled: its bit is cleared, then its edges are gone along in table order.
+// Vertex `u` is handled: its bit is cleared, then its edges are gone along in table order. There are as many vertices as words.
 pub fn handle(
     p: u32,
-    n: usize,
+    packed: bool,
     u: usize,
-    index: &[u32],
+    firsts: &[u32],
+    heads: &[u32],
+    weights: &[u32],
     words: &mut [u32],
     waiting: &mut Words,
     tally: Tally,
 ) -> Tally
-    requires { ⌜ u < n ⌝ }
-    requires { ⌜ Ready 39 n (now index) (now words) (now waiting) tally ⌝ }
-    ensures { λ r. ⌜ ((es : List Edge) → Own n (now (index .entry)) es → state n (now (words .exit)) (now (waiting .exit)) r ≡ spec.handle (property p) es (state n (now (words .entry)) (now (waiting .entry)) tally) u) ⌝ }
-    ensures { λ r. ⌜ Ran n (now (words .exit)) (now (waiting .exit)) tally r 0 0 maxEdges ⌝ }
+    requires { ⌜ ((n : ℕ) × (u < n) × Ready 39 packed n (now firsts) (now heads) (now weights) (now words) (now waiting) tally) ⌝ }
+    ensures { λ r. ⌜ ((n : ℕ) → length (now (words .entry)) ≡ n → (es : List Edge) → OwnIn packed n (now (firsts .entry)) (now (heads .entry)) (now (weights .entry)) es → state n (now (words .exit)) (now (waiting .exit)) r ≡ spec.handle (property p) es (state n (now (words .entry)) (now (waiting .entry)) tally) u) ⌝ }
+    ensures { λ r. ⌜ ((n : ℕ) → length (now (words .entry)) ≡ n → Ran n (now (words .exit)) (now (waiting .exit)) tally r 0 0 maxEdges) ⌝ }
 {
+    let n = words.len();
     let v = words[u];
-    let hi = index[u + 1] as usize;
-    let mut j = index[u] as usize;
+    let hi = firsts[u + 1] as usize;
+    let mut j = firsts[u] as usize;
     frontier::remove(waiting, u);
     let mut t = tally;
     while j < hi {
-        let a = index[j];
-        let h = arc::head(a) as usize;
-        let x = property::along(p, v, arc::weight(a));
+        let h = arc::head_in(packed, heads[j]) as usize;
+        let x = property::along(p, v, arc::weight_in(packed, weights[j]));
         t = relax(p, n, h, x, words, waiting, t);
         j += 1;
     }
@@ -85,13 +86,16 @@ pub fn handle(
 fn round_of(
     p: u32,
     n: usize,
-    index: &[u32],
+    packed: bool,
+    firsts: &[u32],
+    heads: &[u32],
+    weights: &[u32],
     words: &mut [u32],
     waiting: &mut Words,
     tally: Tally,
 ) -> Tally
-    requires { ⌜ Ready 38 n (now index) (now words) (now waiting) tally ⌝ }
-    ensures { λ r. ⌜ ((es : List Edge) → Own n (now (index .entry)) es → state n (now (words .exit)) (now (waiting .exit)) r ≡ spec.round (property p) es n (state n (now (words .entry)) (now (waiting .entry)) tally)) ⌝ }
+    requires { ⌜ Ready 38 packed n (now firsts) (now heads) (now weights) (now words) (now waiting) tally ⌝ }
+    ensures { λ r. ⌜ ((es : List Edge) → OwnIn packed n (now (firsts .entry)) (now (heads .entry)) (now (weights .entry)) es → state n (now (words .exit)) (now (waiting .exit)) r ≡ spec.round (property p) es n (state n (now (words .entry)) (now (waiting .entry)) tally)) ⌝ }
     ensures { λ r. ⌜ Ran n (now (words .exit)) (now (waiting .exit)) tally r 0 1 (maxVertices * maxEdges) ⌝ }
 {
     let mut t = Tally {
@@ -105,31 +109,64 @@ fn round_of(
         let Next::At(v) = next else {
             return t;
         };
-        t = handle(p, n, v, index, words, waiting, t);
+        t = handle(p, packed, v, firsts, heads, weights, words, waiting, t);
         i = v + 1;
     }
     t
 }
 
-// One round. The number of its property is literal in each arm, so that its tests are made once and not at each edge.
+// One round. The number of its property and the form of its lists are literal in each arm, so that their tests are made once and not at each edge.
 fn round(
     p: u32,
     n: usize,
-    index: &[u32],
+    packed: bool,
+    firsts: &[u32],
+    heads: &[u32],
+    weights: &[u32],
     words: &mut [u32],
     waiting: &mut Words,
     tally: Tally,
 ) -> Tally
-    requires { ⌜ Ready 38 n (now index) (now words) (now waiting) tally ⌝ }
-    ensures { λ r. ⌜ ((es : List Edge) → Own n (now (index .entry)) es → state n (now (words .exit)) (now (waiting .exit)) r ≡ spec.round (property p) es n (state n (now (words .entry)) (now (waiting .entry)) tally)) ⌝ }
+    requires { ⌜ Ready 38 packed n (now firsts) (now heads) (now weights) (now words) (now waiting) tally ⌝ }
+    ensures { λ r. ⌜ ((es : List Edge) → OwnIn packed n (now (firsts .entry)) (now (heads .entry)) (now (weights .entry)) es → state n (now (words .exit)) (now (waiting .exit)) r ≡ spec.round (property p) es n (state n (now (words .entry)) (now (waiting .entry)) tally)) ⌝ }
     ensures { λ r. ⌜ Ran n (now (words .exit)) (now (waiting .exit)) tally r 0 1 (maxVertices * maxEdges) ⌝ }
 {
     match p {
-        1 => round_of(1, n, index, words, waiting, tally),
-        2 => round_of(2, n, index, words, waiting, tally),
-        3 => round_of(3, n, index, words, waiting, tally),
-        4 => round_of(4, n, index, words, waiting, tally),
-        _ => round_of(5, n, index, words, waiting, tally),
+        1 => {
+            if packed {
+                round_of(1, n, true, firsts, heads, weights, words, waiting, tally)
+            } else {
+                round_of(1, n, false, firsts, heads, weights, words, waiting, tally)
+            }
+        }
+        2 => {
+            if packed {
+                round_of(2, n, true, firsts, heads, weights, words, waiting, tally)
+            } else {
+                round_of(2, n, false, firsts, heads, weights, words, waiting, tally)
+            }
+        }
+        3 => {
+            if packed {
+                round_of(3, n, true, firsts, heads, weights, words, waiting, tally)
+            } else {
+                round_of(3, n, false, firsts, heads, weights, words, waiting, tally)
+            }
+        }
+        4 => {
+            if packed {
+                round_of(4, n, true, firsts, heads, weights, words, waiting, tally)
+            } else {
+                round_of(4, n, false, firsts, heads, weights, words, waiting, tally)
+            }
+        }
+        _ => {
+            if packed {
+                round_of(5, n, true, firsts, heads, weights, words, waiting, tally)
+            } else {
+                round_of(5, n, false, firsts, heads, weights, words, waiting, tally)
+            }
+        }
     }
 }
 
@@ -137,13 +174,16 @@ fn round(
 pub fn settle(
     p: u32,
     n: usize,
-    index: &[u32],
+    packed: bool,
+    firsts: &[u32],
+    heads: &[u32],
+    weights: &[u32],
     words: &mut [u32],
     waiting: &mut Words,
     tally: Tally,
 ) -> Tally
-    requires { ⌜ Ready 32 n (now index) (now words) (now waiting) tally ⌝ }
-    ensures { λ r. ⌜ ((es : List Edge) → Own n (now (index .entry)) es → state n (now (words .exit)) (now (waiting .exit)) r ≡ spec.settle (property p) es n n (state n (now (words .entry)) (now (waiting .entry)) tally)) ⌝ }
+    requires { ⌜ Ready 32 packed n (now firsts) (now heads) (now weights) (now words) (now waiting) tally ⌝ }
+    ensures { λ r. ⌜ ((es : List Edge) → OwnIn packed n (now (firsts .entry)) (now (heads .entry)) (now (weights .entry)) es → state n (now (words .exit)) (now (waiting .exit)) r ≡ spec.settle (property p) es n n (state n (now (words .entry)) (now (waiting .entry)) tally)) ⌝ }
     ensures { λ r. ⌜ Ran n (now (words .exit)) (now (waiting .exit)) tally r 0 n (maxVertices * maxVertices * maxEdges) ⌝ }
 {
     let mut t = tally;
@@ -152,7 +192,7 @@ pub fn settle(
         if !frontier::any(waiting) {
             return t;
         }
-        t = round(p, n, index, words, waiting, t);
+        t = round(p, n, packed, firsts, heads, weights, words, waiting, t);
         k += 1;
     }
     t
@@ -163,14 +203,16 @@ fn take(
     p: u32,
     n: usize,
     u: usize,
-    index: &[u32],
+    firsts: &[u32],
+    heads: &[u32],
+    weights: &[u32],
     words: &mut [u32],
     waiting: &mut Words,
     tally: Tally,
 ) -> Tally
     requires { ⌜ u < n ⌝ }
-    requires { ⌜ Ready 38 n (now index) (now words) (now waiting) tally ⌝ }
-    ensures { λ r. ⌜ ((es : List Edge) → Own n (now (index .entry)) es → state n (now (words .exit)) (now (waiting .exit)) r ≡ spec.takeEntry (property p) es (state n (now (words .entry)) (now (waiting .entry)) tally) u) ⌝ }
+    requires { ⌜ Ready 38 false n (now firsts) (now heads) (now weights) (now words) (now waiting) tally ⌝ }
+    ensures { λ r. ⌜ ((es : List Edge) → OwnIn false n (now (firsts .entry)) (now (heads .entry)) (now (weights .entry)) es → state n (now (words .exit)) (now (waiting .exit)) r ≡ spec.takeEntry (property p) es (state n (now (words .entry)) (now (waiting .entry)) tally) u) ⌝ }
     ensures { λ r. ⌜ Ran n (now (words .exit)) (now (waiting .exit)) tally r 1 0 maxEdges ⌝ }
 {
     if frontier::contains(waiting, u) {
@@ -179,7 +221,7 @@ fn take(
             rounds: tally.rounds,
             stores: tally.stores,
         };
-        handle(p, n, u, index, words, waiting, t)
+        handle(p, false, u, firsts, heads, weights, words, waiting, t)
     } else {
         tally
     }
@@ -189,22 +231,24 @@ fn take(
 fn pass(
     p: u32,
     n: usize,
-    index: &[u32],
+    firsts: &[u32],
+    heads: &[u32],
+    weights: &[u32],
     schedule: &[u32],
     words: &mut [u32],
     waiting: &mut Words,
     tally: Tally,
 ) -> Tally
-    requires { ⌜ Ready 32 n (now index) (now words) (now waiting) tally ⌝ }
+    requires { ⌜ Ready 32 false n (now firsts) (now heads) (now weights) (now words) (now waiting) tally ⌝ }
     requires { ⌜ Scheduled n (now schedule) ⌝ }
-    ensures { λ r. ⌜ ((es : List Edge) → Own n (now (index .entry)) es → state n (now (words .exit)) (now (waiting .exit)) r ≡ spec.pass (property p) es (now (schedule .entry)) (state n (now (words .entry)) (now (waiting .entry)) tally)) ⌝ }
+    ensures { λ r. ⌜ ((es : List Edge) → OwnIn false n (now (firsts .entry)) (now (heads .entry)) (now (weights .entry)) es → state n (now (words .exit)) (now (waiting .exit)) r ≡ spec.pass (property p) es (now (schedule .entry)) (state n (now (words .entry)) (now (waiting .entry)) tally)) ⌝ }
     ensures { λ r. ⌜ Ran n (now (words .exit)) (now (waiting .exit)) tally r (length (now (schedule .entry))) 0 (maxEdges * length (now (schedule .entry))) ⌝ }
 {
     let mut t = tally;
     let mut entry = 0;
     while entry < schedule.len() {
         let u = schedule[entry] as usize;
-        t = take(p, n, u, index, words, waiting, t);
+        t = take(p, n, u, firsts, heads, weights, words, waiting, t);
         entry += 1;
     }
     t
@@ -214,57 +258,93 @@ fn pass(
 fn run_from(
     p: u32,
     n: usize,
-    index: &[u32],
+    firsts: &[u32],
+    heads: &[u32],
+    weights: &[u32],
     schedule: &[u32],
     words: &mut [u32],
     waiting: &mut Words,
     tally: Tally,
 ) -> Tally
-    requires { ⌜ Ready 31 n (now index) (now words) (now waiting) tally × Scheduled n (now schedule) ⌝ }
-    ensures { λ r. ⌜ ((es : List Edge) → Own n (now (index .entry)) es → state n (now (words .exit)) (now (waiting .exit)) r ≡ spec.settle (property p) es n n (spec.pass (property p) es (now (schedule .entry)) (state n (now (words .entry)) (now (waiting .entry)) tally))) × Ran n (now (words .exit)) (now (waiting .exit)) tally r (length (now (schedule .entry))) n (maxEdges * length (now (schedule .entry)) + maxVertices * maxVertices * maxEdges) ⌝ }
+    requires { ⌜ Ready 31 false n (now firsts) (now heads) (now weights) (now words) (now waiting) tally × Scheduled n (now schedule) ⌝ }
+    ensures { λ r. ⌜ ((es : List Edge) → OwnIn false n (now (firsts .entry)) (now (heads .entry)) (now (weights .entry)) es → state n (now (words .exit)) (now (waiting .exit)) r ≡ spec.settle (property p) es n n (spec.pass (property p) es (now (schedule .entry)) (state n (now (words .entry)) (now (waiting .entry)) tally))) × Ran n (now (words .exit)) (now (waiting .exit)) tally r (length (now (schedule .entry))) n (maxEdges * length (now (schedule .entry)) + maxVertices * maxVertices * maxEdges) ⌝ }
 {
-    let passed = pass(p, n, index, schedule, words, waiting, tally);
-    settle(p, n, index, words, waiting, passed)
+    let passed = pass(
+        p,
+        n,
+        firsts,
+        heads,
+        weights,
+        schedule,
+        words,
+        waiting,
+        tally,
+    );
+    settle(p, n, false, firsts, heads, weights, words, waiting, passed)
 }
 
-// A run, the schedule and then rounds, on the tally that its caller lends.
+// A run over the lists of a table, the schedule and then rounds, on the tally that its caller lends.
 pub fn run(
     p: u32,
     n: usize,
-    index: &[u32],
+    firsts: &[u32],
+    heads: &[u32],
+    weights: &[u32],
     schedule: &[u32],
     words: &mut [u32],
     waiting: &mut Words,
     tally: &mut Tally,
 )
-    requires { ⌜ Ready 31 n (now index) (now words) (now waiting) (now tally) × Scheduled n (now schedule) ⌝ }
-    ensures { λ _. ⌜ ((es : List Edge) → Own n (now (index .entry)) es → state n (now (words .exit)) (now (waiting .exit)) (now (tally .exit)) ≡ spec.settle (property p) es n n (spec.pass (property p) es (now (schedule .entry)) (state n (now (words .entry)) (now (waiting .entry)) (now (tally .entry))))) × Ran n (now (words .exit)) (now (waiting .exit)) (now (tally .entry)) (now (tally .exit)) (length (now (schedule .entry))) n (maxEdges * length (now (schedule .entry)) + maxVertices * maxVertices * maxEdges) ⌝ }
+    requires { ⌜ Ready 31 false n (now firsts) (now heads) (now weights) (now words) (now waiting) (now tally) × Scheduled n (now schedule) ⌝ }
+    ensures { λ _. ⌜ ((es : List Edge) → OwnIn false n (now (firsts .entry)) (now (heads .entry)) (now (weights .entry)) es → state n (now (words .exit)) (now (waiting .exit)) (now (tally .exit)) ≡ spec.settle (property p) es n n (spec.pass (property p) es (now (schedule .entry)) (state n (now (words .entry)) (now (waiting .entry)) (now (tally .entry))))) × Ran n (now (words .exit)) (now (waiting .exit)) (now (tally .entry)) (now (tally .exit)) (length (now (schedule .entry))) n (maxEdges * length (now (schedule .entry)) + maxVertices * maxVertices * maxEdges) ⌝ }
 {
-    *tally = run_from(p, n, index, schedule, words, waiting, *tally);
+    *tally = run_from(
+        p,
+        n,
+        firsts,
+        heads,
+        weights,
+        schedule,
+        words,
+        waiting,
+        *tally,
+    );
 }
 
-// A run on a tally of its own, which is its reply.
+// A run over the lists of a table, on a tally of its own, which is its reply.
 pub fn run_counted(
     p: u32,
     n: usize,
-    index: &[u32],
+    firsts: &[u32],
+    heads: &[u32],
+    weights: &[u32],
     schedule: &[u32],
     words: &mut [u32],
     waiting: &mut Words,
 ) -> Tally
-    requires { ⌜ Fit n (now index) × Sized n (now words) (now waiting) × Scheduled n (now schedule) ⌝ }
-    ensures { λ r. ⌜ ((es : List Edge) → Own n (now (index .entry)) es → state n (now (words .exit)) (now (waiting .exit)) r ≡ spec.settle (property p) es n n (spec.pass (property p) es (now (schedule .entry)) (state n (now (words .entry)) (now (waiting .entry)) noCounts))) × Ran n (now (words .exit)) (now (waiting .exit)) noCounts r (length (now (schedule .entry))) n (maxEdges * length (now (schedule .entry)) + maxVertices * maxVertices * maxEdges) ⌝ }
+    requires { ⌜ FitIn false n (now firsts) (now heads) (now weights) × Sized n (now words) (now waiting) × Scheduled n (now schedule) ⌝ }
+    ensures { λ r. ⌜ ((es : List Edge) → OwnIn false n (now (firsts .entry)) (now (heads .entry)) (now (weights .entry)) es → state n (now (words .exit)) (now (waiting .exit)) r ≡ spec.settle (property p) es n n (spec.pass (property p) es (now (schedule .entry)) (state n (now (words .entry)) (now (waiting .entry)) noCounts))) × Ran n (now (words .exit)) (now (waiting .exit)) noCounts r (length (now (schedule .entry))) n (maxEdges * length (now (schedule .entry)) + maxVertices * maxVertices * maxEdges) ⌝ }
 {
     let mut tally = Tally {
         taken: 0,
         rounds: 0,
         stores: 0,
     };
-    run(p, n, index, schedule, words, waiting, &mut tally);
+    run(
+        p,
+        n,
+        firsts,
+        heads,
+        weights,
+        schedule,
+        words,
+        waiting,
+        &mut tally,
+    );
     tally
 }
 
-// A run without a schedule: rounds alone, on a tally of its own.
+// A run without a schedule, over an index: rounds alone, on a tally of its own.
 pub fn run_unscheduled(
     p: u32,
     n: usize,
@@ -276,8 +356,12 @@ pub fn run_unscheduled(
     ensures { λ r. ⌜ ((es : List Edge) → Own n (now (index .entry)) es → state n (now (words .exit)) (now (waiting .exit)) r ≡ spec.settle (property p) es n n (state n (now (words .entry)) (now (waiting .entry)) noCounts)) ⌝ }
     ensures { λ r. ⌜ Ran n (now (words .exit)) (now (waiting .exit)) noCounts r 0 n (maxVertices * maxVertices * maxEdges) ⌝ }
 {
-    let schedule = [0u32; 0];
-    run_counted(p, n, index, &schedule, words, waiting)
+    let tally = Tally {
+        taken: 0,
+        rounds: 0,
+        stores: 0,
+    };
+    settle(p, n, true, index, index, index, words, waiting, tally)
 }
 
 // Vertex `s` alone waits.

@@ -1,8 +1,12 @@
 -- `query::query` meets its contract. Assumes nothing.
-use Rattle.property.proofs.Basics.{needs, arith, _≡_, sym, ap, _∙_, _++_, ℕ, length, drop, take, replicate, length-append, take-at, length-take-le}
+use Rattle.property.proofs.Basics.{needs, arith, _≡_, false, sym, ap, _∙_, _++_, ℕ, length, drop, take, replicate, length-append, length-drop, take-at, length-take-le}
 use Rattle.graph.proofs.Judging.{fine-accept}
 use Rattle.graph.proofs.Records.{room-less}
+use Rattle.graph.proofs.Copies.{paste-front}
+use Rattle.graph.proofs.Own.{tails-below, tails-ascend, table-placed}
 use Rattle.graph.specs.Limits.{maxVertices}
+use Rattle.graph.specs.Edge.{edges}
+use Rattle.graph.specs.Index.{IndexesIn}
 use Rattle.graph.specs.Refusal.{accept}
 use Rattle.network.specs.Network.{Network}
 use Rattle.network.specs.Query.{Query}
@@ -39,43 +43,69 @@ returns c =
     let s = begin j in
     query-refused (s .args .n) (s .args .landmarks .now) (net s) (ask s) (s .args .starts .now) (s .args .settled .now) _ (j .judge-query .ensures) (c .before .judged .given .1)
 
-index-requires : tie.Need-index-requires
-index-requires c κs =
-    let g = sound (c .before .before) in
-    record { few = g .rows .few; records = g .records; room = room-less (g .records) (g .room); rules = g .rules; firsts = omega (arith, g .rows .few); list = omega (arith, g .rows .few, g .records) }
-
 -- the start words have their room
 words : (c : tie.After-enum-told) → let n = begin (c .before .before) .args .n in length (take {A = ℕ} n (replicate maxVertices 0)) ≡ n
 words c = length-take-le {A = ℕ} (begin (c .before .before) .args .n) (replicate maxVertices 0) (sound c .rows .few)
 
-abbrev told-fine : tie.After-start → tie.After-enum-told
-told-fine c = c .before .before .before .before .before .before
-
-filled : (w : tie.After-start-words) → length (w .start-words .last .1 .1 .1 .1 .1 .1 .0) ≡ begin (told-fine (w .before) .before .before) .args .n
-filled w = w .start-words .kept .1 .1 .1 .1 .1 .1 .0 ∙ words (told-fine (w .before))
+filled : (w : tie.After-start-words) → length (w .start-words .last .1 .1 .1 .1 .1 .1 .0) ≡ begin (w .before .before .before .before) .args .n
+filled w = w .start-words .kept .1 .1 .1 .1 .1 .1 .0 ∙ words (w .before .before)
 
 -- and are lent from there
-front : (w : tie.After-start-words) → let n = begin (told-fine (w .before) .before .before) .args .n in let ws = w .start-words .last .1 .1 .1 .1 .1 .1 .0 in
+front : (w : tie.After-start-words) → let n = begin (w .before .before .before .before) .args .n in let ws = w .start-words .last .1 .1 .1 .1 .1 .1 .0 in
     take n (ws ++ drop n (replicate maxVertices 0)) ≡ ws
-front w = take-at _ _ (begin (told-fine (w .before) .before .before) .args .n) (filled w)
+front w = take-at _ _ (begin (w .before .before .before .before) .args .n) (filled w)
+
+-- in a list that stays as long as it was
+listed : (w : tie.After-start-words) → let n = begin (w .before .before .before .before) .args .n in length (w .start-words .last .1 .1 .1 .1 .1 .1 .0 ++ drop {A = ℕ} n (replicate maxVertices 0)) ≡ maxVertices
+listed w =
+    let n = begin (w .before .before .before .before) .args .n in
+    let a = length-append (w .start-words .last .1 .1 .1 .1 .1 .1 .0) (drop {A = ℕ} n (replicate maxVertices 0)) in
+    let b = length-drop {A = ℕ} n (replicate maxVertices 0) in
+    omega (arith, a, b, filled w, sound (w .before .before) .rows .few)
+
+abbrev copied : tie.After-firsts → tie.After-start-words
+copied c = c .before .before .before .before .before .before .before
+
+index-requires : tie.Need-index-requires
+index-requires c κs =
+    let d = copied c .before .before in
+    let s = begin (d .before .before) in
+    let a = s .args in
+    let g = sound d in
+    let r = room-less (g .records) (g .room) in (
+      record { few = g .rows .few; records = g .records; keys = r .tails; firsts = omega (arith, g .rows .few); vertices = tails-below (a .n) (a .count) (a .tails .now) (a .heads .now) (a .weights .now) r (g .rules) },
+      tails-ascend (a .n) (a .count) (a .tails .now) (a .heads .now) (a .weights .now) r (g .rules),
+    )
+
+-- the table's places
+placed : (i : tie.After-index) → let s = begin (copied (i .before) .before .before .before .before) in let a = s .args in
+    IndexesIn false (a .n) (i .index .last .1 .1 .1 .0) (a .heads .now) (a .weights .now) (edges (a .tails .now) (a .heads .now) (a .weights .now) (a .count))
+placed i =
+    let d = copied (i .before) .before .before in
+    let a = begin (d .before .before) .args in
+    let g = sound d in
+    table-placed (a .n) (a .count) (a .tails .now) (a .heads .now) (a .weights .now) (room-less (g .records) (g .room)) (g .rules) _ (g .rows .few) (g .records) (omega (arith, g .rows .few, i .index .kept .1 .1 .1 .0)) (i .index .ensures)
 
 run-query-requires : tie.Need-run-query-requires
 run-query-requires c κs =
-    let w = c .before .before .before .before .before in
-    let g = sound (told-fine (w .before)) in
-    ((w .before .before .before .before .index2 .ensures .fit, g .schedule, g .rows .source, g .rows .few), (ap length (front w) ∙ filled w, g .starts, g .settled))
+    let i = c .before .before .before .before in
+    let w = copied (i .before) in
+    let g = sound (w .before .before) in
+    ((placed i .fit, g .schedule, g .rows .source, g .rows .few), (ap length (front w) ∙ filled w, g .settled))
 
 returns-2 : tie.Need-returns-2
 returns-2 c =
-    let r = c .before .before .before .before in
-    let w = r .before .before .before .before .before .before in
-    let d = told-fine (w .before) in
+    let r = c .before .before in
+    let i = r .before .before .before .before .before in
+    let k = i .before .before .before .before in
+    let w = copied (i .before) in
+    let d = w .before .before in
     let s = begin (d .before .before) in
     let a = s .args in
-    let k = d .before .before in
+    let j = d .before .before in
     query-settled (a .n) (a .landmarks .now) (net s) (ask s) (a .starts .now) (a .settled .now)
-    (λ i. omega (arith, k .before .before .before .before .before .shared-slice-known5 .given i)) (λ i. omega (arith, k .before .before .before .before .shared-slice-known6 .given i)) (fine d)
-    _ _ _ _ (front w ∙ w .start-words .ensures) (r .run-query .ensures .0) (r .run-query .ensures .1 _ (w .before .before .before .before .index2 .ensures .own))
+    (λ x. omega (arith, j .before .before .before .before .before .shared-slice-known5 .given x)) (λ x. omega (arith, j .before .before .before .before .shared-slice-known6 .given x)) (fine d)
+    _ _ _ _ (front w ∙ w .start-words .ensures) (k .copy .ensures ∙ paste-front (a .n) (w .start-words .last .1 .1 .1 .1 .1 .1 .0 ++ drop {A = ℕ} (a .n) (replicate maxVertices 0)) (a .starts .now) (omega (arith, listed w, sound d .rows .few))) (r .run-query .ensures _ (placed i .own))
 
 pub query-spec : {M : Type 1} → statement M
 query-spec =
@@ -85,15 +115,16 @@ query-spec =
     (λ c. search needs)
     returns
     (λ c. search needs)
-    (λ c. search needs)
+    (λ c. sound c .rows .few)
+    (λ c. sym (words (c .before)))
+    (λ c κs. let d = c .before in (words d, sound d .rows))
+    (λ c. sym (listed (c .before .before)))
+    (λ c κs. let w = c .before .before .before in let g = sound (w .before .before) in (omega (arith, listed w, g .rows .few), omega (arith, g .starts)))
     (λ c. search needs)
     index-requires
-    (λ c. sound (c .before .before .before .before .before) .rows .few)
-    (λ c. sym (words (told-fine c)))
-    (λ c κs. let d = told-fine c in (words d, sound d .rows))
     (λ c. search needs)
-    (λ c. let w = c .before .before in omega (arith, length-append (w .start-words .last .1 .1 .1 .1 .1 .1 .0) (drop (begin (told-fine (w .before) .before .before) .args .n) (replicate maxVertices 0)), filled w))
-    (λ c. sym (ap length (front (c .before .before .before)) ∙ filled (c .before .before .before)))
+    (λ c. let w = copied (c .before .before .before) in omega (arith, listed w, sound (w .before .before) .rows .few))
+    (λ c. let w = copied (c .before .before .before .before) in sym (ap length (front w) ∙ filled w))
     run-query-requires
     (λ c. search needs)
     (λ c. search needs)

@@ -6,7 +6,7 @@ use Rattle.frontier.specs.Waiting.{waitingOf}
 use Rattle.frontier.proofs.Laws.{First, next-first, next-none}
 use Rattle.graph.specs.Limits.{maxEdges}
 use Rattle.graph.specs.Edge.{Edge, range}
-use Rattle.graph.specs.Index.{Own}
+use Rattle.graph.specs.Index.{OwnIn}
 use Rattle.run.specs.Run as spec
 use Rattle.run.specs.Code.{state, Ran}
 use Rattle.run.proofs.States.{marks-within, ran-none, ran-then}
@@ -15,13 +15,13 @@ use Rattle.run.proofs.round_of.Statement.{statement}
 use Rattle.run.proofs.round_of.Tie as tie
 
 abbrev Inv-loop : tie.InvT-loop
-Inv-loop p n index words₀ waiting₀ t₀ i₀ words waiting t i =
-    ((es : List Edge) → Own n index es
+Inv-loop p n packed firsts heads weights words₀ waiting₀ t₀ i₀ words waiting t i =
+    ((es : List Edge) → OwnIn packed n firsts heads weights es
     → foldl (spec.visit (property p) es) (state n words waiting t) (range i (n - i)) ≡ foldl (spec.visit (property p) es) (state n words₀ waiting₀ t₀) (range 0 n))
     × (i ≤ n) × Ran n words waiting t₀ t 0 0 (maxEdges * i)
 
 abbrev μ-loop : tie.MeasureT-loop
-μ-loop p n index words₀ waiting₀ t₀ i₀ words waiting t i = n - i
+μ-loop p n packed firsts heads weights words₀ waiting₀ t₀ i₀ words waiting t i = n - i
 
 -- what was found
 found : (c : tie.After-next Inv-loop μ-loop)
@@ -29,18 +29,18 @@ found : (c : tie.After-next Inv-loop μ-loop)
 found c = next-first _ _ _ (sym (c .before .before .next-from .ensures .0) ∙ c .next .given .1)
 
 -- it is one of the vertices
-found-within : (c : tie.After-next Inv-loop μ-loop) → c .next .given .0 .0 < c .before .before .before .before .before .before .before .before .before .args .n
+found-within : (c : tie.After-next Inv-loop μ-loop) → c .next .given .0 .0 < c .before .before .before .before .before .before .before .before .before .before .before .args .n
 found-within c = marks-within _ (c .before .before .before .before .before .loop .waiting) _ (c .before .before .before .before .before .loop .inv .2 .sized .waiting) (found c .waits)
 
 loop-holds : tie.Need-loop-holds Inv-loop μ-loop
 loop-holds c =
-    let s = c .before .before .before in
+    let s = c .before .before .before .before .before in
     ((λ es o. rw sub-zero), omega arith, ran-none (s .pre .sized) _ 0 0 0)
 
 returns : tie.Need-returns Inv-loop μ-loop
 returns c =
     let l = c .before .before .before .before .before in
-    let s = l .before .before .before .before in
+    let s = l .before .before .before .before .before .before in
     let g = s .args in
     let at = l .loop in (
       λ es o.
@@ -54,9 +54,10 @@ handle-requires : tie.Need-handle-requires Inv-loop μ-loop
 handle-requires c κs =
     let k = c .before .before .before in
     let l = k .before .before .before .before .before in
-    let s = l .before .before .before .before in
+    let s = l .before .before .before .before .before .before in
     let f = s .pre .index .few in
     let r = l .loop .inv .2 in (
+      s .args .n,
       found-within k,
       record { index = s .pre .index; sized = r .sized; low = record { taken = omega arith; rounds = omega arith; stores = omega arith } },
     )
@@ -66,21 +67,21 @@ loop-again c =
     let r = c .before .before in
     let k = r .before .before .before .before in
     let l = k .before .before .before .before .before in
-    let s = l .before .before .before .before in
+    let s = l .before .before .before .before .before .before in
     let g = s .args in
     let at = l .loop in
     let f = found k in (
       λ es o.
           round-next (property (g .p)) es (g .n) (at .i) (at .words) (at .waiting) (at .t) _ (at .inv .0 es o)
-          (k .next .given .0 .0) _ (at .inv .2 .sized .waiting) f (r .handle .ensures .0 es o),
+          (k .next .given .0 .0) _ (at .inv .2 .sized .waiting) f (r .handle .ensures .0 (g .n) (at .inv .2 .sized .words) es o),
       omega (arith, found-within k),
-      ran-then (at .inv .2) (r .handle .ensures .1) (omega arith) (omega arith) (omega (arith, f .from)),
+      ran-then (at .inv .2) (r .handle .ensures .1 (g .n) (at .inv .2 .sized .words)) (omega arith) (omega arith) (omega (arith, f .from)),
     )
 
 returns-2 : tie.Need-returns-2 Inv-loop μ-loop
 returns-2 c =
     let l = c .before in
-    let s = l .before .before .before .before in
+    let s = l .before .before .before .before .before .before in
     let g = s .args in
     let at = l .loop in (
       λ es o.
@@ -97,7 +98,7 @@ round-of-spec =
     μ-loop
     (λ c. search needs)
     loop-holds
-    (λ c κs. omega (arith, c .before .before .before .before .before .before .pre .index .few))
+    (λ c κs. omega (arith, c .before .before .before .before .before .before .before .before .pre .index .few))
     (λ c. search needs)
     (λ c. search needs)
     (λ c. search needs)

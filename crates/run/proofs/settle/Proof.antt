@@ -4,7 +4,7 @@ use Rattle.property.proofs.Basics.{_≡_, sym, _∙_, List, _-_, _*_, _≤_, su
 use Rattle.property.specs.Property.{property}
 use Rattle.graph.specs.Limits.{maxVertices, maxEdges}
 use Rattle.graph.specs.Edge.{Edge}
-use Rattle.graph.specs.Index.{Own}
+use Rattle.graph.specs.Index.{OwnIn}
 use Rattle.run.specs.Run as spec
 use Rattle.run.specs.Code.{state, Ran}
 use Rattle.run.proofs.States.{bits-any, ran-none, ran-then, ran-within}
@@ -13,23 +13,23 @@ use Rattle.run.proofs.settle.Statement.{statement}
 use Rattle.run.proofs.settle.Tie as tie
 
 abbrev Inv-loop : tie.InvT-loop
-Inv-loop p n index words₀ waiting₀ t₀ k₀ words waiting t k =
-    ((es : List Edge) → Own n index es
+Inv-loop p n packed firsts heads weights words₀ waiting₀ t₀ k₀ words waiting t k =
+    ((es : List Edge) → OwnIn packed n firsts heads weights es
     → spec.settle (property p) es n (n - k) (state n words waiting t) ≡ spec.settle (property p) es n n (state n words₀ waiting₀ t₀))
     × (k ≤ n) × Ran n words waiting t₀ t 0 k (maxVertices * maxEdges * k)
 
 abbrev μ-loop : tie.MeasureT-loop
-μ-loop p n index words₀ waiting₀ t₀ k₀ words waiting t k = n - k
+μ-loop p n packed firsts heads weights words₀ waiting₀ t₀ k₀ words waiting t k = n - k
 
 loop-holds : tie.Need-loop-holds Inv-loop μ-loop
 loop-holds c =
-    let s = c .before .before in
+    let s = c .before .before .before .before in
     ((λ es o. rw sub-zero), omega arith, ran-none (s .pre .sized) (s .args .tally) 0 0 0)
 
 returns : tie.Need-returns Inv-loop μ-loop
 returns c =
     let l = c .before .before .before .before in
-    let s = l .before .before .before in
+    let s = l .before .before .before .before .before in
     let g = s .args in
     let at = l .loop in
     let e = bits-any (g .n) (at .waiting) (at .inv .2 .sized .waiting) ∙ sym (c .before .any .ensures) ∙ not-true _ (c .if1 .taken) in (
@@ -40,7 +40,7 @@ returns c =
 round-requires : tie.Need-round-requires Inv-loop μ-loop
 round-requires c κs =
     let l = c .before .before .before .before .before .before in
-    let s = l .before .before .before in
+    let s = l .before .before .before .before .before in
     let f = s .pre .index .few in
     let r = l .loop .inv .2 in
     record { index = s .pre .index; sized = r .sized; low = record { taken = omega arith; rounds = omega arith; stores = omega arith } }
@@ -51,7 +51,7 @@ loop-again c =
     let b = r .before .before .before in
     let a = b .before in
     let l = a .before .before .before in
-    let s = l .before .before .before in
+    let s = l .before .before .before .before .before in
     let g = s .args in
     let at = l .loop in
     let e = bits-any (g .n) (at .waiting) (at .inv .2 .sized .waiting) ∙ sym (a .any .ensures) ∙ not-false _ (b .if1 .left) in (
@@ -65,7 +65,7 @@ loop-again c =
 returns-2 : tie.Need-returns-2 Inv-loop μ-loop
 returns-2 c =
     let l = c .before in
-    let s = l .before .before .before in
+    let s = l .before .before .before .before .before in
     let g = s .args in
     let at = l .loop in (
       λ es o. sym (settle-none (property (g .p)) es (g .n) (at .k) (state (g .n) (at .words) (at .waiting) (at .t)) (c .loop-test .left)) ∙ at .inv .0 es o,

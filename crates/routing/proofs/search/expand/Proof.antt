@@ -17,7 +17,7 @@ abbrev Inv-loop : tie.InvT-loop
 Inv-loop p v u index row queue₀ count via₀ x hi j₀ m₀ queue via j m =
     (foldl (look (eligible p row v)) (searchOf m queue via) (part index u j (hi - j))
     ≡ foldl (look (eligible p row v)) (searchOf count queue₀ via₀) (part index u j₀ (hi - j₀)))
-    × (length via₀ < j) × (j ≤ hi) × (hi ≤ getD index (length via₀) 0) × (length via ≡ length via₀) × Searching m queue via × (length queue ≡ length queue₀)
+    × (getD index 0 0 ≤ j) × (j ≤ hi) × (hi ≤ getD index (length via₀) 0) × (length via ≡ length via₀) × Searching m queue via × (length queue ≡ length queue₀)
 
 abbrev μ-loop : tie.MeasureT-loop
 μ-loop p v u index row queue₀ count via₀ x hi j₀ m₀ queue via j m = hi - j
@@ -70,7 +70,7 @@ loop-again c =
     let z = eligible-word (g .p) (g .v) (g .u) (h .head .result) (w .weight .result) arcAt (g .row .now) _
     (omega (arith, s .pre .0, s .pre .2)) (omega (arith, s .pre .2)) (h .head .ensures) (w .weight .ensures) (a .before .is-eligible .ensures) in
     let q = r .look .ensures .0 F e z (sym (h .head .ensures)) (ap (arc (g .u)) (sym (w .weight .ensures)) ∙ sym (a .arc .ensures)) in (
-      fold-turn (look F) e (part-more _ _ _ _ (t .loop-test .taken)) q (at .inv .0),
+      fold-turn (look F) e (part-more _ _ _ _ _ _ (t .loop-test .taken)) q (at .inv .0),
       omega arith,
       omega arith,
       at .inv .3,
@@ -86,7 +86,7 @@ returns c =
     let g = s .args in
     let F = eligible (g .p) (g .row .now) (g .v) in (
       λ es o.
-          fold-done (look F) (part-none _ _ _ _ (c .loop-test .left)) (l .loop .inv .0)
+          fold-done (look F) (part-none _ _ _ _ _ _ (c .loop-test .left)) (l .loop .inv .0)
           ∙ expand-own F es (g .index .now) _ (g .u) (o (g .u) (s .pre .0)),
       l .loop .inv .5,
     )
