@@ -18,9 +18,9 @@ use Rattle.network.proofs.Items.{length-column}
 use Rattle.calls.specs.Code.{network}
 use Rattle.open.specs.declared.Opened.{Opened}
 use Rattle.open.specs.Code.{openOutcome}
-use Rattle.inspect.specs.declared.Chosen.{Chosen}
-use Rattle.inspect.specs.Code.{padded, choosing, chosenOf}
-use Rattle.inspect.proofs.Choosing.{Picked, choosing-chosen}
+use Rattle.choice.specs.declared.Chosen.{Chosen}
+use Rattle.choice.specs.Code.{padded, choosing, chosenOf}
+use Rattle.choice.proofs.Choosing.{Picked, choosing-chosen}
 use Rattle.dimacs.proofs.Written.{filled-edges}
 use Rattle.listing.specs.Listing.{graph, landmarksOf}
 use Rattle.listing.specs.Code.{Loaded, Ready}

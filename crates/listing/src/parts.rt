@@ -1,7 +1,7 @@
 // The output, piece by piece: a refusal, or the header and the lines of each source.
 use super::lines;
+use choice::Choice;
 use graph::Judged;
-use inspect::Choice;
 ghost use mathlib.Core.Path.{_≡_};
 ghost use mathlib.Core.List.{List, []};
 ghost use Prim.Native.Nat.{ℕ, _+_, _<_, _≤_};

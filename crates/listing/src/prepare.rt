@@ -1,9 +1,8 @@
 // Two files read and their network opened: all that the output is made from.
 use super::parts::Prepared;
+use choice::Choice;
 use graph::Judged;
 use graph::words;
-use inspect::Choice;
-use inspect::choose;
 use reader::network_text::ReadReply;
 use reader::sources::SourcesReply;
 ghost use mathlib.Core.Path.{_≡_};
@@ -31,7 +30,7 @@ pub fn open_network(
     ensures { λ r. ⌜ (r .count ≤ maxLandmarks) × (length (r .vertices) ≡ maxLandmarks) ⌝ }
     ensures { λ r. ⌜ ((es : List Edge) → Loaded n es (now (tails .entry)) (now (heads .entry)) (now (weights .entry)) count → Ready n es (now (tails .entry)) (now (heads .entry)) (now (weights .entry)) count (r .count) (r .vertices) (now (forward .exit)) (now (backward .exit))) ⌝ }
 {
-    let chosen = choose::choose_landmarks(
+    let chosen = choice::choose_landmarks(
         n,
         tails,
         heads,

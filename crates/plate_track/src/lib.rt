@@ -152,7 +152,7 @@ pub extern "C" fn plate_track_settled(
     if reply.len() < REPLY_WORDS {
         return 2;
     }
-    let r = inspect::settled::find_relaxable(
+    let r = settled_check::find_relaxable(
         n,
         landmarks,
         tails,
@@ -181,7 +181,7 @@ pub extern "C" fn plate_track_choose(
     if reply.len() < REPLY_WORDS {
         return 2;
     }
-    let r = inspect::choose::choose_landmarks(n, tails, heads, weights, count, k);
+    let r = choice::choose_landmarks(n, tails, heads, weights, count, k);
     spell::spell_choice(r, reply)
 }
 
@@ -202,12 +202,12 @@ pub extern "C" fn plate_track_row(
     if reply.len() < REPLY_WORDS {
         return 2;
     }
-    let r = inspect::lookup::row_number(n, landmarks, forward, backward, side, landmark, property);
+    let r = lookup::row_number(n, landmarks, forward, backward, side, landmark, property);
     if let Judged::Refused(number, place) = r {
         reply[0] = place as u64;
         return number;
     }
-    let i = inspect::lookup::index_of(landmark, landmarks);
+    let i = lookup::index_of(landmark, landmarks);
     reply[0] = calls::row_start(property, n as usize, i) as u64;
     0
 }

@@ -4,8 +4,8 @@ use Rattle.graph.specs.Refusal.{Verdict, accept, refuse, Reply, accepted, refus
 use Rattle.graph.specs.declared.Judged.the-variants.{Fine, Refused}
 use Rattle.graph.specs.Code.{told}
 use Rattle.graph.proofs.Verdicts.{not-accept}
-use Rattle.inspect.specs.declared.Chosen.{Chosen}
-use Rattle.inspect.specs.Code.{ChosenWords, chosenOf, choosing, padded}
+use Rattle.choice.specs.declared.Chosen.{Chosen}
+use Rattle.choice.specs.Code.{ChosenWords, chosenOf, choosing, padded}
 use Rattle.spelling.specs.Code.{replyWords, Tells, choiceWords}
 use Rattle.spelling.proofs.Telling.{setAll-over, refused-tells, accepted-tells}
 

@@ -23,7 +23,7 @@ use Rattle.run.specs.Run.{Tally}
 use Rattle.network.specs.Batch.{Report}
 use Rattle.network.specs.Settled.{Check, settled, found}
 use Rattle.network.specs.Change.{Change}
-use Rattle.inspect.specs.Code.{padded}
+use Rattle.choice.specs.Code.{padded}
 use Rattle.items.specs.Code.{change}
 use Rattle.dimacs.specs.Call.{Size}
 

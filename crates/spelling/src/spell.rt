@@ -1,13 +1,13 @@
 // Replies as a number and words.
 use apply::Applied;
+use choice::Chosen;
 use graph::Judged;
-use inspect::Checked;
-use inspect::Chosen;
 use open::Opened;
 use query::Answered;
 use reader::network_text::ReadReply;
 use reader::sources::SourcesReply;
 use routing::RouteReply;
+use settled_check::Checked;
 use writer::WriteReply;
 ghost use mathlib.Core.Path.{_≡_};
 ghost use mathlib.Core.List.{List};
@@ -17,7 +17,8 @@ ghost use Rattle.graph.specs.Refusal.{Reply};
 ghost use Rattle.open.specs.Code.{opening};
 ghost use Rattle.query.specs.Code.{answering};
 ghost use Rattle.apply.specs.Code.{applying};
-ghost use Rattle.inspect.specs.Code.{checking, choosing, chosenOf};
+ghost use Rattle.settled_check.specs.Code.{checking};
+ghost use Rattle.choice.specs.Code.{choosing, chosenOf};
 ghost use Rattle.reader.specs.NetworkCode as network;
 ghost use Rattle.reader.specs.SourcesCode as sources;
 ghost use Rattle.writer.specs.Code.{writing};

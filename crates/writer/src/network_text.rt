@@ -85,11 +85,20 @@ fn put_arcs(
     end
 }
 
-// Numbers 1, 2 of the table's lists, and 4.
+// Numbers 1, 2 of the table's lists, and 4. It does not go by `rules::judge_bare`, whose judge of records goes by vectors and saves registers: that
+// would be half of this call's stack.
 fn judge_write(n: u32, tails: &[u32], heads: &[u32], weights: &[u32], count: u32) -> Judged
     ensures { λ r. ⌜ told r ≡ (size n ▷ shortTable (columns (now (tails .entry)) (now (heads .entry)) (now (weights .entry))) ▷ table n (columns (now (tails .entry)) (now (heads .entry)) (now (weights .entry))) count) ⌝ }
 {
-    rules::judge_bare(n, tails, heads, weights, count, Judged::Fine)
+    let size = rules::judge_size(n);
+    let Judged::Fine = size else {
+        return size;
+    };
+    let lengths = rules::judge_lengths(tails, heads, weights);
+    let Judged::Fine = lengths else {
+        return lengths;
+    };
+    rules::judge_table_plainly(n, tails, heads, weights, count)
 }
 
 // A network's text: refused, or written to the lent buffer; bytes past it stay. Only the buffer is judged last.

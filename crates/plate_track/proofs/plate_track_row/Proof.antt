@@ -1,7 +1,7 @@
 -- `plate_track::plate_track_row` meets its contract. Assumes nothing.
 use Rattle.property.proofs.Basics.{needs, arith, ap, _∙_, ℕ, _*_}
 use Rattle.network.specs.Query.{rowAt}
-use Rattle.inspect.proofs.LookupLaws.{Shown, lookup-accept}
+use Rattle.lookup.proofs.Showing.{Shown, lookup-accept}
 use Rattle.spelling.specs.Code.{oneWord}
 use Rattle.spelling.proofs.Telling.{refused-tells, stored-tells}
 use Rattle.plate_track.specs.Code.{alone}

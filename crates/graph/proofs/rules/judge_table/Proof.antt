@@ -1,16 +1,21 @@
 -- `graph::rules::judge_table` meets its contract. Assumes nothing.
-use Rattle.property.proofs.Basics.{needs}
-use Rattle.graph.proofs.Judging.{table-judged, table-crowded}
+use Rattle.property.proofs.Basics.{needs, arith, leb-true}
+use Rattle.graph.specs.Limits.{maxEdges}
+use Rattle.graph.specs.Code.{told}
+use Rattle.graph.proofs.Judging.{table-judged}
+use Rattle.graph.proofs.Records.{room-less}
 use Rattle.graph.proofs.rules.judge_table.Statement.{statement}
 use Rattle.graph.proofs.rules.judge_table.Tie as tie
 
-returns : tie.Need-returns
-returns c = let a = c .before .before .before .before .args in table-crowded (a .n) (a .count) (a .tails .now) (a .heads .now) (a .weights .now) (c .if1 .taken)
+are-sound-requires : tie.Need-are-sound-requires
+are-sound-requires c κs = let s = c .before .before .before .before .before in (omega arith, room-less (leb-true (s .args .count) maxEdges (c .if2 .taken)) (s .pre))
 
-returns-2 : tie.Need-returns-2
-returns-2 c =
-    let a = c .before .before .before .before .before .args in
-    table-judged (a .n) (a .count) (a .tails .now) (a .heads .now) (a .weights .now) (c .before .if1 .left) (c .judge-records .ensures)
+returns : tie.Need-returns
+unfolding told
+returns c =
+    let s = c .before in
+    let a = c .before .before .before .before .before .before .before .args in
+    table-judged (a .n) (a .count) (a .tails .now) (a .heads .now) (a .weights .now) (leb-true (a .count) maxEdges (s .before .if2 .taken)) (s .are-sound .ensures (c .if3 .taken))
 
 pub judge-table-spec : {M : Type 1} → statement M
-judge-table-spec = tie.close (tie.spec returns (λ c κs. search needs) returns-2)
+judge-table-spec = tie.close (tie.spec are-sound-requires returns (λ c κs. search needs) (λ c. search needs))

@@ -1,6 +1,6 @@
 -- `spelling::spell::spell_check` meets its contract. Assumes nothing.
 use Rattle.property.proofs.Basics.{[], _∷_, needs, arith}
-use Rattle.inspect.specs.Code.{checking}
+use Rattle.settled_check.specs.Code.{checking}
 use Rattle.spelling.specs.Code.{checkWords}
 use Rattle.spelling.proofs.Telling.{setAll-within, refused-tells, stored-tells}
 use Rattle.spelling.proofs.spell.spell_check.Statement.{statement}

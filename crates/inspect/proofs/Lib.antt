@@ -1,3 +1,0 @@
-pub mod LookupLaws
-pub mod Checking
-pub mod Choosing
