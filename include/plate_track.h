@@ -133,7 +133,7 @@ enum { PLATE_TRACK_ROUTE_VERTICES };
  * that reaches one of its functions takes up to 4 KiB more, once, for the dynamic linker. */
 enum {
     PLATE_TRACK_STACK_OPEN = 12 * 1024,
-    PLATE_TRACK_STACK_QUERY = 12 * 1024,
+    PLATE_TRACK_STACK_QUERY = 3 * 1024,
     PLATE_TRACK_STACK_BATCH = 120 * 1024,
     PLATE_TRACK_STACK_SETTLED = 1024,
     PLATE_TRACK_STACK_CHOOSE = 1024,
