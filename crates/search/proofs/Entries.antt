@@ -16,7 +16,7 @@ use Rattle.graph.specs.Table.{isEdge}
 use Rattle.graph.proofs.Lists.{mem-index}
 use Rattle.graph.proofs.Sorted.{sorted-before}
 use Rattle.graph.proofs.Order.{Less, less-of, table-ordered, Sound}
-use Rattle.routing.proofs.Routes.{rank}
+use Rattle.search.proofs.Routes.{rank}
 
 -- ---- entries
 

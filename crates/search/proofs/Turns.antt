@@ -1,7 +1,7 @@
 -- The turns of a search: it goes on, or stops. Assumes nothing.
 use Rattle.property.proofs.Basics.{_≡_, refl, Bool, true, false, _&&_, List, ℕ, suc, length, getD, ltb}
 use Rattle.graph.specs.Edge.{Edge}
-use Rattle.routing.specs.Search.{Search, isUnfound, expand, search}
+use Rattle.search.specs.Search.{Search, isUnfound, expand, search}
 
 module _ (f : Edge → Bool) (es : List Edge) (t : ℕ) where
   pub search-none : (i : ℕ) (st : Search) → search f es t 0 i st ≡ st

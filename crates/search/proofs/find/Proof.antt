@@ -4,10 +4,10 @@ use Rattle.graph.specs.Limits.{maxVertices}
 use Rattle.graph.specs.Edge.{edges}
 use Rattle.graph.specs.Index.{Fit, Own}
 use Rattle.graph.proofs.Records.{room-less}
-use Rattle.routing.specs.Search.{searched}
-use Rattle.routing.proofs.Steps.{told-of}
-use Rattle.routing.proofs.search.find.Statement.{statement}
-use Rattle.routing.proofs.search.find.Tie as tie
+use Rattle.search.specs.Search.{searched}
+use Rattle.search.proofs.Steps.{told-of}
+use Rattle.search.proofs.find.Statement.{statement}
+use Rattle.search.proofs.find.Tie as tie
 
 index-requires : tie.Need-index-requires
 index-requires c κs =

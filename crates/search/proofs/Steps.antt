@@ -17,9 +17,9 @@ use Rattle.graph.proofs.Lists.{at-set, getD-within, replicate-at}
 use Rattle.graph.proofs.Counts.{equal-all, equal-set}
 use Rattle.run.specs.Start.{valuesFrom}
 use Rattle.answers.specs.Routing.{eligible}
-use Rattle.routing.specs.Search.{unfound, noArc, Search, isUnfound, finds, look, expand, begun, search, isSearched, searched}
-use Rattle.routing.specs.Code.{isEligible, searchOf, Searching}
-use Rattle.routing.proofs.Turns.{search-none, search-more, search-stops}
+use Rattle.search.specs.Search.{unfound, noArc, Search, isUnfound, finds, look, expand, begun, search, isSearched, searched}
+use Rattle.search.specs.Code.{isEligible, searchOf, Searching}
+use Rattle.search.proofs.Turns.{search-none, search-more, search-stops}
 
 -- ---- whether an edge can lie on a best route
 

@@ -1,8 +1,8 @@
 -- `search::search_by` meets its contract: each arm is the search of its number. Assumes nothing.
 use Rattle.property.proofs.Basics.{length, needs}
-use Rattle.routing.proofs.Steps.{search-rest, told-of}
-use Rattle.routing.proofs.search.search_by.Statement.{statement}
-use Rattle.routing.proofs.search.search_by.Tie as tie
+use Rattle.search.proofs.Steps.{search-rest, told-of}
+use Rattle.search.proofs.search_by.Statement.{statement}
+use Rattle.search.proofs.search_by.Tie as tie
 
 returns-4 : tie.Need-returns-4
 returns-4 c =

@@ -4,12 +4,12 @@ use Rattle.property.proofs.Basics.{_≡_, refl, sym, ap, subst, _∙_, inl, inr
 use Rattle.graph.specs.Edge.{Edge}
 use Rattle.graph.specs.Index.{Fit, Own}
 use Rattle.answers.specs.Routing.{eligible}
-use Rattle.routing.specs.Search.{isUnfound, begun}
-use Rattle.routing.specs.Search as spec
-use Rattle.routing.specs.Code.{searchOf, Searching}
-use Rattle.routing.proofs.Steps.{searching-begun, search-begins, search-turn, search-ends}
-use Rattle.routing.proofs.search.search.Statement.{statement}
-use Rattle.routing.proofs.search.search.Tie as tie
+use Rattle.search.specs.Search.{isUnfound, begun}
+use Rattle.search.specs.Search as spec
+use Rattle.search.specs.Code.{searchOf, Searching}
+use Rattle.search.proofs.Steps.{searching-begun, search-begins, search-turn, search-ends}
+use Rattle.search.proofs.search.Statement.{statement}
+use Rattle.search.proofs.search.Tie as tie
 
 abbrev Inv-loop : tie.InvT-loop
 Inv-loop p v s t index row queue₀ via₀ count₀ i₀ queue via count i =

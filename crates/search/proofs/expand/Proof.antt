@@ -7,11 +7,11 @@ use Rattle.graph.specs.Index.{part}
 use Rattle.answers.specs.Routing.{eligible}
 use Rattle.graph.proofs.Lists.{fold-turn, fold-done}
 use Rattle.run.proofs.Folds.{part-more, part-none}
-use Rattle.routing.specs.Search.{look}
-use Rattle.routing.specs.Code.{searchOf, Searching}
-use Rattle.routing.proofs.Steps.{eligible-word, expand-own}
-use Rattle.routing.proofs.search.expand.Statement.{statement}
-use Rattle.routing.proofs.search.expand.Tie as tie
+use Rattle.search.specs.Search.{look}
+use Rattle.search.specs.Code.{searchOf, Searching}
+use Rattle.search.proofs.Steps.{eligible-word, expand-own}
+use Rattle.search.proofs.expand.Statement.{statement}
+use Rattle.search.proofs.expand.Tie as tie
 
 abbrev Inv-loop : tie.InvT-loop
 Inv-loop p v u index row queue₀ count via₀ x hi j₀ m₀ queue via j m =

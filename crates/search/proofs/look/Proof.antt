@@ -1,8 +1,8 @@
 -- `search::look` meets its contract. Assumes nothing.
 use Rattle.property.proofs.Basics.{inl, inr, ⊎-elim, _∙_, arith, needs}
-use Rattle.routing.proofs.Steps.{look-keeps, look-finds, queue-room, searching-found}
-use Rattle.routing.proofs.search.look.Statement.{statement}
-use Rattle.routing.proofs.search.look.Tie as tie
+use Rattle.search.proofs.Steps.{look-keeps, look-finds, queue-room, searching-found}
+use Rattle.search.proofs.look.Statement.{statement}
+use Rattle.search.proofs.look.Tie as tie
 
 slice-write-queue : tie.Need-slice-write-queue
 slice-write-queue c =

@@ -1,9 +1,9 @@
 -- `search::search_best` meets its contract: the eligible edges are searched, or every edge. Assumes nothing.
 use Rattle.property.proofs.Basics.{length, arith, needs, eqb-false}
 use Rattle.graph.proofs.Tests.{neither}
-use Rattle.routing.proofs.Steps.{searched-best, searched-all, told-of}
-use Rattle.routing.proofs.search.search_best.Statement.{statement}
-use Rattle.routing.proofs.search.search_best.Tie as tie
+use Rattle.search.proofs.Steps.{searched-best, searched-all, told-of}
+use Rattle.search.proofs.search_best.Statement.{statement}
+use Rattle.search.proofs.search_best.Tie as tie
 
 returns : tie.Need-returns
 returns c =

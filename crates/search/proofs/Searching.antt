@@ -25,11 +25,11 @@ use Rattle.graph.proofs.Counts.{equal-all, equal-set}
 use Rattle.graph.proofs.Edges.{keep-in, in-keep, leaving-in, in-leaving}
 use Rattle.graph.proofs.Order.{Sound, EdgeFacts, sound-fit}
 use Rattle.theory.proofs.Leads.{Least, leads-snoc, leads-none}
-use Rattle.routing.specs.Search.{unfound, noArc, Search, isUnfound, finds, look, expand, begun, search}
-use Rattle.routing.specs.Code.{weightAt, Trace}
-use Rattle.routing.proofs.Routes.{rank, Narrow, rank-on, rank-no-later, leads-mem, leads-last, leads-tail}
-use Rattle.routing.proofs.Entries.{Entry, entry, key, Before, Known, Reached, Grows, Rising, each-on, grows-none, grows-then, grows-one, reached-grows, leaving-rising}
-use Rattle.routing.proofs.Turns.{search-none, search-more, search-stops}
+use Rattle.search.specs.Search.{unfound, noArc, Search, isUnfound, finds, look, expand, begun, search}
+use Rattle.search.specs.Code.{weightAt, Trace}
+use Rattle.search.proofs.Routes.{rank, Narrow, rank-on, rank-no-later, leads-mem, leads-last, leads-tail}
+use Rattle.search.proofs.Entries.{Entry, entry, key, Before, Known, Reached, Grows, Rising, each-on, grows-none, grows-then, grows-one, reached-grows, leaving-rising}
+use Rattle.search.proofs.Turns.{search-none, search-more, search-stops}
 
 abbrev pub Found : List Edge → ℕ → ℕ → List ℕ → Type 0
 Found ks s t vs = (ps : List Edge) × Least ks s t ps × Trace s t vs ps

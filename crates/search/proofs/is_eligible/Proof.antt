@@ -1,8 +1,8 @@
 -- `search::is_eligible` meets its contract. Assumes nothing.
 use Rattle.property.proofs.Basics.{needs}
-use Rattle.routing.proofs.Steps.{eligible-low, eligible-high}
-use Rattle.routing.proofs.search.is_eligible.Statement.{statement}
-use Rattle.routing.proofs.search.is_eligible.Tie as tie
+use Rattle.search.proofs.Steps.{eligible-low, eligible-high}
+use Rattle.search.proofs.is_eligible.Statement.{statement}
+use Rattle.search.proofs.is_eligible.Tie as tie
 
 returns : tie.Need-returns
 returns c = eligible-low _ _ _ _ _ _ (c .before .if1 .taken) (c .along .ensures)

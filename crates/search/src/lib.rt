@@ -13,9 +13,9 @@ ghost use Rattle.graph.specs.Edge.{Edge, edges};
 ghost use Rattle.graph.specs.Index.{Fit, Own};
 ghost use Rattle.calls.specs.Code.{Tabled};
 ghost use Rattle.answers.specs.Routing.{eligible};
-ghost use Rattle.routing.specs.Search.{unfound, isUnfound, look, expand, begun, searched};
-ghost use Rattle.routing.specs.Search as spec;
-ghost use Rattle.routing.specs.Code.{isEligible, searchOf, Searching};
+ghost use Rattle.search.specs.Search.{unfound, isUnfound, look, expand, begun, searched};
+ghost use Rattle.search.specs.Search as spec;
+ghost use Rattle.search.specs.Code.{isEligible, searchOf, Searching};
 
 // The word of a vertex that is not found: no arc has it.
 const UNFOUND: u32 = property::GREATEST;
