@@ -18,10 +18,10 @@ use Rattle.dimacs.proofs.Theorems.{network-tables}
 use Rattle.dimacs.proofs.Written.{read-call}
 use Rattle.reader.specs.declared.network_text.ReadReply.{ReadReply}
 use Rattle.reader.specs.declared.network_text.ReadReply.the-variants as graphs
-use Rattle.reader.specs.NetworkCode as graph
-use Rattle.reader.specs.declared.sources.SourcesReply.{SourcesReply}
-use Rattle.reader.specs.declared.sources.SourcesReply.the-variants as lists
-use Rattle.reader.specs.SourcesCode as list
+use Rattle.reader.specs.Code as graph
+use Rattle.sources.specs.declared.SourcesReply.{SourcesReply}
+use Rattle.sources.specs.declared.SourcesReply.the-variants as lists
+use Rattle.sources.specs.Code as list
 use Rattle.listing.proofs.Opening.{zeros}
 use Rattle.listing.specs.declared.parts.Prepared.{Prepared}
 use Rattle.listing.specs.Listing.{maxFile, graphVerdict, sourcesVerdict, filesVerdict}

@@ -40,8 +40,8 @@ use Rattle.dimacs.specs.Call.{filled, vertexCount, edgesRead, sourcesRead}
 use Rattle.dimacs.specs.Claims.{Table}
 use Rattle.reader.specs.declared.network_text.ReadReply.{ReadReply}
 use Rattle.reader.specs.declared.network_text.ReadReply.the-variants as graphs
-use Rattle.reader.specs.declared.sources.SourcesReply.{SourcesReply}
-use Rattle.reader.specs.declared.sources.SourcesReply.the-variants as sources
+use Rattle.sources.specs.declared.SourcesReply.{SourcesReply}
+use Rattle.sources.specs.declared.SourcesReply.the-variants as sources
 use Rattle.listing.specs.declared.parts.Prepared.{Prepared}
 use Rattle.listing.specs.Listing.{Graph, graph, graphOf, header, spaced, refusedLine, landmarksOf, networkOf, linesOf, graphVerdict, sourcesVerdict, filesVerdict}
 

@@ -4,7 +4,7 @@ use choice::Choice;
 use graph::Judged;
 use graph::words;
 use reader::network_text::ReadReply;
-use reader::sources::SourcesReply;
+use sources::SourcesReply;
 ghost use mathlib.Core.Path.{_≡_};
 ghost use mathlib.Core.List.{List};
 ghost use Prim.Native.Nat.{_≤_};
@@ -79,7 +79,7 @@ fn read_list(n: u32, ss: &[u8], list: &mut [u32]) -> SourcesReply
     if ss.len() > super::MAX_FILE {
         return SourcesReply::Refused(2, 0);
     }
-    reader::sources::read_sources(n, ss, list)
+    sources::read_sources(n, ss, list)
 }
 
 // What a refused file leaves to print.

@@ -263,7 +263,7 @@ pub extern "C" fn plate_track_read_sources(
     if reply.len() < REPLY_WORDS {
         return 2;
     }
-    let r = reader::sources::read_sources(n, text, sources);
+    let r = sources::read_sources(n, text, sources);
     spell::spell_sources(r, reply)
 }
 

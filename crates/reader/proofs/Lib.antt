@@ -1,7 +1,3 @@
-pub mod Marks
+pub mod Items
+pub mod Limits
 pub mod Steps
-pub mod NetworkItems
-pub mod NetworkLimits
-pub mod NetworkSteps
-pub mod SourcesItems
-pub mod SourcesSteps

@@ -1,3 +1,2 @@
 pub mod Capped
-pub mod NetworkCode
-pub mod SourcesCode
+pub mod Code

@@ -1,3 +1,2 @@
-// Reading text: network text into table lists, source files into a list of vertices.
+// Reading network text into table lists.
 pub mod network_text;
-pub mod sources;

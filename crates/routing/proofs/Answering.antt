@@ -21,9 +21,10 @@ use Rattle.network.specs.Query.{shortWords}
 use Rattle.answers.proofs.Routing.{faults-asked}
 use Rattle.answers.proofs.Preferring.{Asked, fewest-preferred, least-preferred, eligible-leads, unrouted, preferred-holds}
 use Rattle.routing.specs.declared.RouteReply.the-variants.{Vertices, Refused}
-use Rattle.routing.specs.Search.{Search, isUnfound, isSearched, searched}
-use Rattle.routing.specs.Code.{requesting, routing, answerOf, routeOutcome, unfaulted, Routable, Trace}
-use Rattle.routing.proofs.Searching.{Found, search-finds, search-lacks}
+use Rattle.search.specs.Search.{Search, isUnfound, isSearched, searched}
+use Rattle.search.specs.Code.{Trace}
+use Rattle.search.proofs.Searching.{Found, search-finds, search-lacks}
+use Rattle.routing.specs.Code.{requesting, routing, answerOf, routeOutcome, unfaulted, Routable}
 
 -- what a request has that numbers 1 to 6 let pass
 pub accept-routable : (n : ℕ) (ts hs ws : List ℕ) (m p s t : ℕ) (xs ys : List ℕ)

@@ -11,7 +11,7 @@ use Rattle.graph.specs.Edge.{Edge}
 use Rattle.graph.specs.Leads.{visited}
 use Rattle.graph.proofs.Arcs.{head-arc, weight-arc}
 use Rattle.answers.specs.Routing.{isMarked, marksOf}
-use Rattle.routing.specs.Code.{weightAt, Trace}
+use Rattle.search.specs.Code.{weightAt, Trace}
 
 -- ---- the way back
 

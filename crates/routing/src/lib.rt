@@ -1,5 +1,4 @@
-// The route behind a value: its refusals, the search for it from the source, and its writing.
-pub mod search;
+// The route behind a value: its refusals and its writing, with the search for it between them.
 pub mod write;
 
 use graph::Judged;

@@ -10,7 +10,7 @@ ghost use Rattle.graph.specs.Refusal.{over};
 ghost use Rattle.graph.specs.Edge.{Edge};
 ghost use Rattle.graph.specs.Leads.{visited};
 ghost use Rattle.answers.specs.Routing.{isMarked, marksOf};
-ghost use Rattle.routing.specs.Code.{Trace};
+ghost use Rattle.search.specs.Code.{Trace};
 
 // How many edges lead back from `t` to `s`.
 fn edges_back(s: u32, t: u32, via: &[u32]) -> usize

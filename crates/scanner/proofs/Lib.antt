@@ -1,2 +1,4 @@
 pub mod Caps
 pub mod Fields
+pub mod Marks
+pub mod Steps

@@ -1,6 +1,7 @@
 -- What the program knows of a number: itself up to 65,535, and that it is greater beyond. All limits lie below. Assumes nothing.
 --
 --   cap v         == v, or 65,536 where v is greater
+--   capVertex v   == the vertex, from 0, that a capped number names
 --   capScan v s   == scan with its number capped
 --   capNumber o   == what number gives, with its number capped
 --   field s       == a single space and a number, and what follows
@@ -17,6 +18,9 @@ use Rattle.dimacs.specs.Read.{after}
 
 abbrev pub cap : ℕ → ℕ
 cap v = min v 65536
+
+abbrev pub capVertex : ℕ → ℕ
+capVertex v = min v 65535
 
 unfoldable pub capScan : ℕ → List ℕ → ℕ × List ℕ
 capScan v s = (cap (scan v s .0), scan v s .1)

@@ -95,7 +95,7 @@ fn main() {
     let mut tails = table_list();
     let mut heads = table_list();
     let mut weights = table_list();
-    let mut list = [0u32; reader::sources::MAX_SOURCES];
+    let mut list = [0u32; sources::MAX_SOURCES];
     let mut forward = row_list();
     let mut backward = row_list();
     let prepared = prepare::prepare(

@@ -4,8 +4,9 @@ use Rattle.graph.specs.Edge.{edges}
 use Rattle.graph.specs.Table.{Columns}
 use Rattle.graph.specs.Code.{columns}
 use Rattle.answers.specs.Routing.{Request, preferred}
-use Rattle.routing.specs.Search.{isUnfound, searched}
-use Rattle.routing.specs.Code.{requestOf, Trace}
+use Rattle.search.specs.Search.{isUnfound, searched}
+use Rattle.search.specs.Code.{Trace}
+use Rattle.routing.specs.Code.{requestOf}
 use Rattle.routing.proofs.Answering.{routable-asked, told-lacks, told-finds, lacks-route, some-route, found-preferred, route-lacking, route-written}
 use Rattle.routing.proofs.find_route.Statement.{statement}
 use Rattle.routing.proofs.find_route.Tie as tie

@@ -1,7 +1,7 @@
 -- `routing::write::edges_back` meets its contract: on each trace, `k` edges before its end stands `u`. Assumes nothing.
 use Rattle.property.proofs.Basics.{needs, arith, _≡_, List, _-_, _+_, _<_, _≤_, length}
 use Rattle.graph.specs.Edge.{Edge}
-use Rattle.routing.specs.Code.{Trace}
+use Rattle.search.specs.Code.{Trace}
 use Rattle.routing.proofs.Writing.{At, at-last, at-inside, at-source, at-other, at-back}
 use Rattle.routing.proofs.write.edges_back.Statement.{statement}
 use Rattle.routing.proofs.write.edges_back.Tie as tie

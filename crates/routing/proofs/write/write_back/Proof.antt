@@ -5,7 +5,7 @@ use Rattle.graph.specs.Refusal.{over}
 use Rattle.graph.specs.Edge.{Edge}
 use Rattle.graph.specs.Leads.{visited}
 use Rattle.graph.proofs.Copies.{over-back-turn, over-set, over-back-start, over-back-done}
-use Rattle.routing.specs.Code.{Trace}
+use Rattle.search.specs.Code.{Trace}
 use Rattle.routing.proofs.Writing.{At, at-last, at-inside, at-back, at-weight, length-visited, length-weights}
 use Rattle.routing.proofs.write.write_back.Statement.{statement}
 use Rattle.routing.proofs.write.write_back.Tie as tie

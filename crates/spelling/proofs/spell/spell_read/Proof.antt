@@ -1,6 +1,6 @@
 -- `spelling::spell::spell_read` meets its contract. Assumes nothing.
 use Rattle.property.proofs.Basics.{[], _∷_, needs, arith}
-use Rattle.reader.specs.NetworkCode.{reading}
+use Rattle.reader.specs.Code.{reading}
 use Rattle.spelling.specs.Code.{sizeWords}
 use Rattle.spelling.proofs.Telling.{setAll-within, refused-tells, stored-tells}
 use Rattle.spelling.proofs.spell.spell_read.Statement.{statement}

@@ -1,6 +1,6 @@
 -- `spelling::spell::spell_sources` meets its contract. Assumes nothing.
 use Rattle.property.proofs.Basics.{needs, arith}
-use Rattle.reader.specs.SourcesCode.{reading}
+use Rattle.sources.specs.Code.{reading}
 use Rattle.spelling.specs.Code.{oneWord}
 use Rattle.spelling.proofs.Telling.{refused-tells, stored-tells}
 use Rattle.spelling.proofs.spell.spell_sources.Statement.{statement}

@@ -1,0 +1,83 @@
+-- What a search is told by: the entries of its queue, each with the route by which its vertex was found; and the order in which a vertex's edges
+-- come. Assumes nothing.
+--
+--   Entry           == a vertex of the queue with the route by which it was found
+--   entry gs j      == entry j of gs
+--   key g           == the number of g's route
+--   Before g h      == g's route comes before h's, and leads to another vertex
+--   Known gs v      == an entry of gs is of vertex v
+--   Reached gs k v  == an entry of gs is of vertex v, and its route's number is at most k
+--   Grows gs gs′    == gs′ is gs with entries put after it
+--   Rising c os     == the heads of the edges os ascend, from c on
+use Rattle.property.proofs.Basics.{_≡_, refl, ap, subst, _∙_, ⊎-elim, _≢_, List, [], _∷_, _++_, List·Memᴰ, List·Memᴰ·head, List·Memᴰ·tail, ℕ, zero, suc, _≤_, _<_, arith, length, getD, length-append, List·getD-append, eqb, eqb-true}
+use Rattle.property.proofs.Tests.{by-test}
+use Rattle.graph.specs.Edge.{Edge, keepIf, keep, leaving}
+use Rattle.graph.specs.Table.{isEdge}
+use Rattle.graph.proofs.Lists.{mem-index}
+use Rattle.graph.proofs.Sorted.{sorted-before}
+use Rattle.graph.proofs.Order.{Less, less-of, table-ordered, Sound}
+use Rattle.search.proofs.Routes.{rank}
+
+-- ---- entries
+
+pub record Entry : Type 0 where
+  pub vertex : ℕ
+  pub route : List Edge
+
+abbrev pub entry : List Entry → ℕ → Entry
+entry gs j = getD gs j (record { vertex = 0; route = [] })
+
+abbrev pub key : Entry → ℕ
+key g = rank 1 (g .route)
+
+abbrev pub Before : Entry → Entry → Type 0
+Before g h = (key g < key h) × (g .vertex ≢ h .vertex)
+
+abbrev pub Known : List Entry → ℕ → Type 0
+Known gs v = (j : ℕ) × (j < length gs) × ((entry gs j) .vertex ≡ v)
+
+abbrev pub Reached : List Entry → ℕ → ℕ → Type 0
+Reached gs k v = (j : ℕ) × (j < length gs) × ((entry gs j) .vertex ≡ v) × (key (entry gs j) ≤ k)
+
+-- what holds of each entry and of one more
+pub each-on : (P : ℕ → Entry → Type 0) (gs : List Entry) (g : Entry) → ((j : ℕ) → j < length gs → P j (entry gs j)) → P (length gs) g
+    → (j : ℕ) → j < length (gs ++ g ∷ []) → P j (entry (gs ++ g ∷ []) j)
+each-on P [] g a b zero h = b
+each-on P [] g a b (suc j) h = absurd (omega arith)
+each-on P (x ∷ gs) g a b zero h = a 0 (omega arith)
+each-on P (x ∷ gs) g a b (suc j) h = each-on (λ k. P (suc k)) gs g (λ k l. a (suc k) (omega arith)) b j (omega arith)
+
+pub record Grows (gs gs′ : List Entry) : Type 0 where
+  pub longer : length gs ≤ length gs′
+  pub same : (j : ℕ) → j < length gs → entry gs′ j ≡ entry gs j
+
+pub grows-none : (gs : List Entry) → Grows gs gs
+grows-none gs = record { longer = omega arith; same = λ j h. refl }
+
+pub grows-then : {gs gs′ gs″ : List Entry} → Grows gs gs′ → Grows gs′ gs″ → Grows gs gs″
+grows-then a b = let p = a .longer in let q = b .longer in record { longer = omega arith; same = λ j h. b .same j (omega arith) ∙ a .same j h }
+
+pub grows-one : (gs : List Entry) (g : Entry) → Grows gs (gs ++ g ∷ [])
+grows-one gs g = let p = length-append gs (g ∷ []) in record { longer = omega arith; same = λ j h. List·getD-append gs (g ∷ []) _ j h }
+
+pub reached-grows : {gs gs′ : List Entry} {k v : ℕ} → Grows gs gs′ → Reached gs k v → Reached gs′ k v
+reached-grows a (j, h, p, q) = let l = a .longer in (j, omega arith, ap (λ (g : Entry). g .vertex) (a .same j h) ∙ p, (rw (a .same j h) q))
+
+-- ---- the edges of one tail ascend by head
+
+abbrev pub Rising : ℕ → List Edge → Type 0
+Rising c [] = Unit {0}
+Rising c (e ∷ os) = (c ≤ e .head) × Rising (suc (e .head)) os
+
+pub leaving-rising : (n u : ℕ) (es : List Edge) → Sound n es → (c : ℕ) → ((e : Edge) → List·Memᴰ e es → e .tail ≡ u → c ≤ e .head) → Rising c (leaving u es)
+unfolding keep keepIf
+leaving-rising n u [] h c b = tt
+leaving-rising n u (x ∷ es) h c b = by-test (eqb (x .tail) u)
+    (λ q. rw q (b x (List·Memᴰ·head refl) (eqb-true _ _ q), leaving-rising n u es (h .2) (suc (x .head)) (after (eqb-true _ _ q))))
+    (λ q. rw q (leaving-rising n u es (h .2) c (λ e m p. b e (List·Memᴰ·tail m) p)))
+  where
+    after : x .tail ≡ u → (e : Edge) → List·Memᴰ e es → e .tail ≡ u → x .head < e .head
+    after q e m p =
+        let (k, l, r) = mem-index x m in
+        let z : Less x e = subst (λ (y : Edge). Less x y) r (less-of x (getD es k x) (sorted-before table-ordered (isEdge n) x (x ∷ es) h 0 (suc k) (omega arith) (omega arith))) in
+        ⊎-elim (λ a. absurd (omega arith)) (λ a. a .1) z

@@ -1,0 +1,48 @@
+-- `sources::take_line` meets its contract. Assumes nothing.
+use Rattle.property.proofs.Basics.{needs, true, false}
+use Rattle.dimacs.specs.Sources.{itemIn, complete}
+use Rattle.sources.specs.Code.{stepOf}
+use Rattle.scanner.proofs.Steps.{step-comment, step-item}
+use Rattle.sources.proofs.Items.{item-empty}
+use Rattle.sources.proofs.Steps.{said-capped}
+use Rattle.sources.proofs.take_line.Statement.{statement}
+use Rattle.sources.proofs.take_line.Tie as tie
+
+abbrev start : tie.After-holds → tie.Start
+start h = h .before .before .before
+
+returns : tie.Need-returns
+unfolding stepOf
+returns c =
+    let i = c .before in
+    let h = i .before .before in
+    (step-comment itemIn _ complete _ _ true (h .holds .ensures) (i .is-comment .ensures) (i .before .if1 .taken) (c .if2 .taken), start h .pre .1)
+
+returns-2 : tie.Need-returns-2
+unfolding stepOf
+returns-2 c =
+    let i = c .before in
+    let h = i .before .before in
+    (step-comment itemIn _ complete _ _ false (h .holds .ensures) (i .is-comment .ensures) (i .before .if1 .taken) (c .if2 .left), tt)
+
+returns-3 : tie.Need-returns-3
+returns-3 c =
+    let t = c .before .before in
+    let r = t .before .before in
+    let e = r .before in (
+      step-item itemIn _ complete _ _ item-empty (e .before .holds .ensures) (e .if1 .left) (t .take-item .ensures .0) (r .read-item .ensures) (said-capped _ _ _ (start (e .before) .pre .0)),
+      t .take-item .ensures .1,
+    )
+
+pub take-line-spec : {M : Type 1} → statement M
+take-line-spec =
+    tie.close
+    (tie.spec
+    (λ c κs. search needs)
+    (λ c κs. search needs)
+    returns
+    returns-2
+    (λ c κs. search needs)
+    (λ c κs. search needs)
+    (λ c. c .before .before .take-item .kept .1 .1 .1 .0)
+    returns-3)
