@@ -1,3 +1,2 @@
-pub mod Bits
-pub mod Spreading
+pub mod Marking
 pub mod Starts

@@ -22,8 +22,9 @@ use Rattle.affected.specs.Affected.{marked, affected}
 use Rattle.affected.specs.Prepared.{cleared, reopened, prepared}
 use Rattle.compare.specs.Code.{before, after, pairs, Lists}
 use Rattle.prepare.specs.Code.{Raised, Reached, Woken, Entering}
-use Rattle.prepare.proofs.Bits.{raise-keeps, raise-only, bits-all, bits-length}
-use Rattle.prepare.proofs.Spreading.{own-reads, own-whole, listed-lost, lost-listed}
+use Rattle.spread.proofs.Bits.{raise-keeps, raise-only, bits-all, bits-length}
+use Rattle.spread.proofs.Spreading.{own-reads, own-whole}
+use Rattle.prepare.proofs.Marking.{listed-lost, lost-listed}
 
 -- ---- words
 

@@ -4,7 +4,7 @@ use Rattle.property.specs.Property.{property}
 use Rattle.frontier.specs.Waiting.{waitingOf}
 use Rattle.compare.specs.Code.{before, after}
 use Rattle.prepare.specs.Code.{edgeLost}
-use Rattle.prepare.proofs.Spreading.{marked-as}
+use Rattle.spread.proofs.Spreading.{marked-as}
 use Rattle.prepare.proofs.mark_change.Statement.{statement}
 use Rattle.prepare.proofs.mark_change.Tie as tie
 

@@ -6,8 +6,9 @@ use Rattle.frontier.specs.Waiting.{countOf}
 use Rattle.frontier.proofs.Counts.{count-le}
 use Rattle.run.specs.Code.{bits}
 use Rattle.run.proofs.States.{marks-clear, marks-within}
-use Rattle.prepare.proofs.Bits.{bits-count, bits-length}
-use Rattle.prepare.proofs.Spreading.{going-clear, marks-found}
+use Rattle.spread.proofs.Bits.{bits-count, bits-length}
+use Rattle.spread.proofs.Spreading.{going-clear}
+use Rattle.prepare.proofs.Marking.{marks-found}
 use Rattle.prepare.proofs.Starts.{reopen-done, prepared-made}
 use Rattle.prepare.proofs.prepare.Statement.{statement}
 use Rattle.prepare.proofs.prepare.Tie as tie

@@ -6,7 +6,7 @@ use Rattle.frontier.specs.Waiting.{waitingOf}
 use Rattle.frontier.proofs.Laws.{First, next-none}
 use Rattle.run.specs.Code.{Marks}
 use Rattle.prepare.specs.Code.{Raised}
-use Rattle.prepare.proofs.Bits.{marks-next}
+use Rattle.spread.proofs.Bits.{marks-next}
 use Rattle.prepare.proofs.Starts.{Given, give-start, give-turn, give-done, Behind, raised-none, raised-behind, raised-over}
 use Rattle.prepare.proofs.reopen_marked.Statement.{statement}
 use Rattle.prepare.proofs.reopen_marked.Tie as tie

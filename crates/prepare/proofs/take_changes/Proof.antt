@@ -6,8 +6,8 @@ use Rattle.frontier.specs.Waiting.{waitingOf}
 use Rattle.run.specs.Code.{Marks}
 use Rattle.compare.specs.Code.{before, after, pairs}
 use Rattle.prepare.specs.Code.{edgeLost, HeadsMarked, Raised, Woken}
-use Rattle.prepare.proofs.Bits.{marks-if}
-use Rattle.prepare.proofs.Spreading.{gone-start, gone-turn, gone-as}
+use Rattle.spread.proofs.Bits.{marks-if}
+use Rattle.spread.proofs.Spreading.{gone-start, gone-turn, gone-as}
 use Rattle.prepare.proofs.Starts.{raised-none, raised-turn}
 use Rattle.prepare.proofs.take_changes.Statement.{statement}
 use Rattle.prepare.proofs.take_changes.Tie as tie

@@ -5,7 +5,7 @@ use Rattle.graph.specs.Arc.{arcHead}
 use Rattle.run.specs.Code.{Marks}
 use Rattle.run.proofs.States.{marks-set}
 use Rattle.prepare.specs.Code.{Raised, Entering}
-use Rattle.prepare.proofs.Spreading.{fit-arc}
+use Rattle.spread.proofs.Spreading.{fit-arc}
 use Rattle.prepare.proofs.Starts.{raised-none, raised-turn}
 use Rattle.prepare.proofs.wake_into.Statement.{statement}
 use Rattle.prepare.proofs.wake_into.Tie as tie

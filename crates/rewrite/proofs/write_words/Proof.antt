@@ -1,8 +1,8 @@
--- `apply::write_words` meets its contract. Assumes nothing.
+-- `rewrite::write_words` meets its contract. Assumes nothing.
 use Rattle.property.proofs.Basics.{needs}
-use Rattle.apply.proofs.Writing.{words-written}
-use Rattle.apply.proofs.write_words.Statement.{statement}
-use Rattle.apply.proofs.write_words.Tie as tie
+use Rattle.rewrite.proofs.Writing.{words-written}
+use Rattle.rewrite.proofs.write_words.Statement.{statement}
+use Rattle.rewrite.proofs.write_words.Tie as tie
 
 returns : tie.Need-returns
 returns c =

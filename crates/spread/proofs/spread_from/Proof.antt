@@ -1,11 +1,11 @@
--- `prepare::spread_from` meets its contract. The loop's invariant is `Along`. Assumes nothing.
+-- `spread::spread_from` meets its contract. The loop's invariant is `Along`. Assumes nothing.
 use Rattle.property.proofs.Basics.{_+_, _-_, _≤_, _<_, arith, length, getD, needs}
 use Rattle.property.specs.Property.{property}
 use Rattle.graph.specs.Arc.{arcHead}
-use Rattle.prepare.specs.Code.{Along}
-use Rattle.prepare.proofs.Spreading.{gone-start, gone-turn, gone-as, fit-arc}
-use Rattle.prepare.proofs.spread_from.Statement.{statement}
-use Rattle.prepare.proofs.spread_from.Tie as tie
+use Rattle.spread.specs.Code.{Along}
+use Rattle.spread.proofs.Spreading.{gone-start, gone-turn, gone-as, fit-arc}
+use Rattle.spread.proofs.spread_from.Statement.{statement}
+use Rattle.spread.proofs.spread_from.Tie as tie
 
 abbrev Inv-loop : tie.InvT-loop
 Inv-loop p n s u old words marks₀ todo₀ hi j₀ marks todo j =

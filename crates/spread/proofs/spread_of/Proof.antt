@@ -1,4 +1,4 @@
--- `prepare::spread_of` meets its contract. The loop's invariant is `Spreads`; what falls is twice the vertices without a mark and once
+-- `spread::spread_of` meets its contract. The loop's invariant is `Spreads`; what falls is twice the vertices without a mark and once
 -- those to do. Assumes nothing.
 use Rattle.property.proofs.Basics.{sym, _∙_, List, _+_, _-_, _*_, _<_, arith, needs}
 use Rattle.property.specs.Property.{property}
@@ -6,11 +6,11 @@ use Rattle.frontier.specs.Waiting.{waitingOf, capacity, countOf}
 use Rattle.frontier.proofs.Laws.{First, next-none}
 use Rattle.graph.specs.Edge.{Edge}
 use Rattle.graph.specs.Index.{Own}
-use Rattle.prepare.specs.Code.{Going, Spreads}
-use Rattle.prepare.proofs.Bits.{marks-next}
-use Rattle.prepare.proofs.Spreading.{spreads-none, spreads-turn, spreads-then, spread-falls, taken-going}
-use Rattle.prepare.proofs.spread_of.Statement.{statement}
-use Rattle.prepare.proofs.spread_of.Tie as tie
+use Rattle.spread.specs.Code.{Going, Spreads}
+use Rattle.spread.proofs.Bits.{marks-next}
+use Rattle.spread.proofs.Spreading.{spreads-none, spreads-turn, spreads-then, spread-falls, taken-going}
+use Rattle.spread.proofs.spread_of.Statement.{statement}
+use Rattle.spread.proofs.spread_of.Tie as tie
 
 abbrev Inv-loop : tie.InvT-loop
 Inv-loop p n s old words marks₀ todo₀ marks todo = ((es : List Edge) → Own n old es → Spreads (property p) n s es words marks₀ todo₀ marks todo) × Going n marks todo

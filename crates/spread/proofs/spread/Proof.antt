@@ -1,9 +1,9 @@
--- `prepare::spread` meets its contract. Assumes nothing.
+-- `spread::spread` meets its contract. Assumes nothing.
 use Rattle.property.specs.Property.{property}
 use Rattle.property.proofs.Instances.{property-rest}
 use Rattle.property.proofs.Basics.{needs}
-use Rattle.prepare.proofs.spread.Statement.{statement}
-use Rattle.prepare.proofs.spread.Tie as tie
+use Rattle.spread.proofs.spread.Statement.{statement}
+use Rattle.spread.proofs.spread.Tie as tie
 
 returns-5 : tie.Need-returns-5
 unfolding property

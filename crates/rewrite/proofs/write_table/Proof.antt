@@ -1,8 +1,8 @@
--- `apply::write_table` meets its contract. Assumes nothing.
+-- `rewrite::write_table` meets its contract. Assumes nothing.
 use Rattle.property.proofs.Basics.{needs}
-use Rattle.apply.proofs.Writing.{table-written}
-use Rattle.apply.proofs.write_table.Statement.{statement}
-use Rattle.apply.proofs.write_table.Tie as tie
+use Rattle.rewrite.proofs.Writing.{table-written}
+use Rattle.rewrite.proofs.write_table.Statement.{statement}
+use Rattle.rewrite.proofs.write_table.Tie as tie
 
 returns : tie.Need-returns
 returns c =

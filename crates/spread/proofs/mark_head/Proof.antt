@@ -1,13 +1,13 @@
--- `prepare::mark_head` meets its contract. Assumes nothing.
+-- `spread::mark_head` meets its contract. Assumes nothing.
 use Rattle.property.proofs.Basics.{_≡_, sym, ap, _∙_, false, not, _&&_, needs}
 use Rattle.property.specs.Property.{property}
 use Rattle.frontier.specs.Waiting.{waitingOf}
 use Rattle.graph.specs.Edge.{edge}
 use Rattle.affected.specs.Affected.{held}
-use Rattle.prepare.specs.Code.{marksHead}
-use Rattle.prepare.proofs.Spreading.{same-held}
-use Rattle.prepare.proofs.mark_head.Statement.{statement}
-use Rattle.prepare.proofs.mark_head.Tie as tie
+use Rattle.spread.specs.Code.{marksHead}
+use Rattle.spread.proofs.Spreading.{same-held}
+use Rattle.spread.proofs.mark_head.Statement.{statement}
+use Rattle.spread.proofs.mark_head.Tie as tie
 
 -- the head is marked already
 off : (c : tie.Then1) → let a = c .before .before .before .before .args in
