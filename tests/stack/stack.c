@@ -99,11 +99,13 @@ static size_t measure(void (*call)(void))
 
 int main(void)
 {
-    struct { const char *name; void (*call)(void); size_t most; } calls[] = {
-        {"open", open_, PLATE_TRACK_STACK_OPEN}, {"query", query, PLATE_TRACK_STACK_QUERY}, {"batch", batch, PLATE_TRACK_STACK_BATCH},
-        {"settled", check, PLATE_TRACK_STACK_SETTLED}, {"choose", choose, PLATE_TRACK_STACK_CHOOSE}, {"row", row, PLATE_TRACK_STACK_ROW},
-        {"write", write_, PLATE_TRACK_STACK_WRITE}, {"read", read_, PLATE_TRACK_STACK_READ},
-        {"read_sources", read_sources, PLATE_TRACK_STACK_READ_SOURCES}, {"route", route, PLATE_TRACK_STACK_ROUTE}};
+    /* what the header promises, and what the call took before the room for document 02's requests was made (0: there was none) */
+    struct { const char *name; void (*call)(void); size_t most, before; } calls[] = {
+        {"open", open_, PLATE_TRACK_STACK_OPEN, 62856}, {"query", query, PLATE_TRACK_STACK_QUERY, 3560},
+        {"batch", batch, PLATE_TRACK_STACK_BATCH, 138504}, {"settled", check, PLATE_TRACK_STACK_SETTLED, 328},
+        {"choose", choose, PLATE_TRACK_STACK_CHOOSE, 1160}, {"row", row, PLATE_TRACK_STACK_ROW, 64},
+        {"write", write_, PLATE_TRACK_STACK_WRITE, 128}, {"read", read_, PLATE_TRACK_STACK_READ, 24776},
+        {"read_sources", read_sources, PLATE_TRACK_STACK_READ_SOURCES, 1160}, {"route", route, PLATE_TRACK_STACK_ROUTE, 0}};
     int bad = 0;
     fill();
     fill_chain();
@@ -112,7 +114,7 @@ int main(void)
         size_t used = measure(calls[i].call) - base;
         printf("stack: plate_track_%s takes %zu bytes of %zu, number %u\n", calls[i].name, used, calls[i].most, number);
         if (calls[i].call == write_) text_len = (size_t)reply[0];
-        bad |= number != 0 || used > calls[i].most;
+        bad |= number != 0 || used > calls[i].most || (calls[i].before && used > calls[i].before);
     }
     return bad;
 }

@@ -1,8 +1,8 @@
 -- The head and the weight of an arc, and the parts of an index. Assumes nothing.
-use Rattle.property.proofs.Basics.{_≡_, refl, ap, _∙_, Bool, true, List, [], _∷_, _++_, ℕ, zero, suc, _+_, _≤_, _<_, add-zero, arith, getD}
-use Rattle.graph.specs.Arc.{arcWeights, arc, arcHead, arcWeight, headIn, weightIn}
-use Rattle.graph.specs.Edge.{Edge, edge}
-use Rattle.graph.specs.Index.{partIn, part}
+use Rattle.property.proofs.Basics.{_≡_, refl, ap, _∙_, List, [], _∷_, _++_, ℕ, zero, suc, _+_, _≤_, _<_, add-zero, arith, getD}
+use Rattle.graph.specs.Arc.{arcWeights, arc, arcHead, arcWeight}
+use Rattle.graph.specs.Edge.{edge}
+use Rattle.graph.specs.Index.{partIn, edgeOf, part}
 
 pub head-arc : (h w : ℕ) → w < arcWeights → arcHead (arc h w) ≡ h
 head-arc h w l = omega arith
@@ -11,14 +11,6 @@ pub weight-arc : (h w : ℕ) → w < arcWeights → arcWeight (arc h w) ≡ w
 weight-arc h w l = omega arith
 
 -- ---- parts
-
--- the edge of tail u whose words stand at a place
-abbrev pub edgeIn : Bool → List ℕ → List ℕ → ℕ → ℕ → Edge
-edgeIn b hs ws u i = edge u (headIn b (getD hs i 0)) (weightIn b (getD ws i 0))
-
--- and in an index
-abbrev pub edgeOf : List ℕ → ℕ → ℕ → Edge
-edgeOf is u i = edgeIn true is is u i
 
 pub part-same : (is js : List ℕ) (u j k : ℕ) → ((i : ℕ) → j ≤ i → i < j + k → getD is i 0 ≡ getD js i 0) → part is u j k ≡ part js u j k
 unfolding partIn

@@ -1,8 +1,8 @@
--- A vertex's own edges, read from a table by its index, are the edges that leave it; so also in the reversed table. And the bounds
--- that a run needs of both. Assumes nothing.
+-- A vertex's own edges, read from a table by the places of its vertices' edges or by its index, are the edges that leave it; so also in the index of
+-- the reversed table. And the bounds that a run needs of each. Assumes nothing.
 --
 -- In a table that keeps the rules tails never fall. So the edges of tail u stand together: after as many as have a tail below u,
--- and as many as have the tail u. An index says just these two numbers. The reversed table is made of the edges into 0, into 1, ..,
+-- and as many as have the tail u. Places say just these two numbers. The reversed table is made of the edges into 0, into 1, ..,
 -- so there the same numbers are those of the heads.
 use Rattle.property.proofs.Basics.{_≡_, refl, sym, ap, _∙_, Bool, true, false, List, [], _∷_, map, List·Memᴰ, ℕ, zero, suc, _+_, _-_, _<_, _≤_, add-zero, add-one, arith, length, getD, take, drop, length-drop, eqb, ltb, length-take-le, getD-take, getD-drop, ltb-true, ltb-false, eqb-true, eqb-false, le-ltb, ne-eqb}
 use Rattle.property.proofs.Tests.{by-test}

@@ -3,15 +3,15 @@
 -- of all edges; word u is the place of vertex u's first arc in this same list, so that it stands for all three. What stands after the last edge is
 -- never read. Assumes nothing.
 --
---   partIn b hs ws u j k       == the k edges of tail u whose words stand from place j on: arcs where b holds, else heads and weights
---   FitIn b n fs hs ws         == places fs of n vertices in hs and ws: nothing that a run reads is out of range
+--   edgeIn b hs ws u j         == the edge of tail u whose words stand at place j of hs and ws: an arc in both where b holds, else head and weight
+--   partIn b hs ws u j k       == the k edges of tail u whose words stand from place j on
+--   ownIn b fs hs ws u         == the edges of vertex u, by the places fs
+--   FitIn b n fs hs ws         == nothing that a run of n vertices reads by these lists is out of range
 --   OwnIn b n fs hs ws es      == they give each vertex its edges of es, in table order
---   part is u j k, own is u    == the k edges of tail u whose arcs stand from place j on in an index; the edges of vertex u
---   Fit n is, Own n is es      == an index of n vertices; it gives each vertex its edges of es
+--   IndexesIn b n fs hs ws es  == both
+--   edgeOf, part, own, Fit, Own, Indexes == the same of an index, which is one list for all three
 --   Indexable n m ts hs ws fs is == m edges that keep the rules of n vertices, and lists with room for their index: fs for its making, is for it
 --   ReversedArcs n m ts hs ws is == from place n + 1 on stand the arcs of the edges into 0, into 1, .., reversed
---   IndexesIn b n fs hs ws es  == the places fs in hs and ws are those of the edges es between n vertices
---   Indexes n is es            == is is an index of the edges es between n vertices
 use mathlib.Core.Path.{_≡_}
 use mathlib.Core.Bool.{Bool, true}
 use mathlib.Core.List.{List, [], _∷_}
@@ -26,9 +26,15 @@ use Rattle.graph.specs.Arc.{headIn, weightIn}
 
 -- ---- either form
 
+abbrev pub edgeIn : Bool → List ℕ → List ℕ → ℕ → ℕ → Edge
+edgeIn b hs ws u j = edge u (headIn b (getD hs j 0)) (weightIn b (getD ws j 0))
+
 unfoldable pub partIn : Bool → List ℕ → List ℕ → ℕ → ℕ → ℕ → List Edge
 partIn b hs ws u j zero = []
-partIn b hs ws u j (suc k) = edge u (headIn b (getD hs j 0)) (weightIn b (getD ws j 0)) ∷ partIn b hs ws u (suc j) k
+partIn b hs ws u j (suc k) = edgeIn b hs ws u j ∷ partIn b hs ws u (suc j) k
+
+abbrev pub ownIn : Bool → List ℕ → List ℕ → List ℕ → ℕ → List Edge
+ownIn b fs hs ws u = partIn b hs ws u (getD fs u 0) (getD fs (u + 1) 0 - getD fs u 0)
 
 pub record FitIn (b : Bool) (n : ℕ) (fs hs ws : List ℕ) : Type 0 where
   pub few : n ≤ maxVertices
@@ -42,7 +48,7 @@ pub record FitIn (b : Bool) (n : ℕ) (fs hs ws : List ℕ) : Type 0 where
   pub inside : (k : ℕ) → getD fs 0 0 ≤ k → k < getD fs n 0 → headIn b (getD hs k 0) < n
 
 abbrev pub OwnIn : Bool → ℕ → List ℕ → List ℕ → List ℕ → List Edge → Type 0
-OwnIn b n fs hs ws es = (u : ℕ) → u < n → partIn b hs ws u (getD fs u 0) (getD fs (u + 1) 0 - getD fs u 0) ≡ leaving u es
+OwnIn b n fs hs ws es = (u : ℕ) → u < n → ownIn b fs hs ws u ≡ leaving u es
 
 pub record IndexesIn (b : Bool) (n : ℕ) (fs hs ws : List ℕ) (es : List Edge) : Type 0 where
   pub fit : FitIn b n fs hs ws
@@ -50,11 +56,14 @@ pub record IndexesIn (b : Bool) (n : ℕ) (fs hs ws : List ℕ) (es : List Edge)
 
 -- ---- an index
 
+abbrev pub edgeOf : List ℕ → ℕ → ℕ → Edge
+edgeOf is u j = edgeIn true is is u j
+
 abbrev pub part : List ℕ → ℕ → ℕ → ℕ → List Edge
 part is u j k = partIn true is is u j k
 
 abbrev pub own : List ℕ → ℕ → List Edge
-own is u = part is u (getD is u 0) (getD is (u + 1) 0 - getD is u 0)
+own is u = ownIn true is is is u
 
 abbrev pub Fit : ℕ → List ℕ → Type 0
 Fit n is = FitIn true n is is is

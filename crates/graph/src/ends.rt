@@ -44,7 +44,7 @@ fn carry_ends(n: usize, ends: &mut [u32])
 }
 
 // Where the edges of each vertex start, by tails that never fall.
-pub fn index(n: usize, count: usize, keys: &[u32], firsts: &mut [u32])
+pub fn firsts(n: usize, count: usize, keys: &[u32], firsts: &mut [u32])
     requires { ⌜ Keyed n count (now keys) (now firsts) × Ascending count (now keys) ⌝ }
     ensures { λ _. ⌜ Firsts n (take count (now (keys .entry))) (now (firsts .exit)) ⌝ }
 {

@@ -2,7 +2,7 @@
 pub mod arc;
 pub mod edit;
 pub mod ends;
-pub mod index;
+pub mod keys;
 pub mod pack;
 pub mod rules;
 pub mod words;
@@ -23,8 +23,8 @@ pub const MAX_BATCH: usize = 1024;
 
 pub const MAX_SCHEDULE: usize = 4096;
 
-// Words of lists: a word for each vertex, and one more for the places of an index; an index, with a word for each edge; a row for each
-// landmark and property.
+// Words of lists: a word for each vertex, and one more for their places; an index, with a word for each edge; a row for each landmark and
+// property.
 pub const VERTEX_WORDS: usize = MAX_VERTICES as usize;
 
 pub const PLACE_WORDS: usize = VERTEX_WORDS + 1;

@@ -10,7 +10,7 @@ ghost use Prim.Native.Nat.{ℕ, _+_, _<_, _≤_};
 ghost use lib.ListN.{length, getD};
 ghost use Rattle.property.specs.Property.{property};
 ghost use Rattle.graph.specs.Limits.{maxVertices};
-ghost use Rattle.graph.specs.Refusal.{_▷_, over};
+ghost use Rattle.graph.specs.Refusal.{_▷_};
 ghost use Rattle.graph.specs.Edge.{Edge};
 ghost use Rattle.graph.specs.Table.{size};
 ghost use Rattle.graph.specs.Code.{told};
@@ -240,7 +240,7 @@ pub fn query(
     );
     graph::words::copy(size, &start, starts, 0);
     let mut firsts = [0u32; graph::PLACE_WORDS];
-    ends::index(size, count as usize, tails, &mut firsts);
+    ends::firsts(size, count as usize, tails, &mut firsts);
     let tally = run_query(
         property,
         size,

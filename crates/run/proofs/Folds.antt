@@ -1,8 +1,7 @@
 -- Lists as loops go through them: what is left at a turn, and at the end. Assumes nothing.
 use Rattle.property.proofs.Basics.{_≡_, Bool, List, [], _∷_, ℕ, suc, _+_, _-_, _<_, _≤_, add-one, arith, length, getD, drop, drop-cons}
 use Rattle.graph.specs.Edge.{range}
-use Rattle.graph.specs.Index.{partIn}
-use Rattle.graph.proofs.Arcs.{edgeIn}
+use Rattle.graph.specs.Index.{edgeIn, partIn}
 
 pub part-more : (b : Bool) (hs ws : List ℕ) (u j hi : ℕ) → j < hi → partIn b hs ws u j (hi - j) ≡ edgeIn b hs ws u j ∷ partIn b hs ws u (j + 1) (hi - (j + 1))
 unfolding partIn

@@ -8,7 +8,7 @@
 --   Marks n bs                      == bs has a bit for each of n vertices, and none past them is set
 --   Sized n ws bs                  == there are n words, and bits for n vertices
 --   Low k t                        == each count of t is below 2 ^ k
---   Ready k b n fs hs us ws bs t   == a run may go on: the places fs of n vertices fit hs and us, the state is sized, the counts are low
+--   Ready k b n fs hs xs ws bs t   == a run may go on: the places fs of n vertices in the heads hs and weights xs fit, the state is sized, the counts are low
 --   Ran n ws bs t r a b c          == what a run from t left: a sized state, and r, in which a more were taken, b rounds and c stores, at most
 --   Scheduled n vs                 == a schedule for n vertices: not too long, and of those alone
 use mathlib.Core.Path.{_≡_}
@@ -55,8 +55,8 @@ pub record Low (k : ℕ) (t : Tally) : Type 0 where
   pub rounds : t .rounds < 2 ^ k
   pub stores : t .stores < 2 ^ k
 
-pub record Ready (k : ℕ) (b : Bool) (n : ℕ) (fs hs us ws bs : List ℕ) (t : Tally) : Type 0 where
-  pub index : FitIn b n fs hs us
+pub record Ready (k : ℕ) (b : Bool) (n : ℕ) (fs hs xs ws bs : List ℕ) (t : Tally) : Type 0 where
+  pub fit : FitIn b n fs hs xs
   pub sized : Sized n ws bs
   pub low : Low k t
 

@@ -1,4 +1,6 @@
 // Runs: handling a vertex, the schedule, rounds, and where a run starts. Each step takes the tally by value and returns it; `run` alone is lent it.
+// The edges of vertex `u` stand from place `firsts[u]` up to `firsts[u + 1]` in `heads` and `weights`: by themselves, as a table has them, or as
+// arcs where `packed`. An index has places and arcs in one list, and is lent for all three.
 use frontier::Next;
 use frontier::Words;
 use graph::arc;
@@ -52,7 +54,7 @@ fn relax(
 }
 
 // Vertex `u` is handled: its bit is cleared, then its edges are gone along in table order. There are as many vertices as words.
-pub fn handle(
+fn handle(
     p: u32,
     packed: bool,
     u: usize,

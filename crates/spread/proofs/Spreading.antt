@@ -1,5 +1,5 @@
--- Marks that go on from vertex to vertex: what one edge does, what the listed edges and the edges of one vertex do, and that the marks
--- are those of the affected vertices once nothing is to do. Assumes nothing.
+-- Marks that go on from vertex to vertex: what one edge does, what the edges of one vertex do, and what is so of all that is to do.
+-- Assumes nothing.
 use Rattle.property.proofs.Basics.{_≡_, refl, sym, ap, _∙_, inl, inr, ⊎-elim, Bool, true, false, not, _&&_, cond, true≢false, false≢true, List, List·Memᴰ, List·Memᴰ·head, List·Memᴰ·tail, List·Memᴰ·cases-cons, List·Memᴰ·not-nil, ℕ, zero, suc, _+_, _-_, _*_, _≤_, _<_, ℕ-discrete, arith, length, getD, set, replicate, getD-set-same, getD-set-other, not-true}
 use Rattle.property.specs.Property.{Property}
 use Rattle.property.proofs.Tests.{is-false, by-test}
@@ -9,16 +9,16 @@ use Rattle.frontier.proofs.Laws.{count-remove}
 use Rattle.graph.specs.Limits.{maxVertices}
 use Rattle.graph.specs.Arc.{arcHead}
 use Rattle.graph.specs.Edge.{Edge, edge}
-use Rattle.graph.specs.Index.{Fit, partIn, part, own, Own}
+use Rattle.graph.specs.Index.{edgeOf, Fit, partIn, part, own, Own}
 use Rattle.graph.proofs.Tests.{both, and-true, or-right}
 use Rattle.graph.proofs.Lists.{replicate-at, getD-within, at-set}
 use Rattle.graph.proofs.Edges.{leaving-in, in-leaving}
 use Rattle.run.specs.Run.{word}
-use Rattle.run.specs.Code.{bits, Marks}
+use Rattle.run.specs.Code.{Marks}
 use Rattle.run.proofs.States.{marks-set, marks-clear}
 use Rattle.affected.specs.Net.{removed}
 use Rattle.affected.specs.Affected.{held, marked}
-use Rattle.spread.specs.Code.{arcEdge, holds, Going, Grown, marksHead, Gone, Along, Spreads}
+use Rattle.spread.specs.Code.{holds, Going, Grown, marksHead, Gone, Along, Spreads}
 use Rattle.spread.proofs.Bits.{raise-keeps, raise-only, raise-count, marks-if}
 use Rattle.affected.proofs.Closure.{touches-named}
 
@@ -130,16 +130,16 @@ fit-arc f u k h a b =
     let x = f .after u (omega arith) in
     (omega (arith, f .heads), f .inside k (omega arith) (omega arith))
 
-part-mem : (is : List ℕ) (u j c k : ℕ) → j ≤ k → k < j + c → List·Memᴰ (arcEdge is u k) (part is u j c)
+part-mem : (is : List ℕ) (u j c k : ℕ) → j ≤ k → k < j + c → List·Memᴰ (edgeOf is u k) (part is u j c)
 unfolding partIn
 part-mem is u j zero k a b = absurd (omega arith)
 part-mem is u j (suc c) k a b = elim (ℕ-discrete k j) [
-  | yes e ↦ List·Memᴰ·head (ap (λ (i : ℕ). arcEdge is u i) e)
+  | yes e ↦ List·Memᴰ·head (ap (λ (i : ℕ). edgeOf is u i) e)
   | no d ↦ List·Memᴰ·tail (part-mem is u (suc j) c k (omega arith) (omega arith))
 ]
 
 mem-part : (is : List ℕ) (u j c : ℕ) (e : Edge) → List·Memᴰ e (part is u j c)
-    → (k : ℕ) × (j ≤ k) × (k < j + c) × (arcEdge is u k ≡ e)
+    → (k : ℕ) × (j ≤ k) × (k < j + c) × (edgeOf is u k ≡ e)
 unfolding partIn
 mem-part is u j zero e m = absurd (List·Memᴰ·not-nil m)
 mem-part is u j (suc c) e m =
@@ -147,13 +147,13 @@ mem-part is u j (suc c) e m =
     (λ i. let z = mem-part is u (suc j) c e i in let a = z .1 in let b = z .2 in (z .0, omega arith, omega arith, z .3)) (List·Memᴰ·cases-cons m)
 
 module _ (n : ℕ) (is : List ℕ) (es : List Edge) (o : Own n is es) where
-  pub own-reads : (u k : ℕ) → u < n → getD is u 0 ≤ k → k < getD is (u + 1) 0 → List·Memᴰ (arcEdge is u k) es
+  pub own-reads : (u k : ℕ) → u < n → getD is u 0 ≤ k → k < getD is (u + 1) 0 → List·Memᴰ (edgeOf is u k) es
   own-reads u k h a b =
-      let z : List·Memᴰ (arcEdge is u k) (own is u) = part-mem is u (getD is u 0) (getD is (u + 1) 0 - getD is u 0) k a (omega arith) in
+      let z : List·Memᴰ (edgeOf is u k) (own is u) = part-mem is u (getD is u 0) (getD is (u + 1) 0 - getD is u 0) k a (omega arith) in
       leaving-in u es _ (rw (o u h) at z) .0
 
   pub own-whole : (u : ℕ) (e : Edge) → u < n → e .tail ≡ u → List·Memᴰ e es
-      → (k : ℕ) × (getD is u 0 ≤ k) × (k < getD is (u + 1) 0) × (arcEdge is u k ≡ e)
+      → (k : ℕ) × (getD is u 0 ≤ k) × (k < getD is (u + 1) 0) × (edgeOf is u k ≡ e)
   own-whole u e h q m =
       let i : List·Memᴰ e (own is u) = rw (o u h) (in-leaving u m q) in
       let z = mem-part is u (getD is u 0) (getD is (u + 1) 0 - getD is u 0) e i in

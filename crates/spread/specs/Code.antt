@@ -1,6 +1,5 @@
 -- What the functions on the marks of a row are told and answer. Assumes nothing.
 --
---   arcEdge is u k               == the edge from u whose arc stands at place k of an index
 --   Going n bs ds                == marks bs, and ds, the marked vertices from which marks are still to go on
 --   Grown ms ds ms′ ds′          == marks ms with the vertices ds to do became ms′ and ds′: none was taken away, and each new mark is to do
 --   holds P s v w h x            == an edge's words as a test, as `held`: v at its tail, weight w, head h with x
@@ -14,18 +13,14 @@ use mathlib.Core.Logic.{_⊎_}
 use mathlib.Core.Bool.{Bool, true, not, _&&_}
 use mathlib.Core.List.{List, List·Memᴰ}
 use Prim.Native.Nat.{ℕ, _+_, _≤_, _<_}
-use lib.ListN.{getD}
 use lib.Dec.{eqb}
 use Rattle.property.specs.Property.{Property}
 use Rattle.frontier.specs.Waiting.{waitingOf, countOf}
-use Rattle.graph.specs.Arc.{arcHead, arcWeight}
-use Rattle.graph.specs.Edge.{Edge, edge}
+use Rattle.graph.specs.Edge.{Edge}
+use Rattle.graph.specs.Index.{edgeOf}
 use Rattle.run.specs.Code.{Marks}
 use Rattle.affected.specs.Net.{removed}
 use Rattle.affected.specs.Affected.{Named, held, marked}
-
-abbrev pub arcEdge : List ℕ → ℕ → ℕ → Edge
-arcEdge is u k = edge u (arcHead (getD is k 0)) (arcWeight (getD is k 0))
 
 abbrev pub holds : Property → ℕ → ℕ → ℕ → ℕ → ℕ → Bool
 holds P s v w h x = eqb (P .along v w) x && (not (eqb h s) && not (eqb x (P .none)))
@@ -53,7 +48,7 @@ pub record Gone (P : Property) (n s : ℕ) (f : ℕ → Edge) (on : ℕ → Bool
   pub heads : (i : ℕ) → j ≤ i → i < k → on i ≡ true → held P s vs (f i) ≡ true → marked (waitingOf bs′) (f i .head) ≡ true
 
 abbrev pub Along : Property → ℕ → ℕ → List ℕ → ℕ → ℕ → ℕ → List ℕ → List ℕ → List ℕ → List ℕ → List ℕ → Type 0
-Along P n s is u = Gone P n s (arcEdge is u) (λ i. true)
+Along P n s is u = Gone P n s (edgeOf is u) (λ i. true)
 
 abbrev pub Covered : Property → List Edge → ℕ → List ℕ → List Bool → List Bool → Type 0
 Covered P es s ws ms ds = (e : Edge) → List·Memᴰ e es → held P s ws e ≡ true → marked ms (e .tail) ≡ true

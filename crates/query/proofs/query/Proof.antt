@@ -66,8 +66,8 @@ listed w =
 abbrev copied : tie.After-firsts → tie.After-start-words
 copied c = c .before .before .before .before .before .before .before
 
-index-requires : tie.Need-index-requires
-index-requires c κs =
+firsts-requires : tie.Need-firsts-requires
+firsts-requires c κs =
     let d = copied c .before .before in
     let s = begin (d .before .before) in
     let a = s .args in
@@ -78,13 +78,13 @@ index-requires c κs =
     )
 
 -- the table's places
-placed : (i : tie.After-index) → let s = begin (copied (i .before) .before .before .before .before) in let a = s .args in
-    IndexesIn false (a .n) (i .index .last .1 .1 .1 .0) (a .heads .now) (a .weights .now) (edges (a .tails .now) (a .heads .now) (a .weights .now) (a .count))
+placed : (i : tie.After-firsts2) → let s = begin (copied (i .before) .before .before .before .before) in let a = s .args in
+    IndexesIn false (a .n) (i .firsts2 .last .1 .1 .1 .0) (a .heads .now) (a .weights .now) (edges (a .tails .now) (a .heads .now) (a .weights .now) (a .count))
 placed i =
     let d = copied (i .before) .before .before in
     let a = begin (d .before .before) .args in
     let g = sound d in
-    table-placed (a .n) (a .count) (a .tails .now) (a .heads .now) (a .weights .now) (room-less (g .records) (g .room)) (g .rules) _ (g .rows .few) (g .records) (omega (arith, g .rows .few, i .index .kept .1 .1 .1 .0)) (i .index .ensures)
+    table-placed (a .n) (a .count) (a .tails .now) (a .heads .now) (a .weights .now) (room-less (g .records) (g .room)) (g .rules) _ (g .rows .few) (g .records) (omega (arith, g .rows .few, i .firsts2 .kept .1 .1 .1 .0)) (i .firsts2 .ensures)
 
 run-query-requires : tie.Need-run-query-requires
 run-query-requires c κs =
@@ -121,7 +121,7 @@ query-spec =
     (λ c. sym (listed (c .before .before)))
     (λ c κs. let w = c .before .before .before in let g = sound (w .before .before) in (omega (arith, listed w, g .rows .few), omega (arith, g .starts)))
     (λ c. search needs)
-    index-requires
+    firsts-requires
     (λ c. search needs)
     (λ c. let w = copied (c .before .before .before) in omega (arith, listed w, sound (w .before .before) .rows .few))
     (λ c. let w = copied (c .before .before .before .before) in sym (ap length (front w) ∙ filled w))

@@ -5,8 +5,7 @@ use Rattle.property.specs.Property.{property, M}
 use Rattle.property.proofs.Instances.{property-laws}
 use Rattle.graph.specs.Limits.{maxVertices, maxEdges}
 use Rattle.graph.specs.Edge.{Edge}
-use Rattle.graph.specs.Index.{partIn, OwnIn}
-use Rattle.graph.proofs.Arcs.{edgeIn}
+use Rattle.graph.specs.Index.{edgeIn, partIn, OwnIn}
 use Rattle.run.specs.Run as spec
 use Rattle.run.specs.Code.{state, Ready, Ran}
 use Rattle.graph.proofs.Lists.{fold-turn, fold-done, getD-within}
@@ -33,14 +32,14 @@ ready s = let g = s .args in
 
 -- the vertex is low, and has its places
 low : (s : tie.Start Inv-loop μ-loop) → (s .args .u < maxVertices) × (s .args .u + 1 < length (s .args .firsts .now))
-low s = let (u, r) = ready s in (omega (arith, r .index .few), omega (arith, r .index .places))
+low s = let (u, r) = ready s in (omega (arith, r .fit .few), omega (arith, r .fit .places))
 
 loop-holds : tie.Need-loop-holds Inv-loop μ-loop
 loop-holds c =
     let s = c .before .before .before .before .before .before .before .before .before in
     let a = s .args in
     let (l, r) = ready s in
-    let f = r .index in
+    let f = r .fit in
     let h = marks-set (length (a .words .now)) (a .u) (a .waiting .now) (c .remove .last .0) false l (c .remove .ensures) (r .sized .waiting) in (
       refl,
       f .after (a .u) (omega arith),
@@ -60,10 +59,10 @@ relax-requires c κs =
     let s = l .before .before .before .before .before .before .before .before .before .before in
     let f = ready s .1 in
     let r = l .loop .inv .5 in
-    let i = f .index .inside (l .loop .j) (omega arith) (omega arith) in (
+    let i = f .fit .inside (l .loop .j) (omega arith) (omega arith) in (
       omega (arith, d .head-in .ensures),
       r .sized,
-      record { taken = omega arith; rounds = omega arith; stores = omega (arith, f .index .short) },
+      record { taken = omega arith; rounds = omega arith; stores = omega (arith, f .fit .short) },
     )
 
 add-j : tie.Need-add-j Inv-loop μ-loop
@@ -91,7 +90,7 @@ loop-again c =
     let v = ap (λ (x : ℕ). P .along x (e .weight)) (w ∙ at .inv .6) ∙ ap (λ (x : ℕ). P .along (getD (g .words .now) (g .u) 0) x) (sym (a .before .weight-in .ensures)) ∙ sym (a .along .ensures) in
     let m : getD (at .words) (g .u) 0 ≤ M = omega (arith, at .inv .6, l .before .before .before .before .before .slice-known2 .given (g .u)) in
     let q = r .relax .ensures .0 e (sym (d .head-in .ensures)) v in
-    let i = f .index .inside (at .j) (omega arith) (omega arith) in (
+    let i = f .fit .inside (at .j) (omega arith) (omega arith) in (
       fold-turn (spec.relax P) e (part-more _ _ _ _ _ _ (t .loop-test .taken)) q (at .inv .0),
       at .inv .1,
       omega arith,
@@ -117,7 +116,7 @@ returns c =
           fold-done (spec.relax P) (part-none _ _ _ _ _ _ (c .loop-test .left)) (l .loop .inv .0)
           ∙ handle-own P es _ (state z (g .words .now) (g .waiting .now) (g .tally)) _ (g .u)
           (clear-bit z (g .u) (g .words .now) (g .waiting .now) (r .remove .last .0) (g .tally) h (r .remove .ensures)) (o (g .u) h)),
-      λ n y. subst (λ n. Ran n (l .loop .words) (l .loop .waiting) (g .tally) (l .loop .t) 0 0 maxEdges) y (ran-within (l .loop .inv .5) (omega arith) (omega arith) (omega (arith, f .index .short))),
+      λ n y. subst (λ n. Ran n (l .loop .words) (l .loop .waiting) (g .tally) (l .loop .t) 0 0 maxEdges) y (ran-within (l .loop .inv .5) (omega arith) (omega arith) (omega (arith, f .fit .short))),
     )
 
 pub handle-spec : {M : Type 1} → statement M

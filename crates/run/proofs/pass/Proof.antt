@@ -36,7 +36,7 @@ take-requires c κs =
     let v = s .pre .1 in
     let r = l .loop .inv .2 in (
       v .inside (l .loop .entry) (omega arith),
-      record { index = f .index; sized = r .sized; low = record { taken = omega (arith, v .few); rounds = omega arith; stores = omega (arith, v .few) } },
+      record { fit = f .fit; sized = r .sized; low = record { taken = omega (arith, v .few); rounds = omega arith; stores = omega (arith, v .few) } },
     )
 
 loop-again : tie.Need-loop-again Inv-loop μ-loop

@@ -47,7 +47,7 @@ returns c =
           round-none (property (g .p)) es (g .n) (at .i) (at .words) (at .waiting) (at .t) _ (at .inv .0 es o)
           (next-none (waitingOf (at .waiting)) (at .i) (sym (c .before .before .next-from .ensures .0) ∙ c .enum-told .given .1))
           ∙ round-begins (property (g .p)) es (g .n) (g .words .now) (g .waiting .now) (g .tally),
-      ran-round (g .tally) (at .inv .2) (omega (arith, s .pre .index .few)),
+      ran-round (g .tally) (at .inv .2) (omega (arith, s .pre .fit .few)),
     )
 
 handle-requires : tie.Need-handle-requires Inv-loop μ-loop
@@ -55,11 +55,11 @@ handle-requires c κs =
     let k = c .before .before .before in
     let l = k .before .before .before .before .before in
     let s = l .before .before .before .before .before .before in
-    let f = s .pre .index .few in
+    let f = s .pre .fit .few in
     let r = l .loop .inv .2 in (
       s .args .n,
       found-within k,
-      record { index = s .pre .index; sized = r .sized; low = record { taken = omega arith; rounds = omega arith; stores = omega arith } },
+      record { fit = s .pre .fit; sized = r .sized; low = record { taken = omega arith; rounds = omega arith; stores = omega arith } },
     )
 
 loop-again : tie.Need-loop-again Inv-loop μ-loop
@@ -87,7 +87,7 @@ returns-2 c =
       λ es o.
           round-ends (property (g .p)) es (g .n) (at .i) (at .words) (at .waiting) (at .t) _ (at .inv .0 es o) (c .loop-test .left)
           ∙ round-begins (property (g .p)) es (g .n) (g .words .now) (g .waiting .now) (g .tally),
-      ran-round (g .tally) (at .inv .2) (omega (arith, s .pre .index .few)),
+      ran-round (g .tally) (at .inv .2) (omega (arith, s .pre .fit .few)),
     )
 
 pub round-of-spec : {M : Type 1} → statement M
@@ -98,7 +98,7 @@ round-of-spec =
     μ-loop
     (λ c. search needs)
     loop-holds
-    (λ c κs. omega (arith, c .before .before .before .before .before .before .before .before .pre .index .few))
+    (λ c κs. omega (arith, c .before .before .before .before .before .before .before .before .pre .fit .few))
     (λ c. search needs)
     (λ c. search needs)
     (λ c. search needs)

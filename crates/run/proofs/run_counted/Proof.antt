@@ -145,7 +145,7 @@ module _ {M : Type 1} (𝓤 : URA M) (H : Heap 𝓤) (A : Atoms 𝓤) (W : Given
   goes : Asked → (ν l : ℕ) (γ : GName) → ent 𝓤 (onEntry 𝓤 H A run′.signature (κs′ ν) qs′ (args l γ) (passed l)) (Inner 𝓤 H A at-mem run .pre (inner ν l γ))
   goes asked ν l γ =
       qed W (Tokens ν ∷ ‵ (owns (u32 ∷ usize ∷ ShrSlice (named 0) κ₀ u32 ∷ ShrSlice (named 1) κ₁ u32 ∷ ShrSlice (named 2) κ₂ u32 ∷ ShrSlice (named 3) κ₃ u32 ∷ MutSlice (named 4) κ₄ u32 ∷ MutRef (named 5) κ₅ Bits ∷ MutRef (named 6) (ν ∷ []) R ∷ []) (args l γ) (passed l)) ∷ []) ∵
-      says ! (record { index = asked .0; sized = asked .1; low = record { taken = lit< tt; rounds = lit< tt; stores = lit< tt } }, asked .2) $ frame ! $ done !
+      says ! (record { fit = asked .0; sized = asked .1; low = record { taken = lit< tt; rounds = lit< tt; stores = lit< tt } }, asked .2) $ frame ! $ done !
 
   exits : (us cs : List ℕ) (r : Tally) → Told us cs r → length us ≡ length (ws .now)
       → ent 𝓤 (⋆ 𝓤 H A (‵ (R .own r (val r ∷ [])) ∷ ‵ (flft κ₅ q₅) ∷ ‵ (flft κ₄ q₄) ∷ ‵ (flft κ₃ q₃) ∷ ‵ (flft κ₂ q₂) ∷ ‵ (flft κ₁ q₁) ∷ ‵ (flft κ₀ q₀) ∷ ‵ (fres (bs .name) (Bits .coded .code cs)) ∷ ‵ (finally u32 (ws .name) us) ∷ [])) (Post (val r))

@@ -10,7 +10,7 @@ pass-requires : tie.Need-pass-requires
 pass-requires c κs =
     let s = c .before .before .before .before .before .before .before in
     let l = s .pre .0 .low in
-    (record { index = s .pre .0 .index; sized = s .pre .0 .sized; low = record { taken = omega arith; rounds = omega arith; stores = omega arith } }, s .pre .1)
+    (record { fit = s .pre .0 .fit; sized = s .pre .0 .sized; low = record { taken = omega arith; rounds = omega arith; stores = omega arith } }, s .pre .1)
 
 returns : tie.Need-returns
 returns c =

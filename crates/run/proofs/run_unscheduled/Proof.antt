@@ -7,6 +7,6 @@ pub run-unscheduled-spec : {M : Type 1} → statement M
 run-unscheduled-spec =
     tie.close
     (tie.spec
-    (λ c κs. let p = c .before .before .before .before .pre in record { index = p .0; sized = p .1; low = record { taken = lit< tt; rounds = lit< tt; stores = lit< tt } })
+    (λ c κs. let p = c .before .before .before .before .pre in record { fit = p .0; sized = p .1; low = record { taken = lit< tt; rounds = lit< tt; stores = lit< tt } })
     (λ c. search needs)
     (λ c. c .before .before .settle .ensures))

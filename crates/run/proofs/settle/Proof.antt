@@ -34,16 +34,16 @@ returns c =
     let at = l .loop in
     let e = bits-any (g .n) (at .waiting) (at .inv .2 .sized .waiting) ∙ sym (c .before .any .ensures) ∙ not-true _ (c .if1 .taken) in (
       λ es o. sym (settle-stop (property (g .p)) es (g .n) (at .k) (state (g .n) (at .words) (at .waiting) (at .t)) (c .before .before .before .loop-test .taken) e) ∙ at .inv .0 es o,
-      ran-within (at .inv .2) (omega arith) (omega arith) (omega (arith, s .pre .index .few)),
+      ran-within (at .inv .2) (omega arith) (omega arith) (omega (arith, s .pre .fit .few)),
     )
 
 round-requires : tie.Need-round-requires Inv-loop μ-loop
 round-requires c κs =
     let l = c .before .before .before .before .before .before in
     let s = l .before .before .before .before .before in
-    let f = s .pre .index .few in
+    let f = s .pre .fit .few in
     let r = l .loop .inv .2 in
-    record { index = s .pre .index; sized = r .sized; low = record { taken = omega arith; rounds = omega arith; stores = omega arith } }
+    record { fit = s .pre .fit; sized = r .sized; low = record { taken = omega arith; rounds = omega arith; stores = omega arith } }
 
 loop-again : tie.Need-loop-again Inv-loop μ-loop
 loop-again c =
@@ -69,7 +69,7 @@ returns-2 c =
     let g = s .args in
     let at = l .loop in (
       λ es o. sym (settle-none (property (g .p)) es (g .n) (at .k) (state (g .n) (at .words) (at .waiting) (at .t)) (c .loop-test .left)) ∙ at .inv .0 es o,
-      ran-within (at .inv .2) (omega arith) (omega arith) (omega (arith, s .pre .index .few)),
+      ran-within (at .inv .2) (omega arith) (omega arith) (omega (arith, s .pre .fit .few)),
     )
 
 pub settle-spec : {M : Type 1} → statement M

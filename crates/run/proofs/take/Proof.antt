@@ -10,7 +10,7 @@ handle-requires : tie.Need-handle-requires
 handle-requires c κs =
     let s = c .before .before .before .before .before .before .before .before .before .before in
     let f = s .pre .1 in
-    (s .args .n, s .pre .0, record { index = f .index; sized = f .sized; low = record { taken = omega arith; rounds = omega arith; stores = omega arith } })
+    (s .args .n, s .pre .0, record { fit = f .fit; sized = f .sized; low = record { taken = omega arith; rounds = omega arith; stores = omega arith } })
 
 returns : tie.Need-returns
 returns c =
