@@ -4,7 +4,7 @@ use Rattle.property.specs.Property.{properties}
 use Rattle.graph.specs.Refusal.{Verdict, accept, refuse, refuseIf, Outcome, choose, over}
 use Rattle.graph.specs.Limits.{maxEdges, maxLandmarks}
 use Rattle.graph.specs.Edge.{Edge, range}
-use Rattle.graph.specs.Table.{Columns, edgesOf, rules, shortTable, table}
+use Rattle.graph.specs.Table.{Columns, edgesOf, shortTable, table}
 use Rattle.graph.specs.Code.{columns}
 use Rattle.graph.proofs.Lists.{drop-replicate}
 use Rattle.graph.proofs.Tests.{or-false}

@@ -4,7 +4,7 @@
 --
 --   rank a ps        == the number a with the head of each edge of ps put after it as a digit; a route's number is its rank after 1
 --   Narrow ps        == the heads of ps are digits
-use Rattle.property.proofs.Basics.{_≡_, refl, sym, _∙_, ⊎-elim, true, false, true≢false, List, [], _∷_, _++_, map, foldl, List·Memᴰ, List·Memᴰ·head, List·Memᴰ·tail, List·Memᴰ·cases-cons, List·Memᴰ·not-nil, ℕ, zero, suc, _+_, _*_, _≤_, _<_, arith, length, getD, ltb, eqb, ltb-true, ltb-false, le-ltb, eq-eqb, eqb-true}
+use Rattle.property.proofs.Basics.{_≡_, refl, sym, _∙_, ⊎-elim, true, true≢false, List, [], _∷_, _++_, map, foldl, List·Memᴰ, List·Memᴰ·head, List·Memᴰ·tail, List·Memᴰ·cases-cons, List·Memᴰ·not-nil, ℕ, zero, suc, _+_, _*_, _≤_, _<_, arith, length, getD, ltb, eqb, ltb-true, ltb-false, le-ltb, eq-eqb, eqb-true}
 use mathlib.Core.List.{foldl-append}
 use Rattle.property.proofs.Tests.{by-test, is-false}
 use Rattle.graph.specs.Limits.{maxVertices}

@@ -1,6 +1,6 @@
 -- `search::expand` meets its contract. The loop's invariant: the edges that are left, from the search now, come to what all edges of the vertex come
 -- to from the search at entry. Assumes nothing.
-use Rattle.property.proofs.Basics.{_≡_, refl, sym, ap, _∙_, foldl, _-_, _+_, _≤_, _<_, length, getD, arith, needs}
+use Rattle.property.proofs.Basics.{_≡_, refl, sym, ap, _∙_, foldl, _-_, _+_, _≤_, length, getD, arith, needs}
 use Rattle.graph.specs.Arc.{arc, arcHead, arcWeight}
 use Rattle.graph.specs.Edge.{edge}
 use Rattle.graph.specs.Index.{part}
