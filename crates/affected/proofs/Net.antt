@@ -3,7 +3,7 @@
 --
 --   Single fs == each pair has one edge in fs, which is its counterpart, and each edge a weight: as in a table that keeps the rules, and in the
 --                reversed one
-use Rattle.property.proofs.Basics.{_≡_, refl, sym, ap, _∙_, ⊎-elim, _≢_, Bool, true, false, _&&_, true≢false, List, [], _∷_, map, List·Memᴰ, List·Memᴰ·head, List·Memᴰ·tail, List·Memᴰ·cases-cons, List·Memᴰ·not-nil, ℕ, _<_, arith, eqb, eqb-true, eqb-false, eq-eqb, ne-eqb}
+use Rattle.property.proofs.Basics.{_≡_, refl, sym, ap, _∙_, ⊎-elim, _≢_, Bool, true, false, _&&_, true≢false, List, [], _∷_, map, List·Memᴰ, List·Memᴰ·head, List·Memᴰ·tail, List·Memᴰ·cases-cons, List·Memᴰ·not-nil, ℕ, arith, eqb, eqb-false, ne-eqb}
 use Rattle.property.proofs.Tests.{by-test}
 use Rattle.property.specs.Property.{Property}
 use Rattle.property.specs.Laws.{Laws}
@@ -11,7 +11,7 @@ use Rattle.graph.specs.Refusal.{accept}
 use Rattle.graph.specs.Edge.{Edge, reverse, samePair, alike, exists, present}
 use Rattle.graph.specs.Table.{isEdge, tableOrder, rules}
 use Rattle.graph.specs.Sorted.{Distinct}
-use Rattle.graph.proofs.Tests.{both, neither, and-true, or-false}
+use Rattle.graph.proofs.Tests.{neither, or-false}
 use Rattle.graph.proofs.Edges.{true-exists, reverse-mem, pair-ends, ends-pair}
 use Rattle.graph.proofs.Sorted.{sorted-distinct}
 use Rattle.graph.proofs.Order.{table-ordered, pair-alike, rules-accept, sound-fit}

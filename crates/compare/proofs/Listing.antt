@@ -1,57 +1,92 @@
--- Edges that precede a pair, and where a pair stands in a table. Assumes nothing.
-use Rattle.property.proofs.Basics.{_≡_, refl, ap, _∙_, Bool, true, false, cond, List, ℕ, _+_, _<_, ℕ-discrete, arith, getD}
+-- Tables that keep the rules, and the edges of one that precede an edge; and the words of a change stored. Assumes nothing.
+--
+--   Kept n       == a table in its three lists that keeps the rules of n vertices
+--   all s        == its edges
+--   at s i       == its edge at index i
+--   Past s e j   == its first j edges precede e
+--   put xs k a b == the list with the words a and b for change k
+use Rattle.property.proofs.Basics.{_≡_, sym, ap, _∙_, true, false, true≢false, List, List·Memᴰ, ℕ, _+_, _*_, _<_, ℕ-discrete, decLt, arith, length, getD, set, length-set, getD-set-same, getD-set-other, eqb, eqb-true, eqb-false}
+use Rattle.property.proofs.Tests.{by-test}
 use Rattle.graph.specs.Refusal.{accept}
-use Rattle.graph.specs.Edge.{edge, precedes, edges}
-use Rattle.graph.specs.Table.{isEdge, tableOrder, rules}
-use Rattle.graph.specs.Code.{Room, edgeAt, position}
-use Rattle.graph.proofs.Sorted.{sorted-before, sorted-onward}
-use Rattle.graph.proofs.Seek.{position-is}
-use Rattle.graph.proofs.Order.{table-ordered, rules-accept}
-use Rattle.graph.proofs.Records.{edges-length, edges-at}
+use Rattle.graph.specs.Edge.{Edge, edge, alike, precedes, edges}
+use Rattle.graph.specs.Table.{isEdge, rules}
+use Rattle.graph.specs.Code.{Room, edgeAt}
+use Rattle.graph.proofs.Sorted.{sorted-before}
+use Rattle.graph.proofs.Order.{EdgeFacts, table-ordered, rules-accept, sound-fit}
+use Rattle.graph.proofs.Lists.{mem-index}
+use Rattle.graph.proofs.Records.{edges-length, edges-at, edges-mem}
+use Rattle.affected.specs.Net.{counterpart}
+use Rattle.affected.proofs.Net.{counterpart-found}
 use Rattle.compare.specs.Code.{Passed}
 
--- ---- edges that precede a pair
+pub record Kept (n : ℕ) : Type 0 where
+  pub count : ℕ
+  pub ts : List ℕ
+  pub hs : List ℕ
+  pub ws : List ℕ
+  pub room : Room count ts hs ws
+  pub sound : rules n (edges ts hs ws count) ≡ accept
 
-pub passed-none : (ts hs ws : List ℕ) (m t h : ℕ) → Passed ts hs ws m t h 0
-passed-none ts hs ws m t h = record { within = omega arith; before = λ k i. absurd (omega arith) }
+module _ {n : ℕ} (s : Kept n) where
+  abbrev pub all : List Edge
+  all = edges (s .ts) (s .hs) (s .ws) (s .count)
 
-pub passed-more : {ts hs ws : List ℕ} {m t h j : ℕ} → Passed ts hs ws m t h j → j < m → precedes (edgeAt ts hs ws j) (edge t h 0) ≡ true → Passed ts hs ws m t h (j + 1)
-passed-more {ts} {hs} {ws} {m} {t} {h} {j} at l q = record { within = omega arith; before = λ k i. pick k (ℕ-discrete k j) (λ d. at .before k (omega arith)) }
-  where
-    pick : (k : ℕ) → Dec (k ≡ j) → ((k ≡ j → ⊥) → precedes (edgeAt ts hs ws k) (edge t h 0) ≡ true) → precedes (edgeAt ts hs ws k) (edge t h 0) ≡ true
-    pick k (yes e) f = ap (λ (i : ℕ). precedes (edgeAt ts hs ws i) (edge t h 0)) e ∙ q
-    pick k (no d) f = f d
+  abbrev pub at : ℕ → Edge
+  at i = edgeAt (s .ts) (s .hs) (s .ws) i
 
--- those that precede, and then one that does not: so many precede in all
-pub passed-position : (n : ℕ) (ts hs ws : List ℕ) (m t h j : ℕ) → Room m ts hs ws → rules n (edges ts hs ws m) ≡ accept → Passed ts hs ws m t h j
-    → (j < m → precedes (edgeAt ts hs ws j) (edge t h 0) ≡ false) → j ≡ position (edge t h 0) (edges ts hs ws m)
-passed-position n ts hs ws m t h j r a at stop =
-    let z = edges-length ts hs ws m r in
-    position-is tableOrder (edge 0 0 0) (edge t h 0) (edges ts hs ws m) j (omega (arith, at .within))
-    (λ k i. let l : k < m = omega (arith, at .within) in ap (λ e. precedes e (edge t h 0)) (edges-at ts hs ws m r k l) ∙ at .before k i)
-    (λ k i l.
-    let o : j < m = omega arith in
-    sorted-onward table-ordered (isEdge n) (edge 0 0 0) (edges ts hs ws m) (rules-accept n _ a) (edge t h 0) j (omega arith)
-    (ap (λ e. precedes e (edge t h 0)) (edges-at ts hs ws m r j o) ∙ stop o) k i l)
+  abbrev pub Past : Edge → ℕ → Type 0
+  Past e j = Passed (s .ts) (s .hs) (s .ws) (s .count) (e .tail) (e .head) j
 
--- what precedes an edge precedes the next one of its table, and so does what has its pair
-module _ (n : ℕ) (ts hs ws : List ℕ) (m : ℕ) (r : Room m ts hs ws) (a : rules n (edges ts hs ws m) ≡ accept) (k : ℕ) (next : k + 1 < m) where
-  rises : precedes (edgeAt ts hs ws k) (edgeAt ts hs ws (k + 1)) ≡ true
-  rises =
-      let z = edges-length ts hs ws m r in
-      let y = sorted-before table-ordered (isEdge n) (edge 0 0 0) (edges ts hs ws m) (rules-accept n _ a) k (k + 1) (omega arith) (omega arith) in
-      rw (edges-at ts hs ws m r k (omega arith), edges-at ts hs ws m r (k + 1) next) at y
+  pub at-facts : (i : ℕ) → i < s .count → EdgeFacts n (at i)
+  at-facts i l = sound-fit n all (rules-accept n all (s .sound)) (at i) (edges-mem _ _ _ _ (s .room) i l)
 
-  pub passed-next : (ts′ hs′ ws′ : List ℕ) (m′ j : ℕ) (b : Bool) → Passed ts′ hs′ ws′ m′ (getD ts k 0) (getD hs k 0) j
-      → (b ≡ true → (j < m′) × (getD ts′ j 0 ≡ getD ts k 0) × (getD hs′ j 0 ≡ getD hs k 0))
-      → (i : ℕ) → i ≡ cond b (j + 1) j → Passed ts′ hs′ ws′ m′ (getD ts (k + 1) 0) (getD hs (k + 1) 0) i
-  passed-next ts′ hs′ ws′ m′ j b at f i p = rw p (pick b refl)
-    where
-      kept : Passed ts′ hs′ ws′ m′ (getD ts (k + 1) 0) (getD hs (k + 1) 0) j
-      kept = record { within = at .within; before = λ i l. table-ordered .transitive (edgeAt ts′ hs′ ws′ i) (edgeAt ts hs ws k) (edgeAt ts hs ws (k + 1)) (at .before i l) rises }
+  -- each element stands at some index
+  pub all-index : (e : Edge) → List·Memᴰ e all → (k : ℕ) × (k < s .count) × (at k ≡ e)
+  all-index e m =
+      let (k, l, q) = mem-index (edge 0 0 0) m in
+      let i : k < s .count = omega (arith, edges-length _ _ _ _ (s .room)) in
+      (k, i, sym (edges-at _ _ _ _ (s .room) k i) ∙ q)
 
-      pick : (c : Bool) → b ≡ c → Passed ts′ hs′ ws′ m′ (getD ts (k + 1) 0) (getD hs (k + 1) 0) (cond c (j + 1) j)
-      pick true e =
-          let z = f e in
-          passed-more kept (z .0) (rw (z .1, z .2) rises)
-      pick false e = kept
+  pub rises : (i j : ℕ) → i < j → j < s .count → precedes (at i) (at j) ≡ true
+  rises i j h l =
+      let z = edges-length _ _ _ _ (s .room) in
+      let y = sorted-before table-ordered (isEdge n) (edge 0 0 0) all (rules-accept n _ (s .sound)) i j h (omega arith) in
+      rw (edges-at _ _ _ _ (s .room) i (omega arith), edges-at _ _ _ _ (s .room) j l) at y
+
+  module _ (e : Edge) where
+    pub passed-none : Past e 0
+    passed-none = record { within = omega arith; before = λ k i. absurd (omega arith) }
+
+    pub passed-more : (j : ℕ) → Past e j → j < s .count → precedes (at j) e ≡ true → Past e (j + 1)
+    passed-more j p l q = record { within = omega arith; before = λ k i. pick k i (ℕ-discrete k j) }
+      where
+        pick : (k : ℕ) → k < j + 1 → Dec (k ≡ j) → precedes (at k) e ≡ true
+        pick k i (yes z) = rw z q
+        pick k i (no d) = p .before k (omega arith)
+
+    -- the first edges precede e, and e precedes the next: the pair stands nowhere in the table
+    pub passed-counterpart : (j : ℕ) → Past e j → (j < s .count → precedes e (at j) ≡ true) → counterpart all e ≡ 0
+    passed-counterpart j p q = by-test (eqb (counterpart all e) 0) (λ z. eqb-true _ _ z) (λ z.
+        let (f, m, a, b) = counterpart-found all e (eqb-false _ _ z) in
+        let (k, l, x) = all-index f m in
+        absurd (true≢false (sym a ∙ ap (alike e) (sym x) ∙ never k l (decLt k j) (ℕ-discrete k j))))
+      where
+        never : (k : ℕ) → k < s .count → Dec (k < j) → Dec (k ≡ j) → alike e (at k) ≡ false
+        never k l (yes b) d = table-ordered .symmetric e (at k) ∙ table-ordered .apart (at k) e (p .before k b)
+        never k l (no b) (yes d) = table-ordered .apart e (at k) (rw d (q (rw d at l)))
+        never k l (no b) (no d) = table-ordered .apart e (at k) (table-ordered .transitive e (at j) (at k) (q (omega arith)) (rises j k (omega arith) l))
+
+-- ---- the words of a change
+
+module _ (xs : List ℕ) (k a b : ℕ) where
+  abbrev pub put : List ℕ
+  put = set (set xs (2 * k) a) (2 * k + 1) b
+
+  pub put-other : (i : ℕ) → (i ≡ 2 * k → ⊥) → (i ≡ 2 * k + 1 → ⊥) → getD put i 0 ≡ getD xs i 0
+  put-other i d e = getD-set-other (set xs (2 * k) a) (2 * k + 1) i b 0 e ∙ getD-set-other xs (2 * k) i a 0 d
+
+  pub put-first : 2 * k + 1 < length xs → getD put (2 * k) 0 ≡ a
+  put-first l = getD-set-other (set xs (2 * k) a) (2 * k + 1) (2 * k) b 0 (λ q. omega arith) ∙ getD-set-same xs (2 * k) a 0 (omega arith)
+
+  pub put-second : 2 * k + 1 < length xs → getD put (2 * k + 1) 0 ≡ b
+  put-second l = getD-set-same (set xs (2 * k) a) (2 * k + 1) b 0 (let z = length-set xs (2 * k) a in omega arith)

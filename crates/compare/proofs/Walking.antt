@@ -1,465 +1,354 @@
 -- A walk along two tables lists what differs. Assumes nothing.
 --
+--   due s i s′ j         == edge i of s comes no later than edge j of s′: the walk goes past it
+--   Step s s′ i j b c    == one of the edges at hand is there; b and c say which of them are due
+--   Noted fs i e w A     == e is one of the edges A a, of a below i; it differs in fs, where its pair has the weight w
 --   Half fs i g f o A    == of the edges A a, of a below i, those that differ in fs are listed: by the edges f k, of k below g, that have a weight; and
 --                           o k is the weight that the pair has in fs
---   Walk ..              == so far for both tables, and the edges that are gone past precede those that are not
+--   Walk s s′ f h i j g  == so far for both tables, and the edges that are gone past precede those that are not
 --
 -- Both tables are sorted by pair. At each step the edge that comes first is gone past: if it comes before the other table's edge at hand, it
 -- stands nowhere in the other table, since all before that one precede it and all from there on come after it. If both are of one pair, both
 -- are gone past, and they differ where their weights do.
-use Rattle.property.proofs.Basics.{_≡_, refl, sym, ap, _∙_, _⊎_, ⊎-elim, _≢_, Bool, true, false, not, _&&_, cond, true≢false, List, ℕ, _+_, _*_, _/_, _≤_, _<_, ℕ-discrete, decLt, arith, length, getD, set, take, length-set, getD-set-same, getD-set-other, length-take-le, getD-take, eqb, ltb, ltb-true, lt-ltb, eqb-true, eqb-false, eq-eqb, ne-eqb, not-true, not-false}
+use Rattle.property.proofs.Basics.{_≡_, refl, sym, ap, _∙_, _⊎_, inl, inr, ⊎-elim, _≢_, Bool, true, false, not, _&&_, cond, true≢false, List, ℕ, _+_, _*_, _/_, _≤_, _<_, ℕ-discrete, decLt, arith, length, getD, take, length-take-le, getD-take, eqb, ltb, ltb-true, lt-ltb, eqb-true, eqb-false, eq-eqb, ne-eqb, not-true, not-false}
+use Rattle.property.proofs.Tests.{is-true, by-test}
 use Rattle.graph.specs.Limits.{maxWeight}
-use Rattle.graph.specs.Refusal.{accept}
 use Rattle.graph.specs.Arc.{arcWeights, arc, arcHead}
-use Rattle.graph.specs.Edge.{Edge, edge, edges, alike, precedes}
-use Rattle.graph.specs.Table.{rules}
-use Rattle.graph.specs.Code.{Room, edgeAt, position}
+use Rattle.graph.specs.Edge.{Edge, edge, alike, precedes}
 use Rattle.graph.proofs.Tests.{both}
-use Rattle.graph.proofs.Edges.{ends-pair}
+use Rattle.graph.proofs.Edges.{pair-ends}
 use Rattle.graph.proofs.Sorted.{before-asym}
-use Rattle.graph.proofs.Order.{table-ordered, rules-accept, sound-fit}
+use Rattle.graph.proofs.Order.{table-ordered}
 use Rattle.graph.proofs.Arcs.{head-arc, weight-arc}
-use Rattle.graph.proofs.Lists.{mem-index}
-use Rattle.graph.proofs.Lookup.{absent-present, find-other}
-use Rattle.graph.proofs.Own.{tails-below, heads-below, weights-range}
-use Rattle.graph.proofs.Records.{edges-length, edges-at, edges-mem}
+use Rattle.graph.proofs.Records.{edges-mem}
 use Rattle.affected.specs.Net.{counterpart}
-use Rattle.affected.proofs.Net.{rules-single, counterpart-none}
-use Rattle.compare.specs.Code.{before, after, Inside, differs, Lists, Differences, Passed, Tables}
-use Rattle.compare.proofs.Listing.{passed-none, passed-more, passed-next, passed-position}
+use Rattle.affected.proofs.Net.{rules-single}
+use Rattle.compare.specs.Code.{before, after, Inside, differs, Lists, Differences, Tables}
+use Rattle.compare.proofs.Listing.{Kept, all, at, Past, at-facts, all-index, rises, passed-none, passed-more, passed-counterpart, put, put-other, put-first, put-second}
 
 -- ---- which edge comes first
 
-abbrev pub due : ℕ → ℕ → List ℕ → List ℕ → ℕ → ℕ → List ℕ → List ℕ → Bool
-due i m ts hs j m′ ts′ hs′ = ltb i m && not (ltb j m′ && precedes (edge (getD ts′ j 0) (getD hs′ j 0) 0) (edge (getD ts i 0) (getD hs i 0) 0))
+module _ {n : ℕ} (s : Kept n) (i : ℕ) (s′ : Kept n) (j : ℕ) where
+  abbrev pub due : Bool
+  due = ltb i (s .count) && not (ltb j (s′ .count) && precedes (at s′ j) (at s i))
 
-pub due-first : (i m : ℕ) (ts hs : List ℕ) (j m′ : ℕ) (ts′ hs′ : List ℕ) → due i m ts hs j m′ ts′ hs′ ≡ true
-    → (i < m) × (j < m′ → precedes (edge (getD ts′ j 0) (getD hs′ j 0) 0) (edge (getD ts i 0) (getD hs i 0) 0) ≡ false)
-due-first i m ts hs j m′ ts′ hs′ h =
-    let z = both (ltb i m) _ h in
-    let y = not-true (ltb j m′ && precedes (edge (getD ts′ j 0) (getD hs′ j 0) 0) (edge (getD ts i 0) (getD hs i 0) 0)) (z .1) in
-    (ltb-true i m (z .0), λ l. rw (lt-ltb j m′ l) at y)
+  due-first : due ≡ true → (i < s .count) × (j < s′ .count → precedes (at s′ j) (at s i) ≡ false)
+  due-first h =
+      let z = both (ltb i (s .count)) _ h in
+      let y = not-true (ltb j (s′ .count) && precedes (at s′ j) (at s i)) (z .1) in
+      (ltb-true i (s .count) (z .0), λ l. rw (lt-ltb j (s′ .count) l) at y)
 
-pub due-later : (i m : ℕ) (ts hs : List ℕ) (j m′ : ℕ) (ts′ hs′ : List ℕ) → due i m ts hs j m′ ts′ hs′ ≡ false → i < m
-    → (j < m′) × (precedes (edge (getD ts′ j 0) (getD hs′ j 0) 0) (edge (getD ts i 0) (getD hs i 0) 0) ≡ true)
-due-later i m ts hs j m′ ts′ hs′ h l =
-    let x : not (ltb j m′ && precedes (edge (getD ts′ j 0) (getD hs′ j 0) 0) (edge (getD ts i 0) (getD hs i 0) 0)) ≡ false = rw (lt-ltb i m l) at h in
-    let z = both (ltb j m′) _ (not-false _ x) in
-    (ltb-true j m′ (z .0), z .1)
+  due-later : due ≡ false → i < s .count → (j < s′ .count) × (precedes (at s′ j) (at s i) ≡ true)
+  due-later h l =
+      let x : not (ltb j (s′ .count) && precedes (at s′ j) (at s i)) ≡ false = rw (lt-ltb i (s .count) l) at h in
+      let z = both (ltb j (s′ .count)) _ (not-false _ x) in
+      (ltb-true j (s′ .count) (z .0), z .1)
 
--- one of them comes first
-pub due-some : (i m : ℕ) (ts hs : List ℕ) (j m′ : ℕ) (ts′ hs′ : List ℕ) → due i m ts hs j m′ ts′ hs′ ≡ false → due j m′ ts′ hs′ i m ts hs ≡ false → i < m → ⊥
-due-some i m ts hs j m′ ts′ hs′ a b l =
-    let x = due-later i m ts hs j m′ ts′ hs′ a l in
-    let y = due-later j m′ ts′ hs′ i m ts hs b (x .0) in
-    true≢false (sym (y .1) ∙ before-asym table-ordered (edge (getD ts′ j 0) (getD hs′ j 0) 0) (edge (getD ts i 0) (getD hs i 0) 0) (x .1))
+  due-low : (b : Bool) → due ≡ b → i ≤ s .count → cond b (i + 1) i ≤ s .count
+  due-low true d l = let z = due-first d .0 in omega arith
+  due-low false d l = l
 
--- ---- one table beside another
+module _ {n : ℕ} (s : Kept n) (i : ℕ) (s′ : Kept n) (j : ℕ) where
+  -- one of them comes first
+  due-some : due s i s′ j ≡ false → due s′ j s i ≡ false → i < s .count → ⊥
+  due-some a b l =
+      let x = due-later s i s′ j a l in
+      let y = due-later s′ j s i b (x .0) in
+      true≢false (sym (y .1) ∙ before-asym table-ordered (at s′ j) (at s i) (x .1))
 
-module _ (n m : ℕ) (ts hs ws : List ℕ) (r : Room m ts hs ws) (a : rules n (edges ts hs ws m) ≡ accept)
-    (m′ : ℕ) (ts′ hs′ ws′ : List ℕ) (r′ : Room m′ ts′ hs′ ws′) (a′ : rules n (edges ts′ hs′ ws′ m′) ≡ accept) (i j : ℕ) where
-  -- of one pair
-  met-pair : due i m ts hs j m′ ts′ hs′ ≡ true → due j m′ ts′ hs′ i m ts hs ≡ true → (getD ts′ j 0 ≡ getD ts i 0) × (getD hs′ j 0 ≡ getD hs i 0)
-  met-pair d e = pick (alike (edge (getD ts i 0) (getD hs i 0) 0) (edge (getD ts′ j 0) (getD hs′ j 0) 0)) refl
-    where
-      pick : (b : Bool) → alike (edge (getD ts i 0) (getD hs i 0) 0) (edge (getD ts′ j 0) (getD hs′ j 0) 0) ≡ b → (getD ts′ j 0 ≡ getD ts i 0) × (getD hs′ j 0 ≡ getD hs i 0)
-      pick true q = let z = both (eqb (getD ts i 0) (getD ts′ j 0)) _ q in (sym (eqb-true _ _ (z .0)), sym (eqb-true _ _ (z .1)))
-      pick false q =
-          let x = due-first i m ts hs j m′ ts′ hs′ d in
-          let y = due-first j m′ ts′ hs′ i m ts hs e in
-          absurd (true≢false (sym (table-ordered .trichotomy (edge (getD ts′ j 0) (getD hs′ j 0) 0) (edge (getD ts i 0) (getD hs i 0) 0) (x .1 (y .0)) (table-ordered .symmetric (edge (getD ts′ j 0) (getD hs′ j 0) 0) (edge (getD ts i 0) (getD hs i 0) 0) ∙ q)) ∙ y .1 (x .0)))
+  -- if both do, they are of one pair, and the edge of the pair in the other table is the one at hand
+  module _ (d : due s i s′ j ≡ true) (e : due s′ j s i ≡ true) where
+    met-alike : alike (at s i) (at s′ j) ≡ true
+    met-alike = is-true _ (λ q.
+        let x = due-first s i s′ j d in
+        let y = due-first s′ j s i e in
+        true≢false (sym (table-ordered .trichotomy (at s i) (at s′ j) (y .1 (x .0)) q) ∙ x .1 (y .0)))
 
-  module _ (p : Passed ts′ hs′ ws′ m′ (getD ts i 0) (getD hs i 0) j) (d : due i m ts hs j m′ ts′ hs′ ≡ true) where
-    place : j ≡ position (edge (getD ts i 0) (getD hs i 0) 0) (edges ts′ hs′ ws′ m′)
-    place = passed-position n ts′ hs′ ws′ m′ (getD ts i 0) (getD hs i 0) j r′ a′ p (due-first i m ts hs j m′ ts′ hs′ d .1)
-
-    -- the pair stands nowhere in the other table
-    lone-counterpart : due j m′ ts′ hs′ i m ts hs ≡ false → counterpart (edges ts′ hs′ ws′ m′) (edgeAt ts hs ws i) ≡ 0
-    lone-counterpart e =
-        let f = find-other ts′ hs′ ws′ m′ r′ n a′ (getD ts i 0) (getD hs i 0) j place (λ l x y. apart l x y) in
-        counterpart-none (edges ts′ hs′ ws′ m′) (edgeAt ts hs ws i) (absent-present (getD ts i 0) (getD hs i 0) (getD ws i 0) (edges ts′ hs′ ws′ m′) (sym f))
-      where
-        apart : j < m′ → getD ts′ j 0 ≡ getD ts i 0 → getD hs′ j 0 ≡ getD hs i 0 → ⊥
-        apart l x y =
-            let z = due-later j m′ ts′ hs′ i m ts hs e l in
-            let q = table-ordered .apart (edge (getD ts i 0) (getD hs i 0) 0) (edge (getD ts′ j 0) (getD hs′ j 0) 0) (z .1) in
-            let o : alike (edge (getD ts i 0) (getD hs i 0) 0) (edge (getD ts′ j 0) (getD hs′ j 0) 0) ≡ true = rw (x, y, eq-eqb (getD ts i 0) (getD ts i 0) refl, eq-eqb (getD hs i 0) (getD hs i 0) refl) in
-            true≢false (sym o ∙ q)
-
-  -- the edge of the pair in the other table is the one at hand
-  met-counterpart : due i m ts hs j m′ ts′ hs′ ≡ true → due j m′ ts′ hs′ i m ts hs ≡ true → counterpart (edges ts′ hs′ ws′ m′) (edgeAt ts hs ws i) ≡ getD ws′ j 0
-  met-counterpart d e =
-      let q = met-pair d e in
-      rules-single n (edges ts′ hs′ ws′ m′) a′ .at (edgeAt ts hs ws i) (edgeAt ts′ hs′ ws′ j) (edges-mem ts′ hs′ ws′ m′ r′ j (due-first j m′ ts′ hs′ i m ts hs e .0))
-      (ends-pair (edgeAt ts hs ws i) (edgeAt ts′ hs′ ws′ j) (sym (q .0)) (sym (q .1)))
+    met-counterpart : counterpart (all s′) (at s i) ≡ at s′ j .weight
+    met-counterpart = rules-single n (all s′) (s′ .sound) .at (at s i) (at s′ j) (edges-mem _ _ _ _ (s′ .room) j (due-first s′ j s i e .0)) met-alike
 
   -- what precedes the edge at hand after a step
-  pub passed-step : (i < m → Passed ts′ hs′ ws′ m′ (getD ts i 0) (getD hs i 0) j) → (b c : Bool) → due i m ts hs j m′ ts′ hs′ ≡ b → due j m′ ts′ hs′ i m ts hs ≡ c
-      → (i′ j′ : ℕ) → i′ ≡ cond b (i + 1) i → j′ ≡ cond c (j + 1) j → i′ < m → Passed ts′ hs′ ws′ m′ (getD ts i′ 0) (getD hs i′ 0) j′
-  passed-step p true c d e i′ j′ x y l =
-      rw x
-      (passed-next n ts hs ws m r a i (rw x at l) ts′ hs′ ws′ m′ j c (p (due-first i m ts hs j m′ ts′ hs′ d .0))
-      (λ q. let o = e ∙ q in let z = met-pair d o in (due-first j m′ ts′ hs′ i m ts hs o .0, z .0, z .1)) j′ y)
-  passed-step p false true d e i′ j′ x y l =
-      let k : i < m = rw x at l in
-      let z = due-later i m ts hs j m′ ts′ hs′ d k in
-      rw (x, y) (passed-more (p k) (z .0) (z .1))
-  passed-step p false false d e i′ j′ x y l = absurd (due-some i m ts hs j m′ ts′ hs′ d e (rw x at l))
-
--- ---- the words of a step
-
-module _ (n m : ℕ) (ts hs ws : List ℕ) (m′ : ℕ) (ts′ hs′ ws′ : List ℕ) (t : Tables n m ts hs ws m′ ts′ hs′ ws′) (i j : ℕ) (go : (i < m) ⊎ (j < m′))
-    (b c : Bool) (d : b ≡ due i m ts hs j m′ ts′ hs′) (h : c ≡ due j m′ ts′ hs′ i m ts hs) where
-  pub old-on : b ≡ true → i < m
-  old-on q = due-first i m ts hs j m′ ts′ hs′ (sym d ∙ q) .0
-
-  pub new-on : c ≡ true → j < m′
-  new-on q = due-first j m′ ts′ hs′ i m ts hs (sym h ∙ q) .0
-
-  pub other-on : b ≡ false → j < m′
-  other-on q = ⊎-elim (λ l. due-later i m ts hs j m′ ts′ hs′ (sym d ∙ q) l .0) (λ l. l) go
-
-  pub tail-low : (x : ℕ) → x ≡ cond b (getD ts i 0) (getD ts′ j 0) → x < n
-  tail-low x e = pick b refl e
+  passed-step : (i < s .count → Past s′ (at s i) j) → (b c : Bool) → due s i s′ j ≡ b → due s′ j s i ≡ c → cond b (i + 1) i < s .count → Past s′ (at s (cond b (i + 1) i)) (cond c (j + 1) j)
+  passed-step p true c d e l = on c e
     where
-      pick : (q : Bool) → b ≡ q → x ≡ cond q (getD ts i 0) (getD ts′ j 0) → x < n
-      pick true q e = rw e (tails-below n m ts hs ws (t .old .1) (t .old .2) i (old-on q))
-      pick false q e = rw e (tails-below n m′ ts′ hs′ ws′ (t .new .1) (t .new .2) j (other-on q))
+      kept : Past s′ (at s (i + 1)) j
+      kept = let q = p (omega arith) in record { within = q .within; before = λ k o. table-ordered .transitive (at s′ k) (at s i) (at s (i + 1)) (q .before k o) (rises s i (i + 1) (omega arith) l) }
 
-  pub head-low : (x : ℕ) → x ≡ cond b (getD hs i 0) (getD hs′ j 0) → x < n
-  head-low x e = pick b refl e
-    where
-      pick : (q : Bool) → b ≡ q → x ≡ cond q (getD hs i 0) (getD hs′ j 0) → x < n
-      pick true q e = rw e (heads-below n m ts hs ws (t .old .1) (t .old .2) i (old-on q))
-      pick false q e = rw e (heads-below n m′ ts′ hs′ ws′ (t .new .1) (t .new .2) j (other-on q))
+      on : (c : Bool) → due s′ j s i ≡ c → Past s′ (at s (i + 1)) (cond c (j + 1) j)
+      on true e =
+          let z = pair-ends (at s i) (at s′ j) (met-alike d e) in
+          passed-more s′ (at s (i + 1)) j kept (due-first s′ j s i e .0) (rw (← (z .0), ← (z .1)) (rises s i (i + 1) (omega arith) l))
+      on false e = kept
+  passed-step p false true d e l = let z = due-later s i s′ j d l in passed-more s′ (at s i) j (p l) (z .0) (z .1)
+  passed-step p false false d e l = absurd (due-some d e l)
 
-  pub old-low : (x : ℕ) → x ≡ cond b (getD ws i 0) 0 → x ≤ maxWeight
-  old-low x e = pick b refl e
-    where
-      pick : (q : Bool) → b ≡ q → x ≡ cond q (getD ws i 0) 0 → x ≤ maxWeight
-      pick true q e = rw e (weights-range n m ts hs ws (t .old .1) (t .old .2) i (old-on q) .1)
-      pick false q e = omega arith
+-- ---- a step
 
-  pub new-low : (x : ℕ) → x ≡ cond c (getD ws′ j 0) 0 → x ≤ maxWeight
-  new-low x e = pick c refl e
-    where
-      pick : (q : Bool) → c ≡ q → x ≡ cond q (getD ws′ j 0) 0 → x ≤ maxWeight
-      pick true q e = rw e (weights-range n m′ ts′ hs′ ws′ (t .new .1) (t .new .2) j (new-on q) .1)
-      pick false q e = omega arith
+pub record Step {n : ℕ} (s s′ : Kept n) (i j : ℕ) (b c : Bool) : Type 0 where
+  pub go : (i < s .count) ⊎ (j < s′ .count)
+  pub old : b ≡ due s i s′ j
+  pub new : c ≡ due s′ j s i
 
-  pub step-on : (i′ j′ : ℕ) → i′ ≡ cond b (i + 1) i → j′ ≡ cond c (j + 1) j → i + j < i′ + j′
-  step-on i′ j′ x y = pick b c refl refl x y
-    where
-      pick : (q r : Bool) → b ≡ q → c ≡ r → i′ ≡ cond q (i + 1) i → j′ ≡ cond r (j + 1) j → i + j < i′ + j′
-      pick true true q r x y = omega arith
-      pick true false q r x y = omega arith
-      pick false true q r x y = omega arith
-      pick false false q r x y = absurd (⊎-elim (due-some i m ts hs j m′ ts′ hs′ (sym d ∙ q) (sym h ∙ r)) (due-some j m′ ts′ hs′ i m ts hs (sym h ∙ r) (sym d ∙ q)) go)
+pub step-flip : {n : ℕ} {s s′ : Kept n} {i j : ℕ} {b c : Bool} → Step s s′ i j b c → Step s′ s j i c b
+step-flip p = record { go = ⊎-elim inr inl (p .go); old = p .new; new = p .old }
+
+module _ {n : ℕ} {s s′ : Kept n} {i j : ℕ} where
+  step-none : Step s s′ i j false false → ⊥
+  step-none p = ⊎-elim (due-some s i s′ j (sym (p .old)) (sym (p .new))) (due-some s′ j s i (sym (p .new)) (sym (p .old))) (p .go)
+
+  module _ {b c : Bool} (p : Step s s′ i j b c) where
+    pub step-due : b ≡ true → i < s .count
+    step-due q = due-first s i s′ j (sym (p .old) ∙ q) .0
+
+    pub step-other : b ≡ false → j < s′ .count
+    step-other q = ⊎-elim (λ l. due-later s i s′ j (sym (p .old) ∙ q) l .0) (λ l. l) (p .go)
+
+  pub step-on : (b c : Bool) → Step s s′ i j b c → i + j < cond b (i + 1) i + cond c (j + 1) j
+  step-on true true p = omega arith
+  step-on true false p = omega arith
+  step-on false true p = omega arith
+  step-on false false p = absurd (step-none p)
 
 -- ---- what is listed
 
+abbrev Noted : List Edge → ℕ → Edge → ℕ → (ℕ → Edge) → Type 0
+Noted fs i e w A = ((a : ℕ) × (a < i) × (A a ≡ e)) × (counterpart fs e ≡ w) × (differs fs e ≡ true)
+
 pub record Half (fs : List Edge) (i g : ℕ) (f : ℕ → Edge) (o : ℕ → ℕ) (A : ℕ → Edge) : Type 0 where
-  pub among : (k : ℕ) → k < g → 0 < f k .weight → (a : ℕ) × (a < i) × (A a ≡ f k)
-  pub other : (k : ℕ) → k < g → 0 < f k .weight → counterpart fs (f k) ≡ o k
-  pub apart : (k : ℕ) → k < g → 0 < f k .weight → differs fs (f k) ≡ true
-  pub all : (a : ℕ) → a < i → differs fs (A a) ≡ true → (k : ℕ) × (k < g) × (f k ≡ A a)
+  pub each : (k : ℕ) → k < g → 0 < f k .weight → Noted fs i (f k) (o k) A
+  pub every : (a : ℕ) → a < i → differs fs (A a) ≡ true → (k : ℕ) × (k < g) × (f k ≡ A a)
 
-pub half-none : (fs : List Edge) (f : ℕ → Edge) (o : ℕ → ℕ) (A : ℕ → Edge) → Half fs 0 0 f o A
-half-none fs f o A = record { among = λ k l. absurd (omega arith); other = λ k l. absurd (omega arith); apart = λ k l. absurd (omega arith); all = λ a l. absurd (omega arith) }
+half-none : (fs : List Edge) (f : ℕ → Edge) (o : ℕ → ℕ) (A : ℕ → Edge) → Half fs 0 0 f o A
+half-none fs f o A = record { each = λ k l. absurd (omega arith); every = λ a l. absurd (omega arith) }
 
--- what was listed stays, one change more is listed, and i′ edges are gone past
-module _ (fs : List Edge) (i i′ g : ℕ) (f h : ℕ → Edge) (o p : ℕ → ℕ) (A : ℕ → Edge) (up : i ≤ i′) (s : (k : ℕ) → k < g → h k ≡ f k) (u : (k : ℕ) → k < g → p k ≡ o k)
-    (t : Half fs i g f o A) where
-  half-more : (0 < h g .weight → ((a : ℕ) × (a < i′) × (A a ≡ h g)) × (counterpart fs (h g) ≡ p g) × (differs fs (h g) ≡ true)) → ((a : ℕ) → i ≤ a → a < i′ → differs fs (A a) ≡ true → h g ≡ A a)
-      → Half fs i′ (g + 1) h p A
-  half-more z y = record {
-    among = λ k l w. old k l w (decLt k g);
-    other = λ k l w. out k l w (decLt k g);
-    apart = λ k l w. off k l w (decLt k g);
-    all = λ a l r. every a l r (decLt a i);
+module _ {fs : List Edge} {i g : ℕ} {f : ℕ → Edge} {o : ℕ → ℕ} {A : ℕ → Edge} (t : Half fs i g f o A) where
+  -- by other lists that have the same
+  half-moved : (h : ℕ → Edge) (p : ℕ → ℕ) → ((k : ℕ) → k < g → h k ≡ f k) → ((k : ℕ) → k < g → p k ≡ o k) → Half fs i g h p A
+  half-moved h p s u = record {
+    each = λ k l w. let x = s k l in rw (x, u k l) (t .each k l (rw x at w));
+    every = λ a l r. let (k, b, e) = t .every a l r in (k, b, s k b ∙ e);
   }
+
+  -- more is listed, and more edges are gone past
+  half-more : (i′ g′ : ℕ) → i ≤ i′ → g ≤ g′ → ((k : ℕ) → g ≤ k → k < g′ → 0 < f k .weight → Noted fs i′ (f k) (o k) A)
+      → ((a : ℕ) → i ≤ a → a < i′ → differs fs (A a) ≡ true → (k : ℕ) × (k < g′) × (f k ≡ A a)) → Half fs i′ g′ f o A
+  half-more i′ g′ up on z y = record { each = λ k l w. old k l w (decLt k g); every = λ a l r. past a l r (decLt a i) }
     where
-      end : (k : ℕ) → k < g + 1 → (k < g → ⊥) → k ≡ g
-      end k l d = omega arith
+      old : (k : ℕ) → k < g′ → 0 < f k .weight → Dec (k < g) → Noted fs i′ (f k) (o k) A
+      old k l w (yes b) = let ((a, c, e), q, r) = t .each k b w in ((a, omega arith, e), q, r)
+      old k l w (no d) = z k (omega arith) l w
 
-      old : (k : ℕ) → k < g + 1 → 0 < h k .weight → Dec (k < g) → (a : ℕ) × (a < i′) × (A a ≡ h k)
-      old k l w (yes b) = let x = s k b in let q = t .among k b (rw x at w) in (q .0, (let o : q .0 < i = q .1 in omega arith), q .2 ∙ sym x)
-      old k l w (no d) = let e = end k l d in rw e (z (rw e at w) .0)
+      past : (a : ℕ) → a < i′ → differs fs (A a) ≡ true → Dec (a < i) → (k : ℕ) × (k < g′) × (f k ≡ A a)
+      past a l r (yes b) = let (k, c, e) = t .every a b r in (k, omega arith, e)
+      past a l r (no d) = y a (omega arith) l r
 
-      out : (k : ℕ) → k < g + 1 → 0 < h k .weight → Dec (k < g) → counterpart fs (h k) ≡ p k
-      out k l w (yes b) = let x = s k b in ap (counterpart fs) x ∙ t .other k b (rw x at w) ∙ sym (u k b)
-      out k l w (no d) = let e = end k l d in rw e (z (rw e at w) .1)
+  -- one edge is gone past, and listed
+  half-list : counterpart fs (A i) ≡ o g → o g ≢ A i .weight → f g ≡ A i → Half fs (i + 1) (g + 1) f o A
+  half-list r d e = half-more (i + 1) (g + 1) (omega arith) (omega arith)
+      (λ k l b w. let q : k ≡ g = omega arith in rw (q, e) ((i, omega arith, refl), r, ap not (ne-eqb _ _ (λ z. d (sym r ∙ z)))))
+      (λ a l b q. let p : a ≡ i = omega arith in (g, omega arith, e ∙ ap A (sym p)))
 
-      off : (k : ℕ) → k < g + 1 → 0 < h k .weight → Dec (k < g) → differs fs (h k) ≡ true
-      off k l w (yes b) = let x = s k b in ap (differs fs) x ∙ t .apart k b (rw x at w)
-      off k l w (no d) = let e = end k l d in rw e (z (rw e at w) .2)
-
-      every : (a : ℕ) → a < i′ → differs fs (A a) ≡ true → Dec (a < i) → (k : ℕ) × (k < g + 1) × (h k ≡ A a)
-      every a l r (yes b) = let q = t .all a b r in (q .0, (let o : q .0 < g = q .1 in omega arith), s (q .0) (q .1) ∙ q .2)
-      every a l r (no d) = (g, omega arith, y a (omega arith) l r)
-
-  -- none is listed more, and those that are gone past do not differ
-  half-same : ((a : ℕ) → i ≤ a → a < i′ → differs fs (A a) ≡ false) → Half fs i′ g h p A
-  half-same y = record {
-    among = λ k b w. let x = s k b in let q = t .among k b (rw x at w) in (q .0, (let o : q .0 < i = q .1 in omega arith), q .2 ∙ sym x);
-    other = λ k b w. let x = s k b in ap (counterpart fs) x ∙ t .other k b (rw x at w) ∙ sym (u k b);
-    apart = λ k b w. let x = s k b in ap (differs fs) x ∙ t .apart k b (rw x at w);
-    all = λ a l r. every a l r (decLt a i);
-  }
-    where
-      every : (a : ℕ) → a < i′ → differs fs (A a) ≡ true → Dec (a < i) → (k : ℕ) × (k < g) × (h k ≡ A a)
-      every a l r (yes b) = let q = t .all a b r in (q .0, q .1, s (q .0) (q .1) ∙ q .2)
-      every a l r (no d) = absurd (true≢false (sym r ∙ y a (omega arith) l))
-
--- one edge is gone past
-module _ (fs : List Edge) (i g : ℕ) (f h : ℕ → Edge) (o p : ℕ → ℕ) (A : ℕ → Edge) (s : (k : ℕ) → k < g → h k ≡ f k) (u : (k : ℕ) → k < g → p k ≡ o k)
-    (t : Half fs i g f o A) where
-  this : (a : ℕ) → i ≤ a → a < i + 1 → i ≡ a
-  this a l b = omega arith
-
-  half-list : (c : ℕ) → counterpart fs (A i) ≡ c → c ≢ A i .weight → p g ≡ c → h g ≡ A i → Half fs (i + 1) (g + 1) h p A
-  half-list c r d y e = half-more fs i (i + 1) g f h o p A (omega arith) s u t
-      (λ w. ((i, omega arith, sym e), ap (counterpart fs) e ∙ r ∙ sym y, ap (differs fs) e ∙ ap not (ne-eqb _ _ (λ z. d (sym r ∙ z))))) (λ a l b q. e ∙ ap A (this a l b))
-
-  half-skip : differs fs (A i) ≡ false → Half fs (i + 1) g h p A
-  half-skip r = half-same fs i (i + 1) g f h o p A (omega arith) s u t (λ a l b. ap (λ (x : ℕ). differs fs (A x)) (sym (this a l b)) ∙ r)
+  -- one is, and does not differ
+  half-skip : counterpart fs (A i) ≡ A i .weight → Half fs (i + 1) g f o A
+  half-skip r = half-more (i + 1) g (omega arith) (omega arith) (λ k l b. absurd (omega arith))
+      (λ a l b q. let p : a ≡ i = omega arith in absurd (true≢false (sym q ∙ rw p (ap not (eq-eqb _ _ r)))))
 
   -- none is, and what is listed more has no weight
-  half-stay : h g .weight ≡ 0 → Half fs i (g + 1) h p A
-  half-stay z = half-more fs i i g f h o p A (omega arith) s u t (λ w. absurd (omega arith)) (λ a l b. absurd (omega arith))
+  half-stay : f g .weight ≡ 0 → Half fs i (g + 1) f o A
+  half-stay z = half-more i (g + 1) (omega arith) (omega arith) (λ k l b w. let q : k ≡ g = omega arith in let y : 0 < f g .weight = rw q at w in absurd (omega arith)) (λ a l b. absurd (omega arith))
 
--- ---- a change is stored
-
-abbrev weightBefore : List ℕ → ℕ → ℕ
-weightBefore xs k = before xs k .weight
-
-abbrev weightAfter : List ℕ → ℕ → ℕ
-weightAfter xs k = after xs k .weight
-
-abbrev pub stored : List ℕ → ℕ → ℕ → ℕ → ℕ → ℕ → List ℕ
-stored xs g t h o w = set (set xs (2 * g) (arc t o)) (2 * g + 1) (arc h w)
-
-module _ (xs : List ℕ) (g t h o w : ℕ) (long : 2 * g + 1 < length xs) (small : o < arcWeights) (short : w < arcWeights) where
-  abbrev here : List ℕ
-  here = stored xs g t h o w
-
-  kept-word : (k : ℕ) → k < 2 * g → getD here k 0 ≡ getD xs k 0
-  kept-word k l = getD-set-other (set xs (2 * g) (arc t o)) (2 * g + 1) k (arc h w) 0 (λ q. omega arith) ∙ getD-set-other xs (2 * g) k (arc t o) 0 (λ q. omega arith)
-
-  first-word : getD here (2 * g) 0 ≡ arc t o
-  first-word = getD-set-other (set xs (2 * g) (arc t o)) (2 * g + 1) (2 * g) (arc h w) 0 (λ q. omega arith) ∙ getD-set-same xs (2 * g) (arc t o) 0 (omega arith)
-
-  second-word : getD here (2 * g + 1) 0 ≡ arc h w
-  second-word = getD-set-same (set xs (2 * g) (arc t o)) (2 * g + 1) (arc h w) 0 (let z = length-set xs (2 * g) (arc t o) in omega arith)
-
-  stored-before : before here g ≡ edge t h o
-  stored-before = rw (first-word, second-word, head-arc t o small, weight-arc t o small, head-arc h w short)
-
-  stored-after : after here g ≡ edge t h w
-  stored-after = rw (first-word, second-word, head-arc t o small, head-arc h w short, weight-arc h w short)
-
-  kept-before : (k : ℕ) → k < g → before here k ≡ before xs k
-  kept-before k l = let x = kept-word (2 * k) (omega arith) in let y = kept-word (2 * k + 1) (omega arith) in rw (x, y)
-
-  kept-after : (k : ℕ) → k < g → after here k ≡ after xs k
-  kept-after k l = let x = kept-word (2 * k) (omega arith) in let y = kept-word (2 * k + 1) (omega arith) in rw (x, y)
-
-  kept-old : (k : ℕ) → k < g → weightBefore here k ≡ weightBefore xs k
-  kept-old k l = ap (λ (x : Edge). x .weight) (kept-before k l)
-
-  kept-new : (k : ℕ) → k < g → weightAfter here k ≡ weightAfter xs k
-  kept-new k l = ap (λ (x : Edge). x .weight) (kept-after k l)
-
-  stored-old : weightBefore here g ≡ o
-  stored-old = ap (λ (x : Edge). x .weight) stored-before
-
-  stored-new : weightAfter here g ≡ w
-  stored-new = ap (λ (x : Edge). x .weight) stored-after
-
-  stored-inside : (n : ℕ) → t < n → h < n → ((k : ℕ) → k < 2 * g → arcHead (getD xs k 0) < n) → (k : ℕ) → k < 2 * (g + 1) → arcHead (getD here k 0) < n
-  stored-inside n a b c k l = pick (decLt k (2 * g)) (ℕ-discrete k (2 * g))
-    where
-      pick : Dec (k < 2 * g) → Dec (k ≡ 2 * g) → arcHead (getD here k 0) < n
-      pick (yes d) e = rw (kept-word k d) (c k d)
-      pick (no d) (yes e) = rw (e, first-word, head-arc t o small) a
-      pick (no d) (no e) = let q : k ≡ 2 * g + 1 = omega arith in rw (q, second-word, head-arc h w short) b
+-- all is gone past
+half-done : {n : ℕ} (s : Kept n) (fs : List Edge) (g : ℕ) (f : ℕ → Edge) (o : ℕ → ℕ) → Half fs (s .count) g f o (at s) → Lists (all s) fs g f o
+half-done s fs g f o t = record {
+  among = λ k b w. let (a, c, e) = t .each k b w .0 in rw (← e) (edges-mem _ _ _ _ (s .room) a c);
+  other = λ k b w. t .each k b w .1;
+  apart = λ k b w. t .each k b w .2;
+  all = λ e m b.
+      let (a, l, v) = all-index s e m in
+      let (k, c, q) = t .every a l (ap (differs fs) v ∙ b) in
+      (k, c, q ∙ v, rw q (at-facts s a l .some-weight));
+  weighs = λ e m. let (a, l, v) = all-index s e m in rw (← v) (at-facts s a l .some-weight);
+}
 
 -- ---- the walk
 
-pub record Walk (n m : ℕ) (ts hs ws : List ℕ) (m′ : ℕ) (ts′ hs′ ws′ xs : List ℕ) (i j g : ℕ) : Type 0 where
-  pub old : Half (edges ts′ hs′ ws′ m′) i g (before xs) (weightAfter xs) (edgeAt ts hs ws)
-  pub new : Half (edges ts hs ws m) j g (after xs) (weightBefore xs) (edgeAt ts′ hs′ ws′)
-  pub behind : i < m → Passed ts′ hs′ ws′ m′ (getD ts i 0) (getD hs i 0) j
-  pub ahead : j < m′ → Passed ts hs ws m (getD ts′ j 0) (getD hs′ j 0) i
-  pub inside : (k : ℕ) → k < 2 * g → arcHead (getD xs k 0) < n
-  pub low : i ≤ m
-  pub low′ : j ≤ m′
+pub record Walk {n : ℕ} (s s′ : Kept n) (f h : ℕ → Edge) (i j g : ℕ) : Type 0 where
+  pub old : Half (all s′) i g f (λ k. h k .weight) (at s)
+  pub new : Half (all s) j g h (λ k. f k .weight) (at s′)
+  pub behind : i < s .count → Past s′ (at s i) j
+  pub ahead : j < s′ .count → Past s (at s′ j) i
+  pub low : i ≤ s .count
+  pub low′ : j ≤ s′ .count
   pub few : g ≤ i + j
 
-module _ (n m : ℕ) (ts hs ws : List ℕ) (m′ : ℕ) (ts′ hs′ ws′ : List ℕ) where
-  pub walk-start : (xs : List ℕ) → Walk n m ts hs ws m′ ts′ hs′ ws′ xs 0 0 0
-  walk-start xs = record {
-    old = half-none _ _ _ _;
-    new = half-none _ _ _ _;
-    behind = λ l. passed-none ts′ hs′ ws′ m′ _ _;
-    ahead = λ l. passed-none ts hs ws m _ _;
-    inside = λ k l. absurd (omega arith);
-    low = omega arith;
-    low′ = omega arith;
-    few = omega arith;
+pub walk-start : {n : ℕ} (s s′ : Kept n) (f h : ℕ → Edge) → Walk s s′ f h 0 0 0
+walk-start s s′ f h = record {
+  old = half-none _ _ _ _;
+  new = half-none _ _ _ _;
+  behind = λ l. passed-none s′ (at s 0);
+  ahead = λ l. passed-none s (at s′ 0);
+  low = omega arith;
+  low′ = omega arith;
+  few = omega arith;
+}
+
+-- the tables change places
+walk-flip : {n : ℕ} {s s′ : Kept n} {f h : ℕ → Edge} {i j g : ℕ} → Walk s s′ f h i j g → Walk s′ s h f j i g
+walk-flip w = record { old = w .new; new = w .old; behind = w .ahead; ahead = w .behind; low = w .low′; low′ = w .low; few = let z = w .few in omega arith }
+
+module _ {n : ℕ} {s s′ : Kept n} {f h : ℕ → Edge} {i j g : ℕ} (w : Walk s s′ f h i j g) where
+  -- by other lists that have the same
+  walk-moved : (f′ h′ : ℕ → Edge) → ((k : ℕ) → k < g → f′ k ≡ f k) → ((k : ℕ) → k < g → h′ k ≡ h k) → Walk s s′ f′ h′ i j g
+  walk-moved f′ h′ x y = record {
+    old = half-moved (w .old) _ _ x (λ k l. ap (λ (e : Edge). e .weight) (y k l));
+    new = half-moved (w .new) _ _ y (λ k l. ap (λ (e : Edge). e .weight) (x k l));
+    behind = w .behind;
+    ahead = w .ahead;
+    low = w .low;
+    low′ = w .low′;
+    few = w .few;
   }
 
-  module _ (t : Tables n m ts hs ws m′ ts′ hs′ ws′) (xs : List ℕ) (i j g : ℕ) (wk : Walk n m ts hs ws m′ ts′ hs′ ws′ xs i j g) (go : (i < m) ⊎ (j < m′)) (long : 2 * g + 1 < length xs) where
-    abbrev e : Edge
-    e = edgeAt ts hs ws i
+  made : (b c : Bool) → due s i s′ j ≡ b → due s′ j s i ≡ c → (g′ : ℕ) → g′ ≤ cond b (i + 1) i + cond c (j + 1) j → Half (all s′) (cond b (i + 1) i) g′ f (λ k. h k .weight) (at s)
+      → Half (all s) (cond c (j + 1) j) g′ h (λ k. f k .weight) (at s′) → Walk s s′ f h (cond b (i + 1) i) (cond c (j + 1) j) g′
+  made b c d e g′ l old new = record {
+    old = old;
+    new = new;
+    behind = passed-step s i s′ j (w .behind) b c d e;
+    ahead = passed-step s′ j s i (w .ahead) c b e d;
+    low = due-low s i s′ j b d (w .low);
+    low′ = due-low s′ j s i c e (w .low′);
+    few = l;
+  }
 
-    abbrev f : Edge
-    f = edgeAt ts′ hs′ ws′ j
+  -- both edges are of one pair
+  step-both : due s i s′ j ≡ true → due s′ j s i ≡ true → f g ≡ at s i → h g ≡ at s′ j → (r : Bool) → eqb (f g .weight) (h g .weight) ≡ r → Walk s s′ f h (i + 1) (j + 1) (cond r g (g + 1))
+  step-both d e p q r t = pick r t (met-counterpart s i s′ j d e) (met-counterpart s′ j s i e d)
+    where
+      pick : (r : Bool) → eqb (f g .weight) (h g .weight) ≡ r → counterpart (all s′) (at s i) ≡ at s′ j .weight → counterpart (all s) (at s′ j) ≡ at s i .weight → Walk s s′ f h (i + 1) (j + 1) (cond r g (g + 1))
+      pick true t a b = let z = eqb-true (f g .weight) (h g .weight) t in let u = w .few in made true true d e g (omega arith) (half-skip (w .old) (cc)) (half-skip (w .new) (cc))
+      pick false t a b = let z = eqb-false (f g .weight) (h g .weight) t in let u = w .few in made true true d e (g + 1) (omega arith) (half-list (w .old) (cc) (λ y. z (cc)) p) (half-list (w .new) (cc) (λ y. z (cc)) q)
 
-    made : (b c : Bool) → due i m ts hs j m′ ts′ hs′ ≡ b → due j m′ ts′ hs′ i m ts hs ≡ c → (x y o w g′ : ℕ) → x < n → y < n → o < arcWeights → w < arcWeights → g′ ≤ g + 1 → g′ ≤ cond b (i + 1) i + cond c (j + 1) j
-        → Half (edges ts′ hs′ ws′ m′) (cond b (i + 1) i) g′ (before (stored xs g x y o w)) (weightAfter (stored xs g x y o w)) (edgeAt ts hs ws)
-        → Half (edges ts hs ws m) (cond c (j + 1) j) g′ (after (stored xs g x y o w)) (weightBefore (stored xs g x y o w)) (edgeAt ts′ hs′ ws′)
-        → Walk n m ts hs ws m′ ts′ hs′ ws′ (stored xs g x y o w) (cond b (i + 1) i) (cond c (j + 1) j) g′
-    made b c d h x y o w g′ lx ly so sw lg fg old new = record {
-      old = old;
-      new = new;
-      behind = passed-step n m ts hs ws (t .old .1) (t .old .2) m′ ts′ hs′ ws′ (t .new .1) (t .new .2) i j (wk .behind) b c d h _ _ refl refl;
-      ahead = passed-step n m′ ts′ hs′ ws′ (t .new .1) (t .new .2) m ts hs ws (t .old .1) (t .old .2) j i (wk .ahead) c b h d _ _ refl refl;
-      inside = λ k l. stored-inside xs g x y o w long so sw n lx ly (wk .inside) k (omega arith);
-      low = up b d;
-      low′ = up′ c h;
-      few = fg;
-    }
-      where
-        up : (b : Bool) → due i m ts hs j m′ ts′ hs′ ≡ b → cond b (i + 1) i ≤ m
-        up true d = let z = due-first i m ts hs j m′ ts′ hs′ d .0 in omega arith
-        up false d = wk .low
+  -- an edge of one table alone
+  step-one : due s i s′ j ≡ true → due s′ j s i ≡ false → f g ≡ at s i → h g .weight ≡ 0 → Walk s s′ f h (i + 1) j (g + 1)
+  step-one d e p q =
+      let l = due-first s i s′ j d .0 in
+      let u = w .few in
+      let v = at-facts s i l .some-weight in
+      made true false d e (g + 1) (omega arith)
+      (half-list (w .old) (passed-counterpart s′ (at s i) j (w .behind l) (λ o. due-later s′ j s i e o .1) ∙ sym q) (λ z. omega arith) p) (half-stay (w .new) q)
 
-        up′ : (c : Bool) → due j m′ ts′ hs′ i m ts hs ≡ c → cond c (j + 1) j ≤ m′
-        up′ true h = let z = due-first j m′ ts′ hs′ i m ts hs h .0 in omega arith
-        up′ false h = wk .low′
+-- ---- a change is stored
 
-    -- both edges are of one pair
-    step-both : due i m ts hs j m′ ts′ hs′ ≡ true → due j m′ ts′ hs′ i m ts hs ≡ true → (q : Bool) → eqb (e .weight) (f .weight) ≡ q
-        → Walk n m ts hs ws m′ ts′ hs′ ws′ (stored xs g (e .tail) (e .head) (e .weight) (f .weight)) (i + 1) (j + 1) (cond q g (g + 1))
-    step-both d h q k = pick q k
-      where
-        li : i < m
-        li = due-first i m ts hs j m′ ts′ hs′ d .0
+module _ (xs : List ℕ) (g t h o w : ℕ) (long : 2 * g + 1 < length xs) (small : o < arcWeights) (short : w < arcWeights) where
+  abbrev stored : List ℕ
+  stored = put xs g (arc t o) (arc h w)
 
-        lj : j < m′
-        lj = due-first j m′ ts′ hs′ i m ts hs h .0
+  kept-word : (k : ℕ) → k < 2 * g → getD stored k 0 ≡ getD xs k 0
+  kept-word k l = put-other xs g _ _ k (λ q. omega arith) (λ q. omega arith)
 
-        lx : e .tail < n
-        lx = tails-below n m ts hs ws (t .old .1) (t .old .2) i li
+  stored-before : before stored g ≡ edge t h o
+  stored-before = rw (put-first xs g (arc t o) (arc h w) long, put-second xs g (arc t o) (arc h w) long, head-arc t o small, weight-arc t o small, head-arc h w short)
 
-        ly : e .head < n
-        ly = heads-below n m ts hs ws (t .old .1) (t .old .2) i li
+  stored-after : after stored g ≡ edge t h w
+  stored-after = rw (put-first xs g (arc t o) (arc h w) long, put-second xs g (arc t o) (arc h w) long, head-arc t o small, head-arc h w short, weight-arc h w short)
 
-        sx : e .weight < arcWeights
-        sx = let z = weights-range n m ts hs ws (t .old .1) (t .old .2) i li .1 in omega arith
+  stored-inside : (n : ℕ) → t < n → h < n → ((k : ℕ) → k < 2 * g → arcHead (getD xs k 0) < n) → (k : ℕ) → k < 2 * (g + 1) → arcHead (getD stored k 0) < n
+  stored-inside n a b c k l = pick (decLt k (2 * g)) (ℕ-discrete k (2 * g))
+    where
+      pick : Dec (k < 2 * g) → Dec (k ≡ 2 * g) → arcHead (getD stored k 0) < n
+      pick (yes d) e = rw (kept-word k d) (c k d)
+      pick (no d) (yes e) = rw (e, put-first xs g (arc t o) (arc h w) long, head-arc t o small) a
+      pick (no d) (no e) = let q : k ≡ 2 * g + 1 = omega arith in rw (q, put-second xs g (arc t o) (arc h w) long, head-arc h w short) b
 
-        sy : f .weight < arcWeights
-        sy = let z = weights-range n m′ ts′ hs′ ws′ (t .new .1) (t .new .2) j lj .1 in omega arith
+-- ---- the words of a step
 
-        pair : (f .tail ≡ e .tail) × (f .head ≡ e .head)
-        pair = met-pair n m ts hs ws (t .old .1) (t .old .2) m′ ts′ hs′ ws′ (t .new .1) (t .new .2) i j d h
+pub record Words {n : ℕ} (s s′ : Kept n) (i j : ℕ) (b c : Bool) (x y o w : ℕ) : Type 0 where
+  pub step : Step s s′ i j b c
+  pub tail : x ≡ cond b (at s i .tail) (at s′ j .tail)
+  pub head : y ≡ cond b (at s i .head) (at s′ j .head)
+  pub old : o ≡ cond b (at s i .weight) 0
+  pub new : w ≡ cond c (at s′ j .weight) 0
 
-        gone : counterpart (edges ts′ hs′ ws′ m′) e ≡ f .weight
-        gone = met-counterpart n m ts hs ws (t .old .1) (t .old .2) m′ ts′ hs′ ws′ (t .new .1) (t .new .2) i j d h
+module _ {n : ℕ} {s s′ : Kept n} {i j : ℕ} {b c : Bool} {x y o w : ℕ} (p : Words s s′ i j b c x y o w) where
+  pub words-low : (x < n) × (y < n) × (o ≤ maxWeight) × (w ≤ maxWeight)
+  words-low = (
+    rw (p .tail) (either-below b (λ q. at-facts s i (step-due (p .step) q) .tail-below) (λ q. at-facts s′ j (step-other (p .step) q) .tail-below)),
+    rw (p .head) (either-below b (λ q. at-facts s i (step-due (p .step) q) .head-below) (λ q. at-facts s′ j (step-other (p .step) q) .head-below)),
+    rw (p .old) (weight-most b (λ q. at-facts s i (step-due (p .step) q) .weight-most)),
+    rw (p .new) (weight-most c (λ q. at-facts s′ j (step-due (step-flip (p .step)) q) .weight-most)),
+  )
+    where
+      either-below : (b : Bool) {x y : ℕ} → (b ≡ true → x < n) → (b ≡ false → y < n) → cond b x y < n
+      either-below true f g = f refl
+      either-below false f g = g refl
 
-        come : counterpart (edges ts hs ws m) f ≡ e .weight
-        come = met-counterpart n m′ ts′ hs′ ws′ (t .new .1) (t .new .2) m ts hs ws (t .old .1) (t .old .2) j i h d
+      weight-most : (b : Bool) {x : ℕ} → (b ≡ true → x ≤ maxWeight) → cond b x 0 ≤ maxWeight
+      weight-most true f = f refl
+      weight-most false f = omega arith
 
-        -- equal weights do not differ
-        level : (fs : List Edge) (x : Edge) (w : ℕ) → counterpart fs x ≡ w → w ≡ x .weight → differs fs x ≡ false
-        level fs x w p q = ap not (eq-eqb _ _ (p ∙ q))
+-- ---- the walk by the words of a list
 
-        pick : (q : Bool) → eqb (e .weight) (f .weight) ≡ q → Walk n m ts hs ws m′ ts′ hs′ ws′ (stored xs g (e .tail) (e .head) (e .weight) (f .weight)) (i + 1) (j + 1) (cond q g (g + 1))
-        pick true k =
-            let z = eqb-true (e .weight) (f .weight) k in
-            made true true d h (e .tail) (e .head) (e .weight) (f .weight) g lx ly sx sy (omega arith) (let z = wk .few in omega arith)
-            (half-skip _ i g (before xs) _ (weightAfter xs) _ (edgeAt ts hs ws) (kept-before xs g (e .tail) (e .head) (e .weight) (f .weight) long sx sy) (kept-new xs g (e .tail) (e .head) (e .weight) (f .weight) long sx sy) (wk .old) (level _ e (f .weight) gone (sym z)))
-            (half-skip _ j g (after xs) _ (weightBefore xs) _ (edgeAt ts′ hs′ ws′) (kept-after xs g (e .tail) (e .head) (e .weight) (f .weight) long sx sy) (kept-old xs g (e .tail) (e .head) (e .weight) (f .weight) long sx sy) (wk .new) (level _ f (e .weight) come z))
-        pick false k =
-            let other = eqb-false (e .weight) (f .weight) k in
-            made true true d h (e .tail) (e .head) (e .weight) (f .weight) (g + 1) lx ly sx sy (omega arith) (let z = wk .few in omega arith)
-            (half-list _ i g (before xs) _ (weightAfter xs) _ (edgeAt ts hs ws) (kept-before xs g (e .tail) (e .head) (e .weight) (f .weight) long sx sy) (kept-new xs g (e .tail) (e .head) (e .weight) (f .weight) long sx sy) (wk .old) (f .weight) gone (λ z. other (sym z)) (stored-new xs g (e .tail) (e .head) (e .weight) (f .weight) long sx sy) (stored-before xs g (e .tail) (e .head) (e .weight) (f .weight) long sx sy))
-            (half-list _ j g (after xs) _ (weightBefore xs) _ (edgeAt ts′ hs′ ws′) (kept-after xs g (e .tail) (e .head) (e .weight) (f .weight) long sx sy) (kept-old xs g (e .tail) (e .head) (e .weight) (f .weight) long sx sy) (wk .new) (e .weight) come other (stored-old xs g (e .tail) (e .head) (e .weight) (f .weight) long sx sy)
-            (stored-after xs g (e .tail) (e .head) (e .weight) (f .weight) long sx sy ∙ (λ z. edge (sym (pair .0) z) (sym (pair .1) z) (f .weight))))
+abbrev pub Listed : {n : ℕ} → Kept n → Kept n → List ℕ → ℕ → ℕ → ℕ → Type 0
+Listed {n} s s′ xs i j g = Walk s s′ (before xs) (after xs) i j g × ((k : ℕ) → k < 2 * g → arcHead (getD xs k 0) < n)
 
-    -- an edge of the old table alone
-    step-old : due i m ts hs j m′ ts′ hs′ ≡ true → due j m′ ts′ hs′ i m ts hs ≡ false
-        → Walk n m ts hs ws m′ ts′ hs′ ws′ (stored xs g (e .tail) (e .head) (e .weight) 0) (i + 1) j (cond (eqb (e .weight) 0) g (g + 1))
-    step-old d h =
-        let li = due-first i m ts hs j m′ ts′ hs′ d .0 in
-        let lx = tails-below n m ts hs ws (t .old .1) (t .old .2) i li in
-        let ly = heads-below n m ts hs ws (t .old .1) (t .old .2) i li in
-        let (w, v) = weights-range n m ts hs ws (t .old .1) (t .old .2) i li in
-        let k : eqb (e .weight) 0 ≡ false = ne-eqb (e .weight) 0 (λ p. omega arith) in
-        rw k
-        (made true false d h (e .tail) (e .head) (e .weight) 0 (g + 1) lx ly (omega arith) (omega arith) (omega arith) (let z = wk .few in omega arith)
-        (half-list _ i g (before xs) _ (weightAfter xs) _ (edgeAt ts hs ws) (kept-before xs g (e .tail) (e .head) (e .weight) 0 long (omega arith) (omega arith)) (kept-new xs g (e .tail) (e .head) (e .weight) 0 long (omega arith) (omega arith)) (wk .old) 0
-        (lone-counterpart n m ts hs ws (t .old .1) (t .old .2) m′ ts′ hs′ ws′ (t .new .1) (t .new .2) i j (wk .behind li) d h) (λ z. omega arith) (stored-new xs g (e .tail) (e .head) (e .weight) 0 long (omega arith) (omega arith)) (stored-before xs g (e .tail) (e .head) (e .weight) 0 long (omega arith) (omega arith)))
-        (half-stay _ j g (after xs) _ (weightBefore xs) _ (edgeAt ts′ hs′ ws′) (kept-after xs g (e .tail) (e .head) (e .weight) 0 long (omega arith) (omega arith)) (kept-old xs g (e .tail) (e .head) (e .weight) 0 long (omega arith) (omega arith)) (wk .new) (stored-new xs g (e .tail) (e .head) (e .weight) 0 long (omega arith) (omega arith))))
+module _ {n : ℕ} (s s′ : Kept n) (xs : List ℕ) (i j g : ℕ) (wk : Listed s s′ xs i j g) where
+  moved : (ys : List ℕ) → ((k : ℕ) → k < 2 * g → getD ys k 0 ≡ getD xs k 0) → Walk s s′ (before ys) (after ys) i j g
+  moved ys e = walk-moved (wk .0) _ _ (λ k l. rw (e (2 * k) (omega arith), e (2 * k + 1) (omega arith))) (λ k l. rw (e (2 * k) (omega arith), e (2 * k + 1) (omega arith)))
 
-    -- an edge of the new table alone
-    step-new : due i m ts hs j m′ ts′ hs′ ≡ false → due j m′ ts′ hs′ i m ts hs ≡ true
-        → Walk n m ts hs ws m′ ts′ hs′ ws′ (stored xs g (f .tail) (f .head) 0 (f .weight)) i (j + 1) (cond (eqb 0 (f .weight)) g (g + 1))
-    step-new d h =
-        let lj = due-first j m′ ts′ hs′ i m ts hs h .0 in
-        let lx = tails-below n m′ ts′ hs′ ws′ (t .new .1) (t .new .2) j lj in
-        let ly = heads-below n m′ ts′ hs′ ws′ (t .new .1) (t .new .2) j lj in
-        let (w, v) = weights-range n m′ ts′ hs′ ws′ (t .new .1) (t .new .2) j lj in
-        let k : eqb 0 (f .weight) ≡ false = ne-eqb 0 (f .weight) (λ p. omega arith) in
-        rw k
-        (made false true d h (f .tail) (f .head) 0 (f .weight) (g + 1) lx ly (omega arith) (omega arith) (omega arith) (let z = wk .few in omega arith)
-        (half-stay _ i g (before xs) _ (weightAfter xs) _ (edgeAt ts hs ws) (kept-before xs g (f .tail) (f .head) 0 (f .weight) long (omega arith) (omega arith)) (kept-new xs g (f .tail) (f .head) 0 (f .weight) long (omega arith) (omega arith)) (wk .old) (stored-old xs g (f .tail) (f .head) 0 (f .weight) long (omega arith) (omega arith)))
-        (half-list _ j g (after xs) _ (weightBefore xs) _ (edgeAt ts′ hs′ ws′) (kept-after xs g (f .tail) (f .head) 0 (f .weight) long (omega arith) (omega arith)) (kept-old xs g (f .tail) (f .head) 0 (f .weight) long (omega arith) (omega arith)) (wk .new) 0
-        (lone-counterpart n m′ ts′ hs′ ws′ (t .new .1) (t .new .2) m ts hs ws (t .old .1) (t .old .2) j i (wk .ahead lj) h d) (λ z. omega arith) (stored-old xs g (f .tail) (f .head) 0 (f .weight) long (omega arith) (omega arith)) (stored-after xs g (f .tail) (f .head) 0 (f .weight) long (omega arith) (omega arith))))
+  -- another change can be listed
+  pub walk-room : (i < s .count) ⊎ (j < s′ .count) → g + 1 ≤ s .count + s′ .count
+  walk-room go = let z = wk .0 in ⊎-elim (λ l. omega arith) (λ l. omega arith) go
 
-    -- any step
-    pub walk-turn : (b c : Bool) → b ≡ due i m ts hs j m′ ts′ hs′ → c ≡ due j m′ ts′ hs′ i m ts hs → (x y o w : ℕ) → x ≡ cond b (e .tail) (f .tail) → y ≡ cond b (e .head) (f .head) → o ≡ cond b (e .weight) 0 → w ≡ cond c (f .weight) 0
-        → (zs : List ℕ) → zs ≡ stored xs g x y o w → (g′ i′ j′ : ℕ) → g′ ≡ cond (eqb o w) g (g + 1) → i′ ≡ cond b (i + 1) i → j′ ≡ cond c (j + 1) j → Walk n m ts hs ws m′ ts′ hs′ ws′ zs i′ j′ g′
-    walk-turn true true d h x y o w px py po pw zs pz g′ i′ j′ pg pi pj = rw (pz, pg, pi, pj, px, py, po, pw) (step-both (sym d) (sym h) (eqb (e .weight) (f .weight)) refl)
-    walk-turn true false d h x y o w px py po pw zs pz g′ i′ j′ pg pi pj = rw (pz, pg, pi, pj, px, py, po, pw) (step-old (sym d) (sym h))
-    walk-turn false true d h x y o w px py po pw zs pz g′ i′ j′ pg pi pj = rw (pz, pg, pi, pj, px, py, po, pw) (step-new (sym d) (sym h))
-    walk-turn false false d h x y o w px py po pw zs pz g′ i′ j′ pg pi pj =
-        absurd (⊎-elim (due-some i m ts hs j m′ ts′ hs′ (sym d) (sym h)) (due-some j m′ ts′ hs′ i m ts hs (sym h) (sym d)) go)
+  -- any step
+  pub walk-turn : 2 * g + 1 < length xs → (b c : Bool) (x y o w : ℕ) → Words s s′ i j b c x y o w → Listed s s′ (put xs g (arc x o) (arc y w)) (cond b (i + 1) i) (cond c (j + 1) j) (cond (eqb o w) g (g + 1))
+  walk-turn long b c x y o w p =
+      let (lx, ly, lo, lw) = words-low p in
+      let k : cond (eqb o w) g (g + 1) ≤ g + 1 = by-test (eqb o w) (λ q. rw q (omega arith)) (λ q. rw q (omega arith)) in
+      (pick b c p (omega arith) (omega arith), λ a l. stored-inside xs g x y o w long (omega arith) (omega arith) n lx ly (wk .1) a (omega arith))
+    where
+      ys : List ℕ
+      ys = put xs g (arc x o) (arc y w)
 
--- ---- all is gone past
+      pick : (b c : Bool) → Words s s′ i j b c x y o w → o < arcWeights → w < arcWeights → Walk s s′ (before ys) (after ys) (cond b (i + 1) i) (cond c (j + 1) j) (cond (eqb o w) g (g + 1))
+      pick true true p so sw =
+          let v = moved ys (kept-word xs g x y o w long so sw) in
+          let a = stored-before xs g x y o w long so sw in
+          let z = stored-after xs g x y o w long so sw in
+          let q = pair-ends (at s i) (at s′ j) (met-alike s i s′ j (sym (p .step .old)) (sym (p .step .new))) in
+          step-both v (sym (p .step .old)) (sym (p .step .new)) (a ∙ rw (p .tail, p .head, p .old)) (z ∙ rw (p .tail, p .head, p .new, q .0, q .1)) (eqb o w) (cc)
+      pick true false p so sw =
+          let v = moved ys (kept-word xs g x y o w long so sw) in
+          let l = at-facts s i (step-due (p .step) refl) .some-weight in
+          let e = p .old in
+          let d = p .new in
+          rw (ne-eqb o w (λ q. omega arith)) (step-one v (sym (p .step .old)) (sym (p .step .new)) (stored-before xs g x y o w long so sw ∙ rw (p .tail, p .head, p .old)) (ap (λ (f : Edge). f .weight) (stored-after xs g x y o w long so sw) ∙ d))
+      pick false true p so sw =
+          let v = moved ys (kept-word xs g x y o w long so sw) in
+          let l = at-facts s′ j (step-other (p .step) refl) .some-weight in
+          let e = p .old in
+          let d = p .new in
+          rw (ne-eqb o w (λ q. omega arith)) (walk-flip (step-one (walk-flip v) (sym (p .step .new)) (sym (p .step .old)) (stored-after xs g x y o w long so sw ∙ rw (p .tail, p .head, p .new)) (ap (λ (f : Edge). f .weight) (stored-before xs g x y o w long so sw) ∙ e)))
+      pick false false p so sw = absurd (step-none (p .step))
 
-half-done : (ts hs ws : List ℕ) (m : ℕ) (r : Room m ts hs ws) (n : ℕ) → rules n (edges ts hs ws m) ≡ accept → (fs : List Edge) (g : ℕ) (f k : ℕ → Edge) (o p : ℕ → ℕ) (j : ℕ) → j ≡ g
-    → ((i : ℕ) → i < g → k i ≡ f i) → ((i : ℕ) → i < g → p i ≡ o i) → Half fs m g f o (edgeAt ts hs ws) → Lists (edges ts hs ws m) fs j k p
-half-done ts hs ws m r n a fs g f k o p j q s u t = rw q (record {
-  among = λ i b w. let x = s i b in let z = t .among i b (rw x at w) in rw (x, sym (z .2)) (edges-mem ts hs ws m r (z .0) (z .1));
-  other = λ i b w. let x = s i b in ap (counterpart fs) x ∙ t .other i b (rw x at w) ∙ sym (u i b);
-  apart = λ i b w. let x = s i b in ap (differs fs) x ∙ t .apart i b (rw x at w);
-  all = λ e i b.
-      let z = mem-index (edge 0 0 0) i in
-      let l : z .0 < m = (let y = z .1 in omega (arith, edges-length ts hs ws m r)) in
-      let v : edgeAt ts hs ws (z .0) ≡ e = sym (edges-at ts hs ws m r (z .0) l) ∙ z .2 in
-      let y = t .all (z .0) l (ap (differs fs) v ∙ b) in
-      let c = s (y .0) (y .1) ∙ y .2 in
-      (y .0, y .1, c ∙ v, rw c (weights-range n m ts hs ws r a (z .0) l .0));
-  weighs = λ e i. sound-fit n (edges ts hs ws m) (rules-accept n _ a) e i .some-weight;
-})
+  module _ (long : 2 * g ≤ length xs) where
+    pub walk-inside : Inside n (take (2 * g) xs)
+    walk-inside k l = let z = length-take-le (2 * g) xs long in rw (getD-take (2 * g) xs k 0 (omega arith)) (wk .1 k (omega arith))
 
-module _ (n m : ℕ) (ts hs ws : List ℕ) (m′ : ℕ) (ts′ hs′ ws′ : List ℕ) (t : Tables n m ts hs ws m′ ts′ hs′ ws′) (xs : List ℕ) (i j g : ℕ)
-    (wk : Walk n m ts hs ws m′ ts′ hs′ ws′ xs i j g) (long : 2 * g ≤ length xs) where
-  front : length (take (2 * g) xs) ≡ 2 * g
-  front = length-take-le (2 * g) xs long
+    pub walk-done : (i < s .count → ⊥) → (j < s′ .count → ⊥) → Differences (all s) (all s′) (take (2 * g) xs)
+    walk-done a b =
+        let v = moved (take (2 * g) xs) (λ k l. getD-take (2 * g) xs k 0 l) in
+        let ei : i ≡ s .count = (let z = wk .0 .low in omega arith) in
+        let ej : j ≡ s′ .count = (let z = wk .0 .low′ in omega arith) in
+        let z = length-take-le (2 * g) xs long in
+        let q : length (take (2 * g) xs) / 2 ≡ g = omega arith in
+        record { old = rw q (half-done s _ g _ _ (rw ei at (v .old))); new = rw q (half-done s′ _ g _ _ (rw ej at (v .new))) }
 
-  pub walk-inside : Inside n (take (2 * g) xs)
-  walk-inside k l = let z = front in rw (getD-take (2 * g) xs k 0 (omega arith)) (wk .inside k (omega arith))
+-- ---- the two tables
 
-  pub walk-done : (i < m → ⊥) → (j < m′ → ⊥) → Differences (edges ts hs ws m) (edges ts′ hs′ ws′ m′) (take (2 * g) xs)
-  walk-done a b =
-      let ei : i ≡ m = (let z = wk .low in omega arith) in
-      let ej : j ≡ m′ = (let z = wk .low′ in omega arith) in
-      let z = front in
-      let q : length (take (2 * g) xs) / 2 ≡ g = omega arith in
-      record {
-        old = half-done ts hs ws m (t .old .1) n (t .old .2) _ g (before xs) _ (weightAfter xs) _ _ q (λ k l. rw (getD-take (2 * g) xs (2 * k) 0 (omega arith), getD-take (2 * g) xs (2 * k + 1) 0 (omega arith))) (λ k l. rw (getD-take (2 * g) xs (2 * k + 1) 0 (omega arith))) (rw ei at (wk .old));
-        new = half-done ts′ hs′ ws′ m′ (t .new .1) n (t .new .2) _ g (after xs) _ (weightBefore xs) _ _ q (λ k l. rw (getD-take (2 * g) xs (2 * k) 0 (omega arith), getD-take (2 * g) xs (2 * k + 1) 0 (omega arith))) (λ k l. rw (getD-take (2 * g) xs (2 * k) 0 (omega arith))) (rw ej at (wk .new));
-      }
+module _ {n m : ℕ} {ts hs ws : List ℕ} {m′ : ℕ} {ts′ hs′ ws′ : List ℕ} (t : Tables n m ts hs ws m′ ts′ hs′ ws′) where
+  abbrev pub oldTable : Kept n
+  oldTable = record { count = m; ts = ts; hs = hs; ws = ws; room = t .old .1; sound = t .old .2 }
+
+  abbrev pub newTable : Kept n
+  newTable = record { count = m′; ts = ts′; hs = hs′; ws = ws′; room = t .new .1; sound = t .new .2 }

@@ -9,7 +9,7 @@ use Rattle.graph.specs.Table.{isEdge, tableOrder, rules, update}
 use Rattle.graph.specs.Sorted.{Distinct}
 use Rattle.graph.specs.Sorted as order
 pub use Rattle.graph.specs.Within.{Within}
-use Rattle.graph.proofs.Tests.{both, and-true, neither, same-test}
+use Rattle.graph.proofs.Tests.{both, neither, same-test}
 use Rattle.graph.proofs.Edges.{true-exists, pair-ends, ends-pair}
 use Rattle.graph.proofs.Sorted.{Ordered, Sorted}
 use Rattle.graph.proofs.Sorted as sorted

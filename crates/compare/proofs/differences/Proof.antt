@@ -1,14 +1,13 @@
 -- `compare::differences` meets its contract. Assumes nothing.
-use Rattle.property.proofs.Basics.{needs, arith, _≡_, refl, _⊎_, inl, inr, ⊎-elim, ℕ, _+_, _-_, _*_, _<_, _≤_, length, ltb-true, ltb-false}
+use Rattle.property.proofs.Basics.{needs, arith, _≡_, refl, _⊎_, inl, inr, ⊎-elim, ℕ, _+_, _-_, _*_, _≤_, length, ltb-true, ltb-false}
 use Rattle.compare.specs.Code.{Tables}
-use Rattle.compare.proofs.Walking.{Walk, walk-start, walk-turn, walk-inside, walk-done, old-on, new-on, other-on, tail-low, head-low, old-low, new-low, step-on}
+use Rattle.compare.proofs.Walking.{Step, step-due, step-other, step-flip, step-on, Words, words-low, Listed, walk-start, walk-room, walk-turn, walk-inside, walk-done, oldTable, newTable}
 use Rattle.compare.proofs.differences.Statement.{statement}
 use Rattle.compare.proofs.differences.Tie as tie
 
 abbrev Inv-loop : tie.InvT-loop
 Inv-loop count1 tails1 heads1 weights1 count2 tails2 heads2 weights2 list₀ size₀ i₀ j₀ list size i j =
-    ((n : ℕ) → Tables n count1 tails1 heads1 weights1 count2 tails2 heads2 weights2 → Walk n count1 tails1 heads1 weights1 count2 tails2 heads2 weights2 list i j size)
-    × (i ≤ count1) × (j ≤ count2) × (size ≤ i + j) × (length list ≡ length list₀)
+    ((n : ℕ) (t : Tables n count1 tails1 heads1 weights1 count2 tails2 heads2 weights2) → Listed (oldTable t) (newTable t) list i j size) × (length list ≡ length list₀)
 
 abbrev μ-loop : tie.MeasureT-loop
 μ-loop count1 tails1 heads1 weights1 count2 tails2 heads2 weights2 list₀ size₀ i₀ j₀ list size i j = count1 + count2 - (i + j)
@@ -16,119 +15,66 @@ abbrev μ-loop : tie.MeasureT-loop
 abbrev start : tie.At-loop Inv-loop μ-loop → tie.Start Inv-loop μ-loop
 start l = l .before .before .before .before .before .before .before .before
 
-loop-holds : tie.Need-loop-holds Inv-loop μ-loop
-loop-holds c = ((λ n t. walk-start n _ _ _ _ _ _ _ _ _), omega arith, omega arith, omega arith, refl)
+abbrev Given : tie.At-loop Inv-loop μ-loop → ℕ → Type 0
+Given l n = let g = start l .args in Tables n (g .count1) (g .tails1 .now) (g .heads1 .now) (g .weights1 .now) (g .count2) (g .tails2 .now) (g .heads2 .now) (g .weights2 .now)
 
--- one of the tables goes on
-goes : (c : tie.Joined1 Inv-loop μ-loop) → let a = start (c .before) .args in (c .before .loop .i < a .count1) ⊎ (c .before .loop .j < a .count2)
-goes c = ⊎-elim (λ w. inl (w .taken)) (λ w. inr (ltb-true (c .before .loop .j) (start (c .before) .args .count2) (w .1 .taken))) (c .if1 .came)
+-- one of the tables goes on, and which of their edges at hand are due
+step : (c : tie.After-is-due2 Inv-loop μ-loop) (n : ℕ) (t : Given (c .before .before .before) n) → let l = c .before .before .before .loop in
+    Step (oldTable t) (newTable t) (l .i) (l .j) (c .before .is-due .result) (c .is-due2 .result)
+step c n t =
+    let l = c .before .before .before in
+    record { go = ⊎-elim (λ w. inl (w .taken)) (λ w. inr (ltb-true (l .loop .j) (start l .args .count2) (w .1 .taken))) (c .before .before .if1 .came); old = c .before .is-due .ensures; new = c .is-due2 .ensures }
 
-either-requires : tie.Need-either-requires Inv-loop μ-loop
-either-requires c κs =
-    let d = c in
-    let l = d .before .before .before in
-    let g = start l .args in
-    let t = start l .pre .0 in
-    let go = goes (d .before .before) in
-    ((λ q. let z = old-on (t .0) (g .count1) (g .tails1 .now) (g .heads1 .now) (g .weights1 .now) (g .count2) (g .tails2 .now) (g .heads2 .now) (g .weights2 .now) (t .1) (l .loop .i) (l .loop .j) go (d .before .is-due .result) (d .is-due2 .result) (d .before .is-due .ensures) (d .is-due2 .ensures) q in omega (arith, t .1 .old .1 .tails)), (λ q. let z = other-on (t .0) (g .count1) (g .tails1 .now) (g .heads1 .now) (g .weights1 .now) (g .count2) (g .tails2 .now) (g .heads2 .now) (g .weights2 .now) (t .1) (l .loop .i) (l .loop .j) go (d .before .is-due .result) (d .is-due2 .result) (d .before .is-due .ensures) (d .is-due2 .ensures) q in omega (arith, t .1 .new .1 .tails)))
+-- its words
+words : (c : tie.After-weight-if2 Inv-loop μ-loop) → let d = c .before .before .before .before in let l = d .before .before .before in (n : ℕ) (t : Given l n) →
+    Words (oldTable t) (newTable t) (l .loop .i) (l .loop .j) (d .before .is-due .result) (d .is-due2 .result) (c .before .before .before .either .result) (c .before .before .either2 .result) (c .before .weight-if .result) (c .weight-if2 .result)
+words c n t =
+    record { step = step (c .before .before .before .before) n t; tail = c .before .before .before .either .ensures; head = c .before .before .either2 .ensures; old = c .before .weight-if .ensures; new = c .weight-if2 .ensures }
 
-either-requires-2 : tie.Need-either-requires-2 Inv-loop μ-loop
-either-requires-2 c κs =
-    let d = c .before in
-    let l = d .before .before .before in
-    let g = start l .args in
-    let t = start l .pre .0 in
-    let go = goes (d .before .before) in
-    ((λ q. let z = old-on (t .0) (g .count1) (g .tails1 .now) (g .heads1 .now) (g .weights1 .now) (g .count2) (g .tails2 .now) (g .heads2 .now) (g .weights2 .now) (t .1) (l .loop .i) (l .loop .j) go (d .before .is-due .result) (d .is-due2 .result) (d .before .is-due .ensures) (d .is-due2 .ensures) q in omega (arith, t .1 .old .1 .heads)), (λ q. let z = other-on (t .0) (g .count1) (g .tails1 .now) (g .heads1 .now) (g .weights1 .now) (g .count2) (g .tails2 .now) (g .heads2 .now) (g .weights2 .now) (t .1) (l .loop .i) (l .loop .j) go (d .before .is-due .result) (d .is-due2 .result) (d .before .is-due .ensures) (d .is-due2 .ensures) q in omega (arith, t .1 .new .1 .heads)))
-
-weight-if-requires : tie.Need-weight-if-requires Inv-loop μ-loop
-weight-if-requires c κs =
-    let d = c .before .before in
-    let l = d .before .before .before in
-    let g = start l .args in
-    let t = start l .pre .0 in
-    let go = goes (d .before .before) in
-    λ q. let z = old-on (t .0) (g .count1) (g .tails1 .now) (g .heads1 .now) (g .weights1 .now) (g .count2) (g .tails2 .now) (g .heads2 .now) (g .weights2 .now) (t .1) (l .loop .i) (l .loop .j) go (d .before .is-due .result) (d .is-due2 .result) (d .before .is-due .ensures) (d .is-due2 .ensures) q in omega (arith, t .1 .old .1 .weights)
-
-weight-if-requires-2 : tie.Need-weight-if-requires-2 Inv-loop μ-loop
-weight-if-requires-2 c κs =
-    let d = c .before .before .before in
-    let l = d .before .before .before in
-    let g = start l .args in
-    let t = start l .pre .0 in
-    let go = goes (d .before .before) in
-    λ q. let z = new-on (t .0) (g .count1) (g .tails1 .now) (g .heads1 .now) (g .weights1 .now) (g .count2) (g .tails2 .now) (g .heads2 .now) (g .weights2 .now) (t .1) (l .loop .i) (l .loop .j) go (d .before .is-due .result) (d .is-due2 .result) (d .before .is-due .ensures) (d .is-due2 .ensures) q in omega (arith, t .1 .new .1 .weights)
+-- there is room for another change
+room : (c : tie.After-is-due2 Inv-loop μ-loop) → let l = c .before .before .before in l .loop .size + 1 ≤ start l .args .count1 + start l .args .count2
+room c =
+    let l = c .before .before .before in
+    let (n, t) = start l .pre .0 in
+    walk-room (oldTable t) (newTable t) (l .loop .list) (l .loop .i) (l .loop .j) (l .loop .size) (l .loop .inv .0 n t) (step c n t .go)
 
 note-requires : tie.Need-note-requires Inv-loop μ-loop
 note-requires c κs =
     let d = c .before .before .before .before .before in
     let l = d .before .before .before in
-    let g = start l .args in
-    let t = start l .pre .0 in
-    let go = goes (d .before .before) in
-    let v = l .loop .inv in
-    let f = t .1 .few in
-    let size : l .loop .size + 1 ≤ g .count1 + g .count2 = ⊎-elim (λ z. omega (arith, v .1, v .2, v .3)) (λ z. omega (arith, v .1, v .2, v .3)) go in (
-      (let z = tail-low (t .0) (g .count1) (g .tails1 .now) (g .heads1 .now) (g .weights1 .now) (g .count2) (g .tails2 .now) (g .heads2 .now) (g .weights2 .now) (t .1) (l .loop .i) (l .loop .j) go (d .before .is-due .result) (d .is-due2 .result) (d .before .is-due .ensures) (d .is-due2 .ensures) _ (c .before .before .before .before .either .ensures) in omega arith),
-      (let z = head-low (t .0) (g .count1) (g .tails1 .now) (g .heads1 .now) (g .weights1 .now) (g .count2) (g .tails2 .now) (g .heads2 .now) (g .weights2 .now) (t .1) (l .loop .i) (l .loop .j) go (d .before .is-due .result) (d .is-due2 .result) (d .before .is-due .ensures) (d .is-due2 .ensures) _ (c .before .before .before .either2 .ensures) in omega arith),
-      (let z = old-low (t .0) (g .count1) (g .tails1 .now) (g .heads1 .now) (g .weights1 .now) (g .count2) (g .tails2 .now) (g .heads2 .now) (g .weights2 .now) (t .1) (l .loop .i) (l .loop .j) go (d .before .is-due .result) (d .is-due2 .result) (d .before .is-due .ensures) (d .is-due2 .ensures) _ (c .before .before .weight-if .ensures) in omega arith),
-      (let z = new-low (t .0) (g .count1) (g .tails1 .now) (g .heads1 .now) (g .weights1 .now) (g .count2) (g .tails2 .now) (g .heads2 .now) (g .weights2 .now) (t .1) (l .loop .i) (l .loop .j) go (d .before .is-due .result) (d .is-due2 .result) (d .before .is-due .ensures) (d .is-due2 .ensures) _ (c .before .weight-if2 .ensures) in omega arith),
-      omega (arith, size, v .4, start l .pre .1),
-      omega (arith, size, t .1 .old .0, t .1 .new .0),
-    )
-
-past-requires : tie.Need-past-requires Inv-loop μ-loop
-past-requires c κs = let l = c .before .before .before .before .before .before .before .before .before .before .before in omega (arith, l .loop .inv .1, start l .pre .0 .1 .old .0)
-
-past-requires-2 : tie.Need-past-requires-2 Inv-loop μ-loop
-past-requires-2 c κs = let l = c .before .before .before .before .before .before .before .before .before .before .before .before in omega (arith, l .loop .inv .2, start l .pre .0 .1 .new .0)
+    let (n, t) = start l .pre .0 in
+    let (x, y, o, w) = words-low (words (c .before) n t) in
+    let f = t .few in
+    let z = room d in
+    (omega arith, omega arith, omega arith, omega arith, omega (arith, l .loop .inv .1, start l .pre .1), omega (arith, t .old .0, t .new .0))
 
 -- the walk after a step
-turned : (c : tie.After-past2 Inv-loop μ-loop) (n : ℕ) → let g = start (c .before .before .before .before .before .before .before .before .before .before .before .before .before) .args in
-    Tables n (g .count1) (g .tails1 .now) (g .heads1 .now) (g .weights1 .now) (g .count2) (g .tails2 .now) (g .heads2 .now) (g .weights2 .now) → Walk n (g .count1) (g .tails1 .now) (g .heads1 .now) (g .weights1 .now) (g .count2) (g .tails2 .now) (g .heads2 .now) (g .weights2 .now) (c .before .before .before .before .note .last .1 .1 .1 .1 .0) (c .before .past .result) (c .past2 .result) (c .before .before .before .before .note .result)
-turned c n u =
-    let d = c .before .before .before .before .before .before .before .before .before .before in
+turned : (c : tie.After-past2 Inv-loop μ-loop) (n : ℕ) (t : Given (c .before .before .before .before .before .before .before .before .before .before .before .before .before) n) →
+    Listed (oldTable t) (newTable t) (c .before .before .before .before .note .last .1 .1 .1 .1 .0) (c .before .past .result) (c .past2 .result) (c .before .before .before .before .note .result)
+turned c n t =
+    let e = c .before .before .before .before in
+    let d = e .before .before .before .before .before .before in
     let l = d .before .before .before in
-    let g = start l .args in
-    let t = start l .pre .0 in
-    let go = goes (d .before .before) in
-    let v = l .loop .inv in
-    let t = start l .pre .0 in
-    let size : l .loop .size + 1 ≤ g .count1 + g .count2 = ⊎-elim (λ z. omega (arith, v .1, v .2, v .3)) (λ z. omega (arith, v .1, v .2, v .3)) go in
-    walk-turn n (g .count1) (g .tails1 .now) (g .heads1 .now) (g .weights1 .now) (g .count2) (g .tails2 .now) (g .heads2 .now) (g .weights2 .now) u (l .loop .list) (l .loop .i) (l .loop .j) (l .loop .size) (v .0 n u) go (omega (arith, size, v .4, start l .pre .1))
-    (d .before .is-due .result) (d .is-due2 .result) (d .before .is-due .ensures) (d .is-due2 .ensures)
-    (c .before .before .before .before .before .before .before .before .before .either .result) (c .before .before .before .before .before .before .before .before .either2 .result) (c .before .before .before .before .before .before .before .weight-if .result) (c .before .before .before .before .before .before .weight-if2 .result)
-    (c .before .before .before .before .before .before .before .before .before .either .ensures) (c .before .before .before .before .before .before .before .before .either2 .ensures) (c .before .before .before .before .before .before .before .weight-if .ensures) (c .before .before .before .before .before .before .weight-if2 .ensures)
-    _ (c .before .before .before .before .note .ensures .0) _ _ _ (c .before .before .before .before .note .ensures .1) (c .before .past .ensures) (c .past2 .ensures)
+    let z = room d in
+    rw (e .note .ensures .0, e .note .ensures .1, c .before .past .ensures, c .past2 .ensures)
+    (walk-turn (oldTable t) (newTable t) (l .loop .list) (l .loop .i) (l .loop .j) (l .loop .size) (l .loop .inv .0 n t) (omega (arith, l .loop .inv .1, start l .pre .1)) _ _ _ _ _ _ (words (e .before .before) n t))
 
 loop-less : tie.Need-loop-less Inv-loop μ-loop
 loop-less c =
     let d = c .before .before .before .before .before .before .before .before .before .before in
-    let l = d .before .before .before in
-    let g = start l .args in
-    let t = start l .pre .0 in
-    let go = goes (d .before .before) in
-    let z = step-on (t .0) (g .count1) (g .tails1 .now) (g .heads1 .now) (g .weights1 .now) (g .count2) (g .tails2 .now) (g .heads2 .now) (g .weights2 .now) (t .1) (l .loop .i) (l .loop .j) go (d .before .is-due .result) (d .is-due2 .result) (d .before .is-due .ensures) (d .is-due2 .ensures) _ _ (c .before .past .ensures) (c .past2 .ensures) in
-    let w = turned c (t .0) (t .1) in
-    omega (arith, z, w .low, w .low′)
-
-loop-again : tie.Need-loop-again Inv-loop μ-loop
-loop-again c =
-    let l = c .before .before .before .before .before .before .before .before .before .before .before .before .before in
-    let t = start l .pre .0 in
-    let w = turned c (t .0) (t .1) in
-    (turned c, w .low, w .low′, w .few, search needs)
+    let (n, t) = start (d .before .before .before) .pre .0 in
+    let z = step-on _ _ (step d n t) in
+    let w = turned c n t .0 in
+    omega (arith, z, w .low, w .low′, c .before .past .ensures, c .past2 .ensures)
 
 returns : tie.Need-returns Inv-loop μ-loop
 returns c =
     let l = c .before .before in
-    let g = start l .args in
-    let v = l .loop .inv in
-    let t = start l .pre .0 in
-    let long : 2 * l .loop .size ≤ length (l .loop .list) = omega (arith, v .1, v .2, v .3, v .4, start l .pre .1) in
-    let wk = v .0 (t .0) (t .1) in (
-      (long, (λ n u. walk-inside n (g .count1) (g .tails1 .now) (g .heads1 .now) (g .weights1 .now) (g .count2) (g .tails2 .now) (g .heads2 .now) (g .weights2 .now) u (l .loop .list) (l .loop .i) (l .loop .j) (l .loop .size) (v .0 n u) long)),
-      walk-done (t .0) (g .count1) (g .tails1 .now) (g .heads1 .now) (g .weights1 .now) (g .count2) (g .tails2 .now) (g .heads2 .now) (g .weights2 .now) (t .1) (l .loop .list) (l .loop .i) (l .loop .j) (l .loop .size) wk long (λ q. omega (arith, q, c .before .if1 .left)) (λ q. let z = ltb-false (l .loop .j) (g .count2) (c .if2 .left) in omega arith),
+    let (n, t) = start l .pre .0 in
+    let w = l .loop .inv .0 n t .0 in
+    let long : 2 * l .loop .size ≤ length (l .loop .list) = omega (arith, l .loop .inv .1, w .low, w .low′, w .few, start l .pre .1) in (
+      (long, (λ n t. walk-inside (oldTable t) (newTable t) (l .loop .list) (l .loop .i) (l .loop .j) (l .loop .size) (l .loop .inv .0 n t) long)),
+      walk-done (oldTable t) (newTable t) (l .loop .list) (l .loop .i) (l .loop .j) (l .loop .size) (l .loop .inv .0 n t) long (λ q. omega (arith, q, c .before .if1 .left)) (λ q. let z = ltb-false (l .loop .j) (start l .args .count2) (c .if2 .left) in omega arith),
     )
 
 pub differences-spec : {M : Type 1} → statement M
@@ -137,18 +83,18 @@ differences-spec =
     (tie.spec
     Inv-loop
     μ-loop
-    loop-holds
+    (λ c. ((λ n t. (walk-start _ _ _ _, λ k l. absurd (omega arith))), refl))
     (λ c κs. let t = start (c .before) .pre .0 .1 in (t .old .1 .tails, t .old .1 .heads, t .new .1 .tails, t .new .1 .heads))
     (λ c κs. let t = start (c .before .before) .pre .0 .1 in (t .new .1 .tails, t .new .1 .heads, t .old .1 .tails, t .old .1 .heads))
-    either-requires
-    either-requires-2
-    weight-if-requires
-    weight-if-requires-2
+    (λ c κs. let (n, t) = start (c .before .before .before) .pre .0 in ((λ q. let z = step-due (step c n t) q in omega (arith, t .old .1 .tails)), (λ q. let z = step-other (step c n t) q in omega (arith, t .new .1 .tails))))
+    (λ c κs. let d = c .before in let (n, t) = start (d .before .before .before) .pre .0 in ((λ q. let z = step-due (step d n t) q in omega (arith, t .old .1 .heads)), (λ q. let z = step-other (step d n t) q in omega (arith, t .new .1 .heads))))
+    (λ c κs q. let d = c .before .before in let (n, t) = start (d .before .before .before) .pre .0 in let z = step-due (step d n t) q in omega (arith, t .old .1 .weights))
+    (λ c κs q. let d = c .before .before .before in let (n, t) = start (d .before .before .before) .pre .0 in let z = step-due (step-flip (step d n t)) q in omega (arith, t .new .1 .weights))
     note-requires
-    past-requires
-    past-requires-2
+    (λ c κs. let l = c .before .before .before .before .before .before .before .before .before .before .before in let (n, t) = start l .pre .0 in omega (arith, l .loop .inv .0 n t .0 .low, t .old .0))
+    (λ c κs. let l = c .before .before .before .before .before .before .before .before .before .before .before .before in let (n, t) = start l .pre .0 in omega (arith, l .loop .inv .0 n t .0 .low′, t .new .0))
     loop-less
-    loop-again
-    (λ c. let l = c .before .before in let t = start l .pre .0 .1 in omega (arith, l .loop .inv .1, l .loop .inv .2, l .loop .inv .3, t .old .0, t .new .0))
+    (λ c. (turned c, search needs))
+    (λ c. let l = c .before .before in let (n, t) = start l .pre .0 in let w = l .loop .inv .0 n t .0 in omega (arith, w .low, w .low′, w .few, t .old .0, t .new .0))
     (λ c. search needs)
     returns)
