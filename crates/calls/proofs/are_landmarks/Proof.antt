@@ -18,18 +18,6 @@ returns c =
     let h : a .n ≤ getD (a .vertices .now) (t .before .loop .i) 0 = omega arith in
     landmark-high _ _ (t .before .loop .i) (t .before .loop .inv) (t .loop-test .taken) h
 
-returns-2 : tie.Need-returns-2 Inv-loop μ-loop
-returns-2 c =
-    let e = c .before .before in
-    let t = e .before .before in
-    landmark-twice _ _ (t .before .loop .i) (t .before .loop .inv) (t .loop-test .taken) (e .if1 .left) (sym (c .before .is-in .ensures) ∙ c .if2 .taken)
-
-loop-again : tie.Need-loop-again Inv-loop μ-loop
-loop-again c =
-    let e = c .before .before in
-    let t = e .before .before in
-    landmark-more _ _ (t .before .loop .i) (t .before .loop .inv) (t .loop-test .taken) (e .if1 .left) (sym (c .before .is-in .ensures) ∙ c .if2 .left)
-
 pub are-landmarks-spec : {M : Type 1} → statement M
 are-landmarks-spec =
     tie.close
@@ -42,8 +30,14 @@ are-landmarks-spec =
     returns
     (λ c. search needs)
     (λ c κs. search needs)
-    returns-2
+    (λ c.
+    let e = c .before .before in
+    let t = e .before .before in
+    landmark-twice _ _ (t .before .loop .i) (t .before .loop .inv) (t .loop-test .taken) (e .if1 .left) (sym (c .before .is-in .ensures) ∙ c .if2 .taken))
     (λ c. search needs)
     (λ c. search needs)
-    loop-again
+    (λ c.
+    let e = c .before .before in
+    let t = e .before .before in
+    landmark-more _ _ (t .before .loop .i) (t .before .loop .inv) (t .loop-test .taken) (e .if1 .left) (sym (c .before .is-in .ensures) ∙ c .if2 .left))
     (λ c. landmark-none _ _ (c .before .loop .i) (c .before .loop .inv) (c .loop-test .left)))

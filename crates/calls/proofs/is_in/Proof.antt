@@ -11,16 +11,6 @@ Inv-loop v vertices from i₀ i = isIn v (drop i vertices) ≡ isIn v (drop from
 abbrev μ-loop : tie.MeasureT-loop
 μ-loop v vertices from i₀ i = length vertices - i
 
-returns : tie.Need-returns Inv-loop μ-loop
-returns c =
-    let l = c .before .before .before in
-    in-found _ _ (l .loop .i) (l .loop .inv) (c .before .before .loop-test .taken) (c .if1 .taken)
-
-loop-again : tie.Need-loop-again Inv-loop μ-loop
-loop-again c =
-    let l = c .before .before .before in
-    in-more _ _ (l .loop .i) (l .loop .inv) (c .before .before .loop-test .taken) (c .if1 .left)
-
 pub is-in-spec : {M : Type 1} → statement M
 is-in-spec =
     tie.close
@@ -30,8 +20,12 @@ is-in-spec =
     (λ c. refl)
     (λ c. search needs)
     (λ c. search needs)
-    returns
+    (λ c.
+    let l = c .before .before .before in
+    in-found _ _ (l .loop .i) (l .loop .inv) (c .before .before .loop-test .taken) (c .if1 .taken))
     (λ c. search needs)
     (λ c. search needs)
-    loop-again
+    (λ c.
+    let l = c .before .before .before in
+    in-more _ _ (l .loop .i) (l .loop .inv) (c .before .before .loop-test .taken) (c .if1 .left))
     (λ c. in-none _ _ (c .before .loop .i) (c .before .loop .inv) (c .loop-test .left)))

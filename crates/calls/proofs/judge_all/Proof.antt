@@ -12,11 +12,6 @@ returns-2 c =
     then-judged _ _ _ _ (s .before .before .judge-size .ensures) (s .enum-told .given .1)
     (then-refused _ _ _ _ _ (l .judge-lists .ensures) (c .enum-told4 .given .1) ∙ then-assoc _ _ _)
 
-judge-network-requires : tie.Need-judge-network-requires
-judge-network-requires c κs =
-    let l = c .before .before in
-    lengths-accept _ _ _ (then-accept _ _ (fine-accept _ _ (l .judge-lists .ensures) (c .enum-told3 .given .1)) .0)
-
 returns-3 : tie.Need-returns-3
 returns-3 c =
     let l = c .before .before .before in
@@ -36,5 +31,7 @@ judge-all-spec =
     (λ c. search needs)
     (λ c. search needs)
     returns-2
-    judge-network-requires
+    (λ c κs.
+    let l = c .before .before in
+    lengths-accept _ _ _ (then-accept _ _ (fine-accept _ _ (l .judge-lists .ensures) (c .enum-told3 .given .1)) .0))
     returns-3)

@@ -13,8 +13,5 @@ flag c =
     let e = c .before .is-short .ensures in
     ⊎-elim (λ w. w .1 ∙ (e ∙ or-taken _ _ (sym e ∙ w .0 .taken))) (λ w. w .2 ∙ (w .1 .ensures ∙ or-left _ _ (sym e ∙ w .0 .left))) (c .if1 .came)
 
-returns : tie.Need-returns
-returns c = c .refuse-if .ensures ∙ ap (λ (b : Bool). refuseIf b 2 0) (flag (c .before))
-
 pub judge-rows-spec : {M : Type 1} → statement M
-judge-rows-spec = tie.close (tie.spec (λ c κs. search needs) (λ c κs. search needs) (λ c κs. search needs) returns)
+judge-rows-spec = tie.close (tie.spec (λ c κs. search needs) (λ c κs. search needs) (λ c κs. search needs) (λ c. c .refuse-if .ensures ∙ ap (λ (b : Bool). refuseIf b 2 0) (flag (c .before))))

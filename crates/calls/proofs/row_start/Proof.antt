@@ -4,8 +4,5 @@ use Rattle.calls.proofs.Rows.{row-fits}
 use Rattle.calls.proofs.row_start.Statement.{statement}
 use Rattle.calls.proofs.row_start.Tie as tie
 
-mul-result-2 : tie.Need-mul-result-2
-mul-result-2 c = row-fits _ _ (omega arith) (c .pre .2)
-
 pub row-start-spec : {M : Type 1} → statement M
-row-start-spec = tie.close (tie.spec (λ c. search needs) (λ c. search needs) (λ c. search needs) mul-result-2 (λ c. search needs))
+row-start-spec = tie.close (tie.spec (λ c. search needs) (λ c. search needs) (λ c. search needs) (λ c. row-fits _ _ (omega arith) (c .pre .2)) (λ c. search needs))

@@ -11,27 +11,9 @@ Inv-loop list₀ size k₀ list k = Turned list₀ list k × (k ≤ size) × (si
 abbrev μ-loop : tie.MeasureT-loop
 μ-loop list₀ size k₀ list k = size - k
 
-loop-holds : tie.Need-loop-holds Inv-loop μ-loop
-loop-holds c = (turned-none _, omega arith, refl)
-
 -- both words of the change lie in the list
 within : (c : tie.In-loop Inv-loop μ-loop) → 2 * c .before .loop .k + 1 < length (c .before .loop .list)
 within c = let t = c .before .loop .inv in omega (arith, t .0 .size, t .2, c .loop-test .taken)
-
-arc-requires : tie.Need-arc-requires Inv-loop μ-loop
-arc-requires c κs =
-    let b = c .before .before in
-    let k = b .before .before .before .loop .k in
-    (omega (arith, c .before .head .ensures, b .before .slice-known2 .given (2 * k), b .slice-known3 .given (2 * k + 1)), omega (arith, c .weight .ensures))
-
-arc-requires-2 : tie.Need-arc-requires-2 Inv-loop μ-loop
-arc-requires-2 c κs =
-    let b = c .before .before .before .before .before in
-    let k = b .before .before .before .loop .k in
-    (omega (arith, c .before .head2 .ensures, b .before .slice-known2 .given (2 * k), b .slice-known3 .given (2 * k + 1)), omega (arith, c .weight2 .ensures))
-
-slice-write-list-2 : tie.Need-slice-write-list-2 Inv-loop μ-loop
-slice-write-list-2 c = let w = within (c .before .before .before .before .before .before .before .before) in let l = c .before .before .before .before .before .before .before .before .before in let z = length-set (l .loop .list) (2 * l .loop .k) (c .before .before .before .arc .result) in omega arith
 
 loop-again : tie.Need-loop-again Inv-loop μ-loop
 loop-again c =
@@ -60,7 +42,7 @@ turn-spec =
     (tie.spec
     Inv-loop
     μ-loop
-    loop-holds
+    (λ c. (turned-none _, omega arith, refl))
     (λ c. let w = within c in omega arith)
     (λ c. let w = within c in omega arith)
     (λ c. let w = within (c .before) in omega arith)
@@ -69,15 +51,21 @@ turn-spec =
     (λ c. within (c .before .before))
     (λ c κs. search needs)
     (λ c κs. search needs)
-    arc-requires
+    (λ c κs.
+    let b = c .before .before in
+    let k = b .before .before .before .loop .k in
+    (omega (arith, c .before .head .ensures, b .before .slice-known2 .given (2 * k), b .slice-known3 .given (2 * k + 1)), omega (arith, c .weight .ensures)))
     (λ c. let w = within (c .before .before .before .before .before) in omega arith)
     (λ c. let w = within (c .before .before .before .before .before) in omega arith)
     (λ c κs. search needs)
     (λ c κs. search needs)
-    arc-requires-2
+    (λ c κs.
+    let b = c .before .before .before .before .before in
+    let k = b .before .before .before .loop .k in
+    (omega (arith, c .before .head2 .ensures, b .before .slice-known2 .given (2 * k), b .slice-known3 .given (2 * k + 1)), omega (arith, c .weight2 .ensures)))
     (λ c. let w = within (c .before .before .before .before .before .before .before .before) in omega arith)
     (λ c. let w = within (c .before .before .before .before .before .before .before .before) in omega arith)
-    slice-write-list-2
+    (λ c. let w = within (c .before .before .before .before .before .before .before .before) in let l = c .before .before .before .before .before .before .before .before .before in let z = length-set (l .loop .list) (2 * l .loop .k) (c .before .before .before .arc .result) in omega arith)
     (λ c. search needs)
     (λ c. search needs)
     loop-again

@@ -36,12 +36,6 @@ returns c =
     let j = o .before .before in
     (item-words _ _ _ _ _ _ (ap told (sym (o .own .given .1)) ∙ j .judge-words .ensures), leaves-refused _ _ _ _ _ _ _ _ refl)
 
-insert-item-requires : tie.Need-insert-item-requires
-insert-item-requires c κs =
-    let b = c .before .before .before in
-    let e = b .before in
-    (start e .pre, sym (fine e ∙ ap (words (start e .args .n) (start e .args .place)) (inserted b)))
-
 returns-2 : tie.Need-returns-2
 returns-2 c =
     let i = c .before .before .before .before .before .before in
@@ -49,24 +43,12 @@ returns-2 c =
     let e = b .before in
     (item-as _ _ _ _ _ (inserted b) (fine e) (i .insert-item .ensures .0), leaves-as _ (start e .args .place) _ _ _ (inserted b) (i .insert-item .ensures .1))
 
-update-item-requires : tie.Need-update-item-requires
-update-item-requires c κs =
-    let b = c .before .before .before in
-    let e = b .before .before in
-    (start e .pre, sym (fine e ∙ ap (words (start e .args .n) (start e .args .place)) (updated b)))
-
 returns-3 : tie.Need-returns-3
 returns-3 c =
     let i = c .before .before .before .before .before .before in
     let b = i .before .before .before .before in
     let e = b .before .before in
     (item-as _ _ _ _ _ (updated b) (fine e) (i .update-item .ensures .0), leaves-as _ (start e .args .place) _ _ _ (updated b) (i .update-item .ensures .1))
-
-delete-item-requires : tie.Need-delete-item-requires
-delete-item-requires c κs =
-    let b = c .before .before .before in
-    let e = b .before .before in
-    (start e .pre, sym (fine e ∙ ap (words (start e .args .n) (start e .args .place)) (deleted b)))
 
 returns-4 : tie.Need-returns-4
 returns-4 c =
@@ -83,17 +65,26 @@ apply-item-spec =
     (λ c. search needs)
     returns
     (λ c. search needs)
-    insert-item-requires
+    (λ c κs.
+    let b = c .before .before .before in
+    let e = b .before in
+    (start e .pre, sym (fine e ∙ ap (words (start e .args .n) (start e .args .place)) (inserted b))))
     (λ c. search needs)
     (λ c. search needs)
     (λ c. search needs)
     returns-2
-    update-item-requires
+    (λ c κs.
+    let b = c .before .before .before in
+    let e = b .before .before in
+    (start e .pre, sym (fine e ∙ ap (words (start e .args .n) (start e .args .place)) (updated b))))
     (λ c. search needs)
     (λ c. search needs)
     (λ c. search needs)
     returns-3
-    delete-item-requires
+    (λ c κs.
+    let b = c .before .before .before in
+    let e = b .before .before in
+    (start e .pre, sym (fine e ∙ ap (words (start e .args .n) (start e .args .place)) (deleted b))))
     (λ c. search needs)
     (λ c. search needs)
     (λ c. search needs)

@@ -34,38 +34,6 @@ inside c =
     let e = c .before .before .count-changes .ensures in
     (omega arith, omega arith, omega arith, omega arith)
 
-loop-holds : tie.Need-loop-holds Inv-loop μ-loop
-loop-holds c =
-    let s = c .before .before .before .before .before .before .before .before in
-    (refl, refl, s .pre, omega arith, refl, refl, refl)
-
-mul-apply-item : tie.Need-mul-apply-item Inv-loop μ-loop
-mul-apply-item c = let z = inside (c) in search needs
-
-shared-slice-read-apply-item : tie.Need-shared-slice-read-apply-item Inv-loop μ-loop
-shared-slice-read-apply-item c = inside (c .before) .0
-
-mul-apply-item-2 : tie.Need-mul-apply-item-2 Inv-loop μ-loop
-mul-apply-item-2 c = let z = inside (c .before) in search needs
-
-shared-slice-read-apply-item-2 : tie.Need-shared-slice-read-apply-item-2 Inv-loop μ-loop
-shared-slice-read-apply-item-2 c = inside (c .before .before) .1
-
-mul-apply-item-3 : tie.Need-mul-apply-item-3 Inv-loop μ-loop
-mul-apply-item-3 c = let z = inside (c .before .before) in search needs
-
-shared-slice-read-apply-item-3 : tie.Need-shared-slice-read-apply-item-3 Inv-loop μ-loop
-shared-slice-read-apply-item-3 c = inside (c .before .before .before) .2
-
-mul-apply-item-4 : tie.Need-mul-apply-item-4 Inv-loop μ-loop
-mul-apply-item-4 c = let z = inside (c .before .before .before) in search needs
-
-shared-slice-read-apply-item-4 : tie.Need-shared-slice-read-apply-item-4 Inv-loop μ-loop
-shared-slice-read-apply-item-4 c = inside (c .before .before .before .before) .3
-
-apply-item-requires : tie.Need-apply-item-requires Inv-loop μ-loop
-apply-item-requires c κs = let l = c .before .before .before .before .before .before .before .before in l .loop .inv .2
-
 returns : tie.Need-returns Inv-loop μ-loop
 unfolding verdict
 returns c =
@@ -113,16 +81,18 @@ apply-items-spec =
     Inv-loop
     μ-loop
     (λ c κs. search needs)
-    loop-holds
-    mul-apply-item
-    shared-slice-read-apply-item
-    mul-apply-item-2
-    shared-slice-read-apply-item-2
-    mul-apply-item-3
-    shared-slice-read-apply-item-3
-    mul-apply-item-4
-    shared-slice-read-apply-item-4
-    apply-item-requires
+    (λ c.
+    let s = c .before .before .before .before .before .before .before .before in
+    (refl, refl, s .pre, omega arith, refl, refl, refl))
+    (λ c. let z = inside (c) in search needs)
+    (λ c. inside (c .before) .0)
+    (λ c. let z = inside (c .before) in search needs)
+    (λ c. inside (c .before .before) .1)
+    (λ c. let z = inside (c .before .before) in search needs)
+    (λ c. inside (c .before .before .before) .2)
+    (λ c. let z = inside (c .before .before .before) in search needs)
+    (λ c. inside (c .before .before .before .before) .3)
+    (λ c κs. let l = c .before .before .before .before .before .before .before .before in l .loop .inv .2)
     (λ c. search needs)
     (λ c. search needs)
     (λ c. search needs)

@@ -28,15 +28,6 @@ returns c =
     let f = c .before .before in
     (against-absent _ 2 _ _ 0 _ refl (sym (f .find .ensures) ∙ c .enum-told .given .1), leaves-refused _ _ _ _ _ _ _ _ refl)
 
-delete-at-requires : tie.Need-delete-at-requires
-delete-at-requires c κs =
-    let i = c .before .before .before .before in
-    let t = start i .pre .0 in
-    (below i, room-less (t .few) (t .room))
-
-sub-t24 : tie.Need-sub-t24
-sub-t24 c = let l = below (c .before .before .before .before .before .before .before .before .before .before .before) in omega arith
-
 returns-2 : tie.Need-returns-2
 unfolding verdict edit
 returns-2 c =
@@ -60,8 +51,11 @@ delete-item-spec =
     (λ c. search needs)
     (λ c. search needs)
     returns
-    delete-at-requires
-    sub-t24
+    (λ c κs.
+    let i = c .before .before .before .before in
+    let t = start i .pre .0 in
+    (below i, room-less (t .few) (t .room)))
+    (λ c. let l = below (c .before .before .before .before .before .before .before .before .before .before .before) in omega arith)
     (λ c. search needs)
     (λ c. search needs)
     (λ c. search needs)

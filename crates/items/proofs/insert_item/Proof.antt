@@ -32,12 +32,6 @@ returns-2 : tie.Need-returns-2
 unfolding verdict
 returns-2 c = let q = long (c .before) in (insert-full _ _ _ _ _ (absent (c .before)) (omega arith), leaves-refused _ _ _ _ _ _ _ _ refl)
 
-insert-requires : tie.Need-insert-requires
-insert-requires c κs =
-    let e = c .before .before .before in
-    let t = start (e .before) .pre .0 in
-    (room-less (omega arith) (t .room), (t .rules, absent-present _ _ (start (e .before) .args .w) _ (absent (e .before))))
-
 returns-3 : tie.Need-returns-3
 unfolding verdict edit
 returns-3 c =
@@ -64,7 +58,10 @@ insert-item-spec =
     (λ c. search needs)
     (λ c. search needs)
     returns-2
-    insert-requires
+    (λ c κs.
+    let e = c .before .before .before in
+    let t = start (e .before) .pre .0 in
+    (room-less (omega arith) (t .room), (t .rules, absent-present _ _ (start (e .before) .args .w) _ (absent (e .before)))))
     (λ c. search needs)
     (λ c. search needs)
     (λ c. search needs)

@@ -3,11 +3,5 @@ use Rattle.property.proofs.Basics.{needs, eq-eqb, ne-eqb}
 use Rattle.items.proofs.is_suited.Statement.{statement}
 use Rattle.items.proofs.is_suited.Tie as tie
 
-returns : tie.Need-returns
-returns c = rw (eq-eqb _ _ (c .if1 .taken))
-
-returns-2 : tie.Need-returns-2
-returns-2 c = rw (ne-eqb _ _ (c .before .if1 .left)) (c .is-weight .ensures)
-
 pub is-suited-spec : {M : Type 1} → statement M
-is-suited-spec = tie.close (tie.spec (λ c κs. search needs) returns returns-2)
+is-suited-spec = tie.close (tie.spec (λ c κs. search needs) (λ c. rw (eq-eqb _ _ (c .if1 .taken))) (λ c. rw (ne-eqb _ _ (c .before .if1 .left)) (c .is-weight .ensures)))

@@ -5,8 +5,5 @@ use Rattle.frontier.proofs.Counts.{any-count}
 use Rattle.frontier.proofs.slices.any.Statement.{statement}
 use Rattle.frontier.proofs.slices.any.Tie as tie
 
-returns : tie.Need-returns
-returns c = ap (λ n. not (eqb n 0)) (c .count .ensures) ∙ any-count (waitingOf (c .before .before .args .ws .now))
-
 pub any-spec : {M : Type 1} → statement M
-any-spec = tie.close (tie.spec (λ c κs. search needs) returns)
+any-spec = tie.close (tie.spec (λ c κs. search needs) (λ c. ap (λ n. not (eqb n 0)) (c .count .ensures) ∙ any-count (waitingOf (c .before .before .args .ws .now))))

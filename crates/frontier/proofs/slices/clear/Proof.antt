@@ -11,28 +11,19 @@ Inv-loop ws₀ k₀ ws k = (ws ≡ replicate k 0 ++ drop k ws₀) × (k ≤ leng
 abbrev μ-loop : tie.MeasureT-loop
 μ-loop ws₀ k₀ ws k = length ws₀ - k
 
-loop-holds : tie.Need-loop-holds Inv-loop μ-loop
-loop-holds c = (fill-none _ 0, omega arith, omega arith)
-
-loop-again : tie.Need-loop-again Inv-loop μ-loop
-loop-again c =
-    let at = c .before .loop in
-    (ap (λ (l : List ℕ). set l (at .k) 0) (at .inv .0) ∙ fill-more (at .k) 0 (c .before .before .args .ws .now) (omega arith), omega arith, simp length-set (at .inv .2))
-
-returns : tie.Need-returns Inv-loop μ-loop
-returns c = waiting-cleared (c .before .loop .ws) (c .before .before .args .ws .now) (c .before .loop .k) (c .before .loop .inv .0) (omega arith)
-
 pub clear-spec : {M : Type 1} → statement M
 clear-spec =
     tie.close
     (tie.spec
     Inv-loop
     μ-loop
-    loop-holds
+    (λ c. (fill-none _ 0, omega arith, omega arith))
     (λ c. search needs)
     (λ c. search needs)
     (λ c. search needs)
     (λ c. search needs)
-    loop-again
+    (λ c.
+    let at = c .before .loop in
+    (ap (λ (l : List ℕ). set l (at .k) 0) (at .inv .0) ∙ fill-more (at .k) 0 (c .before .before .args .ws .now) (omega arith), omega arith, simp length-set (at .inv .2)))
     (λ c. search needs)
-    returns)
+    (λ c. waiting-cleared (c .before .loop .ws) (c .before .before .args .ws .now) (c .before .loop .k) (c .before .loop .inv .0) (omega arith)))

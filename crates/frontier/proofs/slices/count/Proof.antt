@@ -13,9 +13,6 @@ Inv-loop ws n₀ k₀ n k = countOf (waitingOf ws) ≡ n + countOf (waitingOf (d
 abbrev μ-loop : tie.MeasureT-loop
 μ-loop ws n₀ k₀ n k = length ws - k
 
-loop-holds : tie.Need-loop-holds Inv-loop μ-loop
-loop-holds c = sym (zero-add (countOf (waitingOf (c .args .ws .now))))
-
 -- what this turn counts
 step : (c : tie.After-shared-slice-known Inv-loop μ-loop)
     → countOf (waitingOf (drop (c .before .before .loop .k) (c .before .before .before .args .ws .now)))
@@ -25,24 +22,18 @@ step c =
     count-word (c .before .before .before .args .ws .now) (c .before .before .loop .k) (c .before .loop-test .taken)
     (c .shared-slice-known .given (c .before .before .loop .k) .fits)
 
-loop-again : tie.Need-loop-again Inv-loop μ-loop
-loop-again c = omega (arith, step c)
-
-returns : tie.Need-returns Inv-loop μ-loop
-returns c = omega (arith, count-end (c .before .before .args .ws .now) (c .before .loop .k) (c .loop-test .left))
-
 pub count-spec : {M : Type 1} → statement M
 count-spec =
     tie.close
     (tie.spec
     Inv-loop
     μ-loop
-    loop-holds
+    (λ c. sym (zero-add (countOf (waitingOf (c .args .ws .now)))))
     (λ c. search needs)
     (λ c. search needs)
     (λ c. omega (arith, step c, count-words-le (c .before .before .before .args .ws .now)))
     (λ c. omega (arith, step c, count-words-le (c .before .before .before .args .ws .now)))
     (λ c. search needs)
     (λ c. search needs)
-    loop-again
-    returns)
+    (λ c. omega (arith, step c))
+    (λ c. omega (arith, count-end (c .before .before .args .ws .now) (c .before .loop .k) (c .loop-test .left))))

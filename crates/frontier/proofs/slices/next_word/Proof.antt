@@ -25,9 +25,6 @@ loop-again c =
     let l = c .before .before .loop-test .taken in
     at .inv ∙ next-whole ws (at .k) l ∙ first-later ws (at .k) l (getD ws (at .k) 0) (c .if1 .left)
 
-returns-2 : tie.Need-returns-2 Inv-loop μ-loop
-returns-2 c = sym (c .before .loop .inv ∙ next-end (c .before .before .args .ws .now) (c .before .loop .k) (c .loop-test .left))
-
 pub next-word-spec : {M : Type 1} → statement M
 next-word-spec =
     tie.close
@@ -44,4 +41,4 @@ next-word-spec =
     (λ c. search needs)
     (λ c. search needs)
     loop-again
-    returns-2)
+    (λ c. sym (c .before .loop .inv ∙ next-end (c .before .before .args .ws .now) (c .before .loop .k) (c .loop-test .left))))

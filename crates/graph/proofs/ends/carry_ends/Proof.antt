@@ -13,9 +13,6 @@ Inv-loop n ends₀ k₀ ends k =
 abbrev μ-loop : tie.MeasureT-loop
 μ-loop n ends₀ k₀ ends k = n - k
 
-loop-holds : tie.Need-loop-holds Inv-loop μ-loop
-loop-holds c = ((λ m ks h u l. parted-first m ks (c .before .args .ends .now) h u l), (λ u l. refl), omega arith, refl)
-
 loop-again : tie.Need-loop-again Inv-loop μ-loop
 loop-again c =
     let l = c .before .before .before .before in (
@@ -25,16 +22,13 @@ loop-again c =
       simp length-set (l .loop .inv .3),
     )
 
-returns : tie.Need-returns Inv-loop μ-loop
-returns c = λ m ks h u l. c .before .loop .inv .0 m ks h u (omega arith)
-
 pub carry-ends-spec : {M : Type 1} → statement M
 carry-ends-spec =
     tie.close
     (tie.spec
     Inv-loop
     μ-loop
-    loop-holds
+    (λ c. ((λ m ks h u l. parted-first m ks (c .before .args .ends .now) h u l), (λ u l. refl), omega arith, refl))
     (λ c. search needs)
     (λ c. search needs)
     (λ c. search needs)
@@ -47,4 +41,4 @@ carry-ends-spec =
     (λ c. search needs)
     loop-again
     (λ c. search needs)
-    returns)
+    (λ c. λ m ks h u l. c .before .loop .inv .0 m ks h u (omega arith)))

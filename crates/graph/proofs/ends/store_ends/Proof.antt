@@ -15,9 +15,6 @@ abbrev μ-loop : tie.MeasureT-loop
 near : (c : tie.In-loop Inv-loop μ-loop) → getD (c .before .before .args .keys .now) (c .before .loop .k) 0 + 1 < length (c .before .before .args .ends .now)
 near c = c .before .before .pre .1 .0 (c .before .loop .k) (c .loop-test .taken)
 
-loop-holds : tie.Need-loop-holds Inv-loop μ-loop
-loop-holds c = (ends-none (c .args .keys .now) (c .args .ends .now) (c .pre .1 .1), omega arith, refl)
-
 loop-again : tie.Need-loop-again Inv-loop μ-loop
 loop-again c =
     let l = c .before .before in
@@ -28,16 +25,13 @@ loop-again c =
       simp length-set (l .loop .inv .2),
     )
 
-returns : tie.Need-returns Inv-loop μ-loop
-returns c = let l = c .before in ends-done (l .before .args .count) (l .loop .k) (l .before .args .keys .now) (l .loop .ends) (l .loop .inv .1) (c .loop-test .left) (l .loop .inv .0)
-
 pub store-ends-spec : {M : Type 1} → statement M
 store-ends-spec =
     tie.close
     (tie.spec
     Inv-loop
     μ-loop
-    loop-holds
+    (λ c. (ends-none (c .args .keys .now) (c .args .ends .now) (c .pre .1 .1), omega arith, refl))
     (λ c. search needs)
     (λ c. search needs)
     (λ c. let x = near (c .before) in omega arith)
@@ -49,4 +43,4 @@ store-ends-spec =
     (λ c. search needs)
     loop-again
     (λ c. search needs)
-    returns)
+    (λ c. let l = c .before in ends-done (l .before .args .count) (l .loop .k) (l .before .args .keys .now) (l .loop .ends) (l .loop .inv .1) (c .loop-test .left) (l .loop .inv .0)))

@@ -23,9 +23,6 @@ abbrev μ-loop : tie.MeasureT-loop
 abbrev start : tie.At-loop Inv-loop μ-loop → tie.Start Inv-loop μ-loop
 start l = l .before .before .before .before .before .before .before .before
 
-loop-holds : tie.Need-loop-holds Inv-loop μ-loop
-loop-holds c = let s = c .before .before .before .before .before .before .before in ((λ e i. rules-first _ _ _ _ (s .pre .1) (s .args .n) (s .pre .0) (sym (c .is-edge .ensures) ∙ e)), omega arith, omega arith)
-
 loop-again : tie.Need-loop-again Inv-loop μ-loop
 loop-again c =
     let l = c .before .before .before .before .before .before .before in
@@ -63,7 +60,7 @@ are-sound-spec =
     (λ c. search needs)
     (λ c. search needs)
     (λ c κs. search needs)
-    loop-holds
+    (λ c. let s = c .before .before .before .before .before .before .before in ((λ e i. rules-first _ _ _ _ (s .pre .1) (s .args .n) (s .pre .0) (sym (c .is-edge .ensures) ∙ e)), omega arith, omega arith))
     (λ c. search needs)
     (λ c. search needs)
     (λ c. search needs)

@@ -17,16 +17,6 @@ lengthy : (c : tie.After-enum-told3) (r : Judged) (w : Verdict) → told r ≡ w
     told r ≡ (size (a .n) ▷ shortTable (columns (a .tails .now) (a .heads .now) (a .weights .now)) ▷ w)
 lengthy c r w e = sized (c .before .before .before) r _ (then-judged _ r _ w (c .before .before .judge-lengths .ensures) (c .enum-told3 .given .1) e)
 
-returns-2 : tie.Need-returns-2
-returns-2 c =
-    let l = c .before .before in
-    sized (l .before) _ _ (then-refused _ _ _ _ _ (l .judge-lengths .ensures) (c .enum-told4 .given .1))
-
-judge-table-requires : tie.Need-judge-table-requires
-judge-table-requires c κs =
-    let l = c .before .before in
-    lengths-accept _ _ _ (fine-accept _ _ (l .before .before .judge-lengths .ensures) (l .enum-told3 .given .1))
-
 pub judge-bare-spec : {M : Type 1} → statement M
 judge-bare-spec =
     tie.close
@@ -38,9 +28,13 @@ judge-bare-spec =
     (λ c κs. search needs)
     (λ c. search needs)
     (λ c. search needs)
-    returns-2
+    (λ c.
+    let l = c .before .before in
+    sized (l .before) _ _ (then-refused _ _ _ _ _ (l .judge-lengths .ensures) (c .enum-told4 .given .1)))
     (λ c. search needs)
     (λ c. search needs)
     (λ c. lengthy (c .before .before) _ _ (then-refused _ _ _ _ _ refl (c .enum-told6 .given .1)))
-    judge-table-requires
+    (λ c κs.
+    let l = c .before .before in
+    lengths-accept _ _ _ (fine-accept _ _ (l .before .before .judge-lengths .ensures) (l .enum-told3 .given .1)))
     (λ c. lengthy (c .before .before .before) _ _ (then-judged _ _ _ _ refl (c .before .enum-told5 .given .1) (c .judge-table .ensures))))

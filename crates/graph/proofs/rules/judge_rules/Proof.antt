@@ -17,56 +17,38 @@ abbrev μ-loop : tie.MeasureT-loop
 abbrev start : tie.At-loop Inv-loop μ-loop → tie.Start Inv-loop μ-loop
 start l = l .before .before .before .before .before .before .before .before .before .before
 
-returns : tie.Need-returns Inv-loop μ-loop
-returns c =
-    let s = c .before .before .before .before in
-    rules-none _ _ _ _ (s .pre) (s .args .n) (c .if1 .taken)
-
-returns-2 : tie.Need-returns-2 Inv-loop μ-loop
-returns-2 c =
-    let s = c .before .before .before .before .before .before .before .before .before in
-    let e = c .before .is-edge .ensures in
-    rules-broken _ _ _ _ (s .pre) (s .args .n) (omega arith) (sym e ∙ not-true _ (c .if2 .taken))
-
-loop-holds : tie.Need-loop-holds Inv-loop μ-loop
-loop-holds c =
-    let s = c .before .before .before .before .before .before .before .before .before in
-    let e = c .before .is-edge .ensures in
-    (rules-first _ _ _ _ (s .pre) (s .args .n) (omega arith) (sym e ∙ not-false _ (c .if2 .left)), omega arith, omega arith)
-
-returns-3 : tie.Need-returns-3 Inv-loop μ-loop
-returns-3 c =
-    let f = c .before in
-    let l = f .before .before in
-    follow-broken _ _ _ _ (start l .pre) (start l .args .n) (l .loop .k) (l .loop .inv .0) (omega arith) (sym (f .follows .ensures) ∙ not-true _ (c .if3 .taken))
-
-loop-again : tie.Need-loop-again Inv-loop μ-loop
-loop-again c =
-    let f = c .before in
-    let l = f .before .before in
-    (follow-more _ _ _ _ (start l .pre) (start l .args .n) (l .loop .k) (l .loop .inv .0) (omega arith) (sym (f .follows .ensures) ∙ not-false _ (c .if3 .left)), omega arith, omega arith)
-
-returns-4 : tie.Need-returns-4 Inv-loop μ-loop
-returns-4 c =
-    let l = c .before in
-    follow-none _ _ _ _ (start l .pre) (start l .args .n) (l .loop .k) (l .loop .inv .0) (c .loop-test .left)
-
 pub judge-rules-spec : {M : Type 1} → statement M
 judge-rules-spec =
     tie.close
     (tie.spec
     Inv-loop
     μ-loop
-    returns
+    (λ c.
+    let s = c .before .before .before .before in
+    rules-none _ _ _ _ (s .pre) (s .args .n) (c .if1 .taken))
     (λ c. search needs)
     (λ c. search needs)
     (λ c. search needs)
     (λ c κs. search needs)
-    returns-2
-    loop-holds
+    (λ c.
+    let s = c .before .before .before .before .before .before .before .before .before in
+    let e = c .before .is-edge .ensures in
+    rules-broken _ _ _ _ (s .pre) (s .args .n) (omega arith) (sym e ∙ not-true _ (c .if2 .taken)))
+    (λ c.
+    let s = c .before .before .before .before .before .before .before .before .before in
+    let e = c .before .is-edge .ensures in
+    (rules-first _ _ _ _ (s .pre) (s .args .n) (omega arith) (sym e ∙ not-false _ (c .if2 .left)), omega arith, omega arith))
     (λ c κs. search needs)
-    returns-3
+    (λ c.
+    let f = c .before in
+    let l = f .before .before in
+    follow-broken _ _ _ _ (start l .pre) (start l .args .n) (l .loop .k) (l .loop .inv .0) (omega arith) (sym (f .follows .ensures) ∙ not-true _ (c .if3 .taken)))
     (λ c. search needs)
     (λ c. search needs)
-    loop-again
-    returns-4)
+    (λ c.
+    let f = c .before in
+    let l = f .before .before in
+    (follow-more _ _ _ _ (start l .pre) (start l .args .n) (l .loop .k) (l .loop .inv .0) (omega arith) (sym (f .follows .ensures) ∙ not-false _ (c .if3 .left)), omega arith, omega arith))
+    (λ c.
+    let l = c .before in
+    follow-none _ _ _ _ (start l .pre) (start l .args .n) (l .loop .k) (l .loop .inv .0) (c .loop-test .left)))

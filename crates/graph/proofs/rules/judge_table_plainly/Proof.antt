@@ -4,13 +4,10 @@ use Rattle.graph.proofs.Judging.{table-judged, table-crowded}
 use Rattle.graph.proofs.rules.judge_table_plainly.Statement.{statement}
 use Rattle.graph.proofs.rules.judge_table_plainly.Tie as tie
 
-returns : tie.Need-returns
-returns c = let a = c .before .before .before .before .args in table-crowded (a .n) (a .count) (a .tails .now) (a .heads .now) (a .weights .now) (c .if1 .taken)
-
-returns-2 : tie.Need-returns-2
-returns-2 c =
-    let a = c .before .before .before .before .before .args in
-    table-judged (a .n) (a .count) (a .tails .now) (a .heads .now) (a .weights .now) (c .before .if1 .left) (c .judge-rules .ensures)
-
 pub judge-table-plainly-spec : {M : Type 1} → statement M
-judge-table-plainly-spec = tie.close (tie.spec returns (λ c κs. search needs) returns-2)
+judge-table-plainly-spec =
+    tie.close
+    (tie.spec
+    (λ c. let a = c .before .before .before .before .args in table-crowded (a .n) (a .count) (a .tails .now) (a .heads .now) (a .weights .now) (c .if1 .taken))
+    (λ c κs. search needs)
+    (λ c. let a = c .before .before .before .before .before .args in table-judged (a .n) (a .count) (a .tails .now) (a .heads .now) (a .weights .now) (c .before .if1 .left) (c .judge-rules .ensures)))

@@ -10,9 +10,6 @@ Inv-loop n src dst₀ at i₀ dst i = (dst ≡ paste dst₀ at src i) × (i ≤ 
 abbrev μ-loop : tie.MeasureT-loop
 μ-loop n src dst₀ at i₀ dst i = n - i
 
-loop-holds : tie.Need-loop-holds Inv-loop μ-loop
-loop-holds c = (paste-zero (c .args .dst .now) (c .args .at) (c .args .src .now), search needs, refl)
-
 loop-again : tie.Need-loop-again Inv-loop μ-loop
 loop-again c =
     let l = c .before .before in
@@ -22,18 +19,13 @@ loop-again c =
       simp length-set (l .loop .inv .2),
     )
 
-returns : tie.Need-returns Inv-loop μ-loop
-returns c =
-    let e : c .before .loop .i ≡ c .before .before .args .n = omega arith in
-    c .before .loop .inv .0 ∙ ap (λ (k : ℕ). paste (c .before .before .args .dst .now) (c .before .before .args .at) (c .before .before .args .src .now) k) e
-
 pub copy-spec : {M : Type 1} → statement M
 copy-spec =
     tie.close
     (tie.spec
     Inv-loop
     μ-loop
-    loop-holds
+    (λ c. (paste-zero (c .args .dst .now) (c .args .at) (c .args .src .now), search needs, refl))
     (λ c. search needs)
     (λ c. search needs)
     (λ c. search needs)
@@ -43,4 +35,6 @@ copy-spec =
     (λ c. search needs)
     loop-again
     (λ c. search needs)
-    returns)
+    (λ c.
+    let e : c .before .loop .i ≡ c .before .before .args .n = omega arith in
+    c .before .loop .inv .0 ∙ ap (λ (k : ℕ). paste (c .before .before .args .dst .now) (c .before .before .args .at) (c .before .before .args .src .now) k) e))

@@ -10,16 +10,6 @@ Inv-loop dst₀ v i₀ dst i = (take i dst ≡ replicate i v) × (i ≤ length d
 abbrev μ-loop : tie.MeasureT-loop
 μ-loop dst₀ v i₀ dst i = length dst₀ - i
 
-loop-again : tie.Need-loop-again Inv-loop μ-loop
-loop-again c =
-    let l = c .before in
-    (fill-turn (l .loop .dst) (l .loop .i) _ (omega arith) (l .loop .inv .0), omega arith, simp length-set (l .loop .inv .2))
-
-returns : tie.Need-returns Inv-loop μ-loop
-returns c =
-    let l = c .before in
-    fill-done (l .loop .dst) (l .loop .i) (length (l .before .args .dst .now)) _ (omega arith) (omega arith) (l .loop .inv .0)
-
 pub fill-spec : {M : Type 1} → statement M
 fill-spec =
     tie.close
@@ -31,6 +21,10 @@ fill-spec =
     (λ c. search needs)
     (λ c. search needs)
     (λ c. search needs)
-    loop-again
+    (λ c.
+    let l = c .before in
+    (fill-turn (l .loop .dst) (l .loop .i) _ (omega arith) (l .loop .inv .0), omega arith, simp length-set (l .loop .inv .2)))
     (λ c. search needs)
-    returns)
+    (λ c.
+    let l = c .before in
+    fill-done (l .loop .dst) (l .loop .i) (length (l .before .args .dst .now)) _ (omega arith) (omega arith) (l .loop .inv .0)))
