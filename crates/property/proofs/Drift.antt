@@ -4,7 +4,7 @@
 --   Steady P d k   == near values stay near along one edge, and near weights lead from one value to near ones
 --   Even P d k     == near values stay near along two edges of near weights
 use Rattle.property.proofs.Basics.{_≡_, refl, _≢_, false, ℕ, zero, suc, _+_, arith}
-use Rattle.property.specs.Property.{Property, sssp, bfs, sswp, ssnp, ssr, property}
+use Rattle.property.specs.Property.{Property, property}
 use Rattle.property.specs.Drift.{Near, slack}
 use Rattle.property.proofs.Tests.{tests}
 
@@ -31,23 +31,7 @@ near-back k v w (h, j) = (j, h)
 pub near-on : (j k u v w : ℕ) → Near j u v → Near k v w → Near (j + k) u w
 near-on j k u v w (a, b) (c, d) = (omega arith, omega arith)
 
--- ---- each property
-
--- a sum that stops at M is no steeper than the sum
-sssp-steady : (d : ℕ) → Steady sssp d d
-sssp-steady d = omega tests
-
-bfs-even : (d : ℕ) → Even bfs d 0
-bfs-even d = omega tests
-
-sswp-even : (d : ℕ) → Even sswp d d
-sswp-even d = omega tests
-
-ssnp-even : (d : ℕ) → Even ssnp d d
-ssnp-even d = omega tests
-
-ssr-even : (d : ℕ) → Even ssr d 0
-ssr-even d = omega tests
+-- ---- by number
 
 even-steady : {P : Property} {d k : ℕ} → Even P d k → Steady P d k
 even-steady {d = d} {k = k} E = record {
@@ -56,25 +40,21 @@ even-steady {d = d} {k = k} E = record {
   near-meets = E .near-meets;
 }
 
--- ---- by number
-
 pub property-even : (p d : ℕ) → p ≢ 1 → Even (property p) d (slack p d)
 unfolding property slack
-property-even zero d h = ssr-even d
+property-even zero d h = omega tests
 property-even (suc zero) d h = absurd (h refl)
-property-even (suc (suc zero)) d h = bfs-even d
-property-even (suc (suc (suc zero))) d h = sswp-even d
-property-even (suc (suc (suc (suc zero)))) d h = ssnp-even d
-property-even (suc (suc (suc (suc (suc k))))) d h = ssr-even d
+property-even (suc (suc zero)) d h = omega tests
+property-even (suc (suc (suc zero))) d h = omega tests
+property-even (suc (suc (suc (suc zero)))) d h = omega tests
+property-even (suc (suc (suc (suc (suc k))))) d h = omega tests
 
+-- a sum that stops at M is no steeper than the sum
 pub property-steady : (p d : ℕ) → Steady (property p) d (slack p d)
 unfolding property slack
-property-steady zero d = even-steady (ssr-even d)
-property-steady (suc zero) d = sssp-steady d
-property-steady (suc (suc zero)) d = even-steady (bfs-even d)
-property-steady (suc (suc (suc zero))) d = even-steady (sswp-even d)
-property-steady (suc (suc (suc (suc zero)))) d = even-steady (ssnp-even d)
-property-steady (suc (suc (suc (suc (suc k))))) d = even-steady (ssr-even d)
+property-steady zero d = even-steady (property-even 0 d (λ e. omega arith))
+property-steady (suc zero) d = omega tests
+property-steady (suc (suc p)) d = even-steady (property-even (suc (suc p)) d (λ e. omega arith))
 
 -- moves that add up let values move as far as all of them together
 pub slack-adds : (p d e : ℕ) → slack p (d + e) ≡ slack p d + slack p e

@@ -1,63 +1,40 @@
 -- The laws of the five properties and of `property p` for every number p, so that nothing above looks into a property; and
 -- that no sum wraps. Assumes nothing.
 use Rattle.property.proofs.Basics.{_≡_, refl, ℕ, zero, suc, _+_, _≤_, _<_}
-use Rattle.property.specs.Property.{M, plus, sssp, bfs, sswp, ssnp, ssr, property}
+use Rattle.property.specs.Property.{M, Property, plus, sssp, bfs, sswp, ssnp, ssr, property}
 use Rattle.property.specs.Laws.{Laws, Joins}
 use Rattle.property.proofs.Tests.{tests}
 
--- ---- each property
+-- ---- by number
 
-pub sssp-laws : Laws sssp
-sssp-laws = omega tests
+-- what holds for each of the five properties holds for that of any number
+pub by-property : (Q : Property → Type 0) → Q sssp → Q bfs → Q sswp → Q ssnp → Q ssr → (p : ℕ) → Q (property p)
+unfolding property
+by-property Q a b c d e zero = e
+by-property Q a b c d e (suc zero) = a
+by-property Q a b c d e (suc (suc zero)) = b
+by-property Q a b c d e (suc (suc (suc zero))) = c
+by-property Q a b c d e (suc (suc (suc (suc zero)))) = d
+by-property Q a b c d e (suc (suc (suc (suc (suc k))))) = e
 
 pub bfs-laws : Laws bfs
 bfs-laws = omega tests
 
-pub sswp-laws : Laws sswp
-sswp-laws = omega tests
-
-pub ssnp-laws : Laws ssnp
-ssnp-laws = omega tests
-
-pub ssr-laws : Laws ssr
-ssr-laws = omega tests
-
-pub sssp-joins : Joins sssp
-sssp-joins = omega tests
+pub property-laws : (p : ℕ) → Laws (property p)
+property-laws = by-property Laws (omega tests) bfs-laws (omega tests) (omega tests) (omega tests)
 
 pub bfs-joins : Joins bfs
 bfs-joins = omega tests
 
-pub sswp-joins : Joins sswp
-sswp-joins = omega tests
-
-pub ssnp-joins : Joins ssnp
-ssnp-joins = omega tests
-
-pub ssr-joins : Joins ssr
-ssr-joins = omega tests
-
--- ---- by number
-
-pub property-laws : (p : ℕ) → Laws (property p)
-unfolding property
-property-laws zero = ssr-laws
-property-laws (suc zero) = sssp-laws
-property-laws (suc (suc zero)) = bfs-laws
-property-laws (suc (suc (suc zero))) = sswp-laws
-property-laws (suc (suc (suc (suc zero)))) = ssnp-laws
-property-laws (suc (suc (suc (suc (suc k))))) = ssr-laws
-
 pub property-joins : (p : ℕ) → Joins (property p)
-unfolding property
-property-joins zero = ssr-joins
-property-joins (suc zero) = sssp-joins
-property-joins (suc (suc zero)) = bfs-joins
-property-joins (suc (suc (suc zero))) = sswp-joins
-property-joins (suc (suc (suc (suc zero)))) = ssnp-joins
-property-joins (suc (suc (suc (suc (suc k))))) = ssr-joins
+property-joins = by-property Joins (omega tests) bfs-joins (omega tests) (omega tests) (omega tests)
 
--- a number that a `match` with arms for 1 to 4 leaves over
+-- the numbers of a `match` with arms for 1 to 4 ..
+pub property-arms : (property 1 ≡ sssp) × (property 2 ≡ bfs) × (property 3 ≡ sswp) × (property 4 ≡ ssnp)
+unfolding property
+property-arms = (refl, refl, refl, refl)
+
+-- .. and one that it leaves over
 pub property-rest : (p : ℕ) → (((Unit {0} × (p ≡ 1 → ⊥)) × (p ≡ 2 → ⊥)) × (p ≡ 3 → ⊥)) × (p ≡ 4 → ⊥) → property p ≡ ssr
 unfolding property
 property-rest zero h = refl

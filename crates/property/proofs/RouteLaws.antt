@@ -3,7 +3,7 @@
 --   Strict P    == of two values the better stays better along an edge, unless no route comes of the other
 --   Selects P   == where a value and an edge's own value are no worse than v, neither is the value gone along that edge
 use Rattle.property.proofs.Basics.{_≡_, _≢_, true, false, ℕ, zero, suc, _≤_, _<_, arith}
-use Rattle.property.specs.Property.{Property, sssp, bfs, sswp, ssnp, ssr, properties, property}
+use Rattle.property.specs.Property.{Property, properties, property}
 use Rattle.property.proofs.Tests.{tests}
 
 pub record Strict (P : Property) : Type 0 where
@@ -11,23 +11,6 @@ pub record Strict (P : Property) : Type 0 where
 
 pub record Selects (P : Property) : Type 0 where
   pub along-selects : (v a w : ℕ) → P .better v a ≡ false → P .better v (P .along (P .start) w) ≡ false → P .better v (P .along a w) ≡ false
-
--- ---- each property
-
-sssp-strict : Strict sssp
-sssp-strict = omega tests
-
-bfs-strict : Strict bfs
-bfs-strict = omega tests
-
-sswp-selects : Selects sswp
-sswp-selects = omega tests
-
-ssnp-selects : Selects ssnp
-ssnp-selects = omega tests
-
-ssr-selects : Selects ssr
-ssr-selects = omega tests
 
 -- ---- by number
 
@@ -44,8 +27,8 @@ by-number Q a b c d e (suc (suc (suc (suc (suc (suc p)))))) h k = absurd (omega 
 pub property-strict : (p : ℕ) → 0 < p → p ≤ 2 → Strict (property p)
 unfolding property
 property-strict zero h k = absurd (omega arith)
-property-strict (suc zero) h k = sssp-strict
-property-strict (suc (suc zero)) h k = bfs-strict
+property-strict (suc zero) h k = omega tests
+property-strict (suc (suc zero)) h k = omega tests
 property-strict (suc (suc (suc p))) h k = absurd (omega arith)
 
 pub property-selects : (p : ℕ) → 2 < p → Selects (property p)
@@ -53,6 +36,6 @@ unfolding property
 property-selects zero h = absurd (omega arith)
 property-selects (suc zero) h = absurd (omega arith)
 property-selects (suc (suc zero)) h = absurd (omega arith)
-property-selects (suc (suc (suc zero))) h = sswp-selects
-property-selects (suc (suc (suc (suc zero)))) h = ssnp-selects
-property-selects (suc (suc (suc (suc (suc k))))) h = ssr-selects
+property-selects (suc (suc (suc zero))) h = omega tests
+property-selects (suc (suc (suc (suc zero)))) h = omega tests
+property-selects (suc (suc (suc (suc (suc k))))) h = omega tests
