@@ -1,8 +1,10 @@
 -- What a caller uses of the answers: laws on any list of Bool, and on the list that any number of words holds. Assumes nothing.
-use Rattle.property.proofs.Basics.{_≡_, refl, sym, ap, ap₂, _∙_, Bool, true, false, List, [], _∷_, _++_, append-nil, ℕ, zero, suc, _+_, _-_, _*_, _≤_, _<_, not-suc-le-zero, le-of-suc-le-suc, suc-mul, zero-mul, arith, length, getD, set, drop, replicate, length-drop, replicate-append-replicate, drop-of-length-le, getD-drop}
+use Rattle.property.proofs.Basics.{_≡_, refl, sym, ap, ap₂, _∙_, Bool, true, false, true≢false, false≢true, List, [], _∷_, _++_, append-nil, ℕ, zero, suc, _+_, _-_, _*_, _≤_, _<_, not-suc-le-zero, le-of-suc-le-suc, suc-mul, zero-mul, arith, eqb-true, not-false, length, getD, set, drop, replicate, length-drop, replicate-append-replicate, drop-of-length-le, getD-drop}
+use Rattle.property.proofs.Tests.{is-false}
 use Rattle.frontier.specs.Waiting.{bitsOf, bitsOfAll, waitingOf, seek, nextFrom, anyOf, countOf}
 use Rattle.frontier.specs.declared.Next.the-variants.{At, None}
 use Rattle.frontier.proofs.Words.{bits-all-length}
+use Rattle.frontier.proofs.Counts.{any-count}
 
 -- ---- the first that waits
 
@@ -56,44 +58,25 @@ next-none l i e k h = sym (left-at l i k h) ∙ seek-none i (drop i l) e (k - i)
 
 pub count-remove : (l : List Bool) (v : ℕ) → getD l v false ≡ true → countOf l ≡ suc (countOf (set l v false))
 unfolding countOf
-count-remove [] v e = let y : _≡_ {A = ℕ} 0 1 = cc in absurd (omega arith)
+count-remove [] v e = absurd (false≢true e)
 count-remove (true ∷ l) zero e = refl
-count-remove (false ∷ l) zero e = let y : _≡_ {A = ℕ} 0 1 = cc in absurd (omega arith)
+count-remove (false ∷ l) zero e = absurd (false≢true e)
 count-remove (true ∷ l) (suc v) e = ap suc (count-remove l v e)
 count-remove (false ∷ l) (suc v) e = count-remove l v e
 
 pub count-insert : (l : List Bool) (v : ℕ) → v < length l → getD l v false ≡ false → countOf (set l v true) ≡ suc (countOf l)
 unfolding countOf
 count-insert [] v h e = absurd (not-suc-le-zero h)
-count-insert (true ∷ l) zero h e = let y : _≡_ {A = ℕ} 0 1 = cc in absurd (omega arith)
+count-insert (true ∷ l) zero h e = absurd (true≢false e)
 count-insert (false ∷ l) zero h e = refl
 count-insert (true ∷ l) (suc v) h e = ap suc (count-insert l v (le-of-suc-le-suc h) e)
 count-insert (false ∷ l) (suc v) h e = count-insert l v (le-of-suc-le-suc h) e
 
-pub count-none : (l : List Bool) → ((k : ℕ) → getD l k false ≡ false) → countOf l ≡ 0
-unfolding countOf
-count-none [] f = refl
-count-none (true ∷ l) f = let e : true ≡ false = f 0 in let y : _≡_ {A = ℕ} 0 1 = cc in absurd (omega arith)
-count-none (false ∷ l) f = count-none l (λ k. f (suc k))
-
 -- ---- whether any waits
-
-pub any-none : (l : List Bool) → anyOf l ≡ false → (k : ℕ) → getD l k false ≡ false
-unfolding anyOf
-any-none [] e k = refl
-any-none (true ∷ l) e k = let y : _≡_ {A = ℕ} 0 1 = cc in absurd (omega arith)
-any-none (false ∷ l) e zero = refl
-any-none (false ∷ l) e (suc k) = any-none l e k
-
-pub none-any : (l : List Bool) → ((k : ℕ) → getD l k false ≡ false) → anyOf l ≡ false
-unfolding anyOf
-none-any [] f = refl
-none-any (true ∷ l) f = f 0
-none-any (false ∷ l) f = none-any l (λ k. f (suc k))
 
 pub any-some : (l : List Bool) → anyOf l ≡ true → (v : ℕ) × (v < length l) × (getD l v false ≡ true)
 unfolding anyOf
-any-some [] e = let y : _≡_ {A = ℕ} 0 1 = cc in absurd (omega arith)
+any-some [] e = absurd (false≢true e)
 any-some (true ∷ l) e = (0, omega arith, refl)
 any-some (false ∷ l) e = let r = any-some l e in (suc (r .0), omega (arith, r .1), r .2)
 
@@ -101,8 +84,17 @@ pub some-any : (l : List Bool) (v : ℕ) → getD l v false ≡ true → anyOf l
 unfolding anyOf
 some-any [] v e = e
 some-any (true ∷ l) v e = refl
-some-any (false ∷ l) zero e = let y : _≡_ {A = ℕ} 0 1 = cc in absurd (omega arith)
+some-any (false ∷ l) zero e = absurd (false≢true e)
 some-any (false ∷ l) (suc v) e = some-any l v e
+
+pub any-none : (l : List Bool) → anyOf l ≡ false → (k : ℕ) → getD l k false ≡ false
+any-none l e k = is-false _ (λ q. true≢false (sym (some-any l k q) ∙ e))
+
+pub none-any : (l : List Bool) → ((k : ℕ) → getD l k false ≡ false) → anyOf l ≡ false
+none-any l f = is-false _ (λ q. let r = any-some l q in true≢false (sym (r .2) ∙ f (r .0)))
+
+pub count-none : (l : List Bool) → ((k : ℕ) → getD l k false ≡ false) → countOf l ≡ 0
+count-none l f = eqb-true _ _ (not-false _ (any-count l ∙ none-any l f))
 
 -- ---- the words
 

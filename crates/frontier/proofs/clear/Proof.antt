@@ -4,10 +4,5 @@ use Rattle.frontier.specs.Waiting.{capacity}
 use Rattle.frontier.proofs.clear.Statement.{statement}
 use Rattle.frontier.proofs.clear.Tie as tie
 
-returns : tie.Need-returns
-returns c =
-    let e : 64 * length (c .before .before .args .ws .now) ≡ capacity = omega arith in
-    c .clear .ensures ∙ ap (λ (k : ℕ). replicate k false) e
-
 pub clear-spec : {M : Type 1} → statement M
-clear-spec = tie.close (tie.spec (λ c κs. search needs) returns)
+clear-spec = tie.close (tie.spec (λ c κs. search needs) (λ c. let e : 64 * length (c .before .before .args .ws .now) ≡ capacity = omega arith in c .clear .ensures ∙ ap (λ (k : ℕ). replicate k false) e))

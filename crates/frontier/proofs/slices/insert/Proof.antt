@@ -4,8 +4,5 @@ use Rattle.frontier.proofs.Words.{waiting-insert}
 use Rattle.frontier.proofs.slices.insert.Statement.{statement}
 use Rattle.frontier.proofs.slices.insert.Tie as tie
 
-returns : tie.Need-returns
-returns c = waiting-insert (c .before .args .ws .now) (c .before .args .i) (c .before .pre)
-
 pub insert-spec : {M : Type 1} → statement M
-insert-spec = tie.close (tie.spec (λ c. search needs) (λ c. search needs) (λ c. search needs) (λ c. search needs) (λ c. search needs) returns)
+insert-spec = tie.close (tie.spec (λ c. search needs) (λ c. search needs) (λ c. search needs) (λ c. search needs) (λ c. search needs) (λ c. waiting-insert (c .before .args .ws .now) (c .before .args .i) (c .before .pre)))

@@ -7,9 +7,6 @@ use Rattle.graph.proofs.Records.{room-less}
 use Rattle.graph.proofs.rules.judge_table.Statement.{statement}
 use Rattle.graph.proofs.rules.judge_table.Tie as tie
 
-are-sound-requires : tie.Need-are-sound-requires
-are-sound-requires c κs = let s = c .before .before .before .before .before in (omega arith, room-less (leb-true (s .args .count) maxEdges (c .if2 .taken)) (s .pre))
-
 returns : tie.Need-returns
 unfolding told
 returns c =
@@ -18,4 +15,4 @@ returns c =
     table-judged (a .n) (a .count) (a .tails .now) (a .heads .now) (a .weights .now) (leb-true (a .count) maxEdges (s .before .if2 .taken)) (s .are-sound .ensures (c .if3 .taken))
 
 pub judge-table-spec : {M : Type 1} → statement M
-judge-table-spec = tie.close (tie.spec are-sound-requires returns (λ c κs. search needs) (λ c. search needs))
+judge-table-spec = tie.close (tie.spec (λ c κs. let s = c .before .before .before .before .before in (omega arith, room-less (leb-true (s .args .count) maxEdges (c .if2 .taken)) (s .pre))) returns (λ c κs. search needs) (λ c. search needs))
