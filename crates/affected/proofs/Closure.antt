@@ -65,14 +65,10 @@ module _ (P : Property) (es fs : List Edge) (s : ℕ) (ws : List ℕ) where
   fold-named (x ∷ xs) ms sub g =
       fold-named xs (mark P fs s ws ms x) (λ e m. sub e (List·Memᴰ·tail m)) (mark-named ms x g (sub x (List·Memᴰ·head refl)))
 
-  pub sweep-named : (ms : List Bool) → Named P es fs s ws ms → Named P es fs s ws (sweep P es fs s ws ms)
-  unfolding sweep
-  sweep-named ms g = fold-named es ms (λ e m. m) g
-
   pub sweeps-named : (k : ℕ) (ms : List Bool) → Named P es fs s ws ms → Named P es fs s ws (sweeps P es fs s ws k ms)
-  unfolding sweeps
+  unfolding sweeps sweep
   sweeps-named zero ms g = g
-  sweeps-named (suc k) ms g = sweeps-named k (sweep P es fs s ws ms) (sweep-named ms g)
+  sweeps-named (suc k) ms g = sweeps-named k (sweep P es fs s ws ms) (fold-named es ms (λ e m. m) g)
 
   -- ---- whom the closure never has
 

@@ -1,4 +1,6 @@
 -- Affected vertices of small networks, computed: document 01, "Near the edges, and a small deck"; document 02, One. Assumes nothing.
+--
+-- A table of examples lists what is asked with who is affected; one equation holds for all of its lines.
 use Rattle.property.proofs.Basics.{_≡_, refl, Bool, true, false, List, [], _∷_, map, ℕ}
 use Rattle.property.specs.Property.{M, sssp, sswp, ssr, property}
 use Rattle.graph.specs.Edge.{Edge, edge, reverse, exists}
@@ -8,63 +10,53 @@ use Rattle.run.specs.Run.{tight}
 use Rattle.affected.specs.Net.{counterpart, removed, added}
 use Rattle.affected.specs.Affected.{mark, sweep, sweeps, affected}
 
-nobody : List Bool
-nobody = false ∷ false ∷ false ∷ false ∷ []
-
 -- ---- deck A, landmark 0, of which 0→1 is taken
 
-graphA : List Edge
+abbrev graphA : List Edge
 graphA = edge 0 1 4 ∷ edge 0 3 9 ∷ edge 1 2 4 ∷ edge 2 1 4 ∷ edge 3 2 2 ∷ []
 
-less : List Edge
+abbrev less : List Edge
 less = delete (edge 0 1 0) graphA
 
-time : List ℕ
+abbrev time : List ℕ
 time = 0 ∷ 4 ∷ 8 ∷ 9 ∷ []
 
-widths : List ℕ
+abbrev widths : List ℕ
 widths = M ∷ 4 ∷ 4 ∷ 9 ∷ []
 
--- 1 lost the edge that gives its time, and 2 has its own from 1
-take-time : affected sssp graphA less 0 time 4 ≡ false ∷ true ∷ true ∷ false ∷ []
-unfolding affected sweeps sweep mark counterpart order.delete graphA less time
-take-time = refl
+abbrev nobody : List Bool
+nobody = false ∷ false ∷ false ∷ false ∷ []
 
--- the ring 1→2→1 of equal words cannot uphold itself
-take-widths : affected sswp graphA less 0 widths 4 ≡ false ∷ true ∷ true ∷ false ∷ []
-unfolding affected sweeps sweep mark counterpart order.delete graphA less widths
-take-widths = refl
+-- 1 and 2
+abbrev two : List Bool
+two = false ∷ true ∷ true ∷ false ∷ []
 
--- the backward row: nobody has a way to 0, and the edge that goes was into 0 as that row sees it
-take-backward : affected sssp (map reverse graphA) (map reverse less) 0 (0 ∷ M ∷ M ∷ M ∷ []) 4 ≡ nobody
-unfolding affected sweeps sweep mark counterpart order.delete graphA less nobody
-take-backward = refl
+abbrev deckA : List (List Bool × List Bool)
+deckA =
+    -- 1 lost the edge that gives its time, and 2 has its own from 1
+    (affected sssp graphA less 0 time 4, two)
+    -- the ring 1→2→1 of equal words cannot uphold itself
+    ∷ (affected sswp graphA less 0 widths 4, two)
+    -- the backward row: nobody has a way to 0, and the edge that goes was into 0 as that row sees it
+    ∷ (affected sssp (map reverse graphA) (map reverse less) 0 (0 ∷ M ∷ M ∷ M ∷ []) 4, nobody)
+    -- taken and added back: the new table has the same three words, so nothing is removed
+    ∷ (affected sssp graphA (insert (edge 0 1 4) less) 0 time 4, nobody)
+    -- added back with a weight that is worse for time, as an update does it too: the edge that was there is removed ..
+    ∷ (affected sssp graphA (insert (edge 0 1 5) less) 0 time 4, two)
+    ∷ (affected sssp graphA (update (edge 0 1 5) graphA) 0 time 4, two)
+    -- .. with one that is better it is not, ..
+    ∷ (affected sssp graphA (update (edge 0 1 3) graphA) 0 time 4, nobody)
+    -- .. but it is for headroom then
+    ∷ (affected sswp graphA (update (edge 0 1 3) graphA) 0 widths 4, two)
+    -- an edge that is removed without being tight affects nobody
+    ∷ (affected sssp graphA (delete (edge 3 2 0) graphA) 0 time 4, nobody)
+    ∷ []
 
--- taken and added back: the new table has the same three words, so nothing is removed
-back : affected sssp graphA (insert (edge 0 1 4) less) 0 time 4 ≡ nobody
-unfolding affected sweeps sweep mark counterpart order.insert order.delete graphA less time nobody
-back = refl
+deckA-said : map (λ c. c .0) deckA ≡ map (λ c. c .1) deckA
+unfolding affected sweeps sweep mark counterpart order.insert order.delete order.update
+deckA-said = refl
 
--- added back with a weight that is worse for time, as an update does it too: the edge that was there is removed ..
-worsened : affected sssp graphA (insert (edge 0 1 5) less) 0 time 4 ≡ false ∷ true ∷ true ∷ false ∷ []
-unfolding affected sweeps sweep mark counterpart order.insert order.delete graphA less time
-worsened = refl
-
-updated : affected sssp graphA (update (edge 0 1 5) graphA) 0 time 4 ≡ false ∷ true ∷ true ∷ false ∷ []
-unfolding affected sweeps sweep mark counterpart order.update graphA time
-updated = refl
-
--- .. with one that is better it is not, ..
-bettered : affected sssp graphA (update (edge 0 1 3) graphA) 0 time 4 ≡ nobody
-unfolding affected sweeps sweep mark counterpart order.update graphA time nobody
-bettered = refl
-
--- .. but it is for headroom then, ..
-narrowed : affected sswp graphA (update (edge 0 1 3) graphA) 0 widths 4 ≡ false ∷ true ∷ true ∷ false ∷ []
-unfolding affected sweeps sweep mark counterpart order.update graphA widths
-narrowed = refl
-
--- .. and a bettered edge passes on by its old weight: 1→2 of 2 becomes 1, 0→1 goes, and the time 3 of 2 is affected
+-- a bettered edge passes on by its old weight: 1→2 of 2 becomes 1, 0→1 goes, and the time 3 of 2 is affected
 passed-on : affected sssp (edge 0 1 1 ∷ edge 1 2 2 ∷ []) (edge 1 2 1 ∷ []) 0 (0 ∷ 1 ∷ 3 ∷ []) 3 ≡ false ∷ true ∷ true ∷ []
 unfolding affected sweeps sweep mark counterpart exists
 passed-on = refl
@@ -87,45 +79,27 @@ counts-own : counts 4 4 ≡ (false, false) ∷ (false, false) ∷ (false, false)
 unfolding counts property counterpart
 counts-own = refl
 
--- ---- removed, and not tight
-
--- an edge that is removed without being tight affects nobody
-not-tight : affected sssp graphA (delete (edge 3 2 0) graphA) 0 time 4 ≡ nobody
-unfolding affected sweeps sweep mark counterpart order.delete graphA time nobody
-not-tight = refl
-
 -- ---- heads that are never affected
 
-apart : List Edge
-apart = edge 1 2 4 ∷ []
+-- going along an edge between two vertices without a route gives the head's word, which is no route; and a tight edge into the landmark
+never-tight : tight sssp (0 ∷ M ∷ M ∷ []) (edge 1 2 4) ∷ tight ssr (1 ∷ 1 ∷ []) (edge 1 0 1) ∷ [] ≡ true ∷ true ∷ []
+never-tight = refl
 
--- going along an edge between two vertices without a route gives the head's word, which is no route ..
-apart-tight : tight sssp (0 ∷ M ∷ M ∷ []) (edge 1 2 4) ≡ true
-apart-tight = refl
-
--- .. and its removal still affects nobody
-apart-taken : affected sssp apart [] 0 (0 ∷ M ∷ M ∷ []) 3 ≡ false ∷ false ∷ false ∷ []
-unfolding affected sweeps sweep mark counterpart apart
-apart-taken = refl
-
-ring : List Edge
+abbrev ring : List Edge
 ring = edge 0 1 1 ∷ edge 1 0 1 ∷ []
 
--- a tight edge into the landmark ..
-ring-tight : tight ssr (1 ∷ 1 ∷ []) (edge 1 0 1) ≡ true
-ring-tight = refl
-
--- .. affects nobody: the landmark has its word from itself
-ring-taken : affected ssr ring (delete (edge 1 0 0) ring) 0 (1 ∷ 1 ∷ []) 2 ≡ false ∷ false ∷ []
-unfolding affected sweeps sweep mark counterpart order.delete ring
-ring-taken = refl
+-- the removal of either affects nobody: the landmark has its word from itself
+never-taken : affected sssp (edge 1 2 4 ∷ []) [] 0 (0 ∷ M ∷ M ∷ []) 3 ∷ affected ssr ring (delete (edge 1 0 0) ring) 0 (1 ∷ 1 ∷ []) 2 ∷ []
+    ≡ (false ∷ false ∷ false ∷ []) ∷ (false ∷ false ∷ []) ∷ []
+unfolding affected sweeps sweep mark counterpart order.delete
+never-taken = refl
 
 -- ---- two tight edges into a head
 
-diamond : List Edge
+abbrev diamond : List Edge
 diamond = edge 0 1 1 ∷ edge 0 2 1 ∷ edge 1 3 1 ∷ edge 2 3 1 ∷ []
 
 -- 3 is affected by the removal of 1→3, though 1 is not and 2→3 stays
 diamond-taken : affected sssp diamond (delete (edge 1 3 0) diamond) 0 (0 ∷ 1 ∷ 1 ∷ 2 ∷ []) 4 ≡ false ∷ false ∷ false ∷ true ∷ []
-unfolding affected sweeps sweep mark counterpart order.delete diamond
+unfolding affected sweeps sweep mark counterpart order.delete
 diamond-taken = refl

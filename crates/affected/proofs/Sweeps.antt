@@ -1,7 +1,7 @@
 -- Sweeps come to rest, and where they rest the marks are exactly the closure. Assumes nothing.
 --
 --   Swept xs ms ls   == ls, the marks after edges xs were gone over from ms, are those before and closed, or they are more
-use Rattle.property.proofs.Basics.{_≡_, refl, sym, ap, _∙_, _↔_, _⊎_, inl, inr, ⊎-elim, _≢_, Bool, true, false, not, cond, true≢false, false≢true, List, [], _∷_, foldl, map, List·Memᴰ, List·Memᴰ·head, List·Memᴰ·tail, List·Memᴰ·cases-cons, List·Memᴰ·not-nil, ℕ, zero, suc, _+_, _≤_, _<_, arith, length, set, replicate, length-set, length-replicate, ext-getD}
+use Rattle.property.proofs.Basics.{_≡_, refl, sym, ap, _∙_, _⊎_, inl, inr, ⊎-elim, _≢_, Bool, true, false, not, cond, true≢false, false≢true, List, [], _∷_, foldl, map, List·Memᴰ, List·Memᴰ·head, List·Memᴰ·tail, List·Memᴰ·cases-cons, List·Memᴰ·not-nil, ℕ, zero, suc, _+_, _≤_, _<_, arith, length, set, replicate, length-set, length-replicate, ext-getD}
 use mathlib.Core.List.{List·Memᴰ·eq-of-singleton}
 use lib.Seq.{set-getD}
 use Rattle.property.specs.Property.{Property}
@@ -26,11 +26,7 @@ module _ (P : Property) (es fs : List Edge) (s : ℕ) (ws : List ℕ) where
 
   mark-length : (n : ℕ) (ms : List Bool) (e : Edge) → length ms ≡ n → length (mark P fs s ws ms e) ≡ n
   unfolding mark
-  mark-length n ms e h = pick (touches P fs s ws ms e)
-    where
-      pick : (b : Bool) → length (cond b (set ms (e .head) true) ms) ≡ n
-      pick true = length-set ms (e .head) true ∙ h
-      pick false = h
+  mark-length n ms e h = by-test (touches P fs s ws ms e) (λ q. rw q (length-set ms (e .head) true ∙ h)) (λ q. rw q h)
 
   pub sweep-length : (ms : List Bool) → length (sweep P es fs s ws ms) ≡ length ms
   unfolding sweep
@@ -116,10 +112,6 @@ module _ (P : Property) (es fs : List Edge) (s : ℕ) (ws : List ℕ) where
 
 -- ---- the marks are the closure
 
--- two lists that mark the same vertices
-same-marks : (ms ls : List Bool) → length ms ≡ length ls → ((t : ℕ) → (marked ms t ≡ true) ↔ (marked ls t ≡ true)) → ms ≡ ls
-same-marks ms ls h f = ext-getD false ms ls h (λ t l. same-test (marked ms t) (marked ls t) (f t))
-
 module _ (P : Property) (es fs : List Edge) (s : ℕ) (ws : List ℕ) (n : ℕ) where
   -- the affected vertices, as marks
   abbrev marks : List Bool
@@ -145,30 +137,18 @@ module _ (P : Property) (es fs : List Edge) (s : ℕ) (ws : List ℕ) (n : ℕ) 
     -- What a program has to show that spreads marks in any order: it marks affected vertices alone, and no edge is left that would
     -- mark its head. Then it has marked what the sweeps mark, since both have exactly the closure.
     pub closed-exact : (ms : List Bool) → length ms ≡ n → Named P es fs s ws ms → Closed P es fs s ws ms → ms ≡ marks
-    closed-exact ms h g c = same-marks ms marks (h ∙ sym (affected-length P es fs s ws n))
-        (λ t. (λ q. all-marked (g t q), λ q. closed-marked P es fs s ws ms c (affected-named t q)))
+    closed-exact ms h g c = ext-getD false ms marks (h ∙ sym (affected-length P es fs s ws n))
+        (λ t l. same-test (marked ms t) (marked marks t) (λ q. all-marked (g t q), λ q. closed-marked P es fs s ws ms c (affected-named t q)))
 
   module _ (inside : Within n es) where
-    pub named-affected : {t : ℕ} → Affected P es fs s ws t → marked marks t ≡ true
-    named-affected a = all-marked (inside .heads) a
-
     -- Seen from a head that is not marked: a held edge into it is not removed, and its tail is not marked either. A removed one would have
     -- marked the head, and so would a marked tail.
-    pub held-closed : (e : Edge) → List·Memᴰ e es → Held P s ws e → marked marks (e .head) ≡ false
-        → (removed P fs e ≡ false) × (marked marks (e .tail) ≡ false)
-    held-closed e m h q = pick (removed P fs e) refl
-      where
-        clash : Affected P es fs s ws (e .head) → ⊥
-        clash a = true≢false (sym (named-affected a) ∙ q)
-
-        pick : (b : Bool) → removed P fs e ≡ b → (removed P fs e ≡ false) × (marked marks (e .tail) ≡ false)
-        pick true r = absurd (clash (at-removed m r h))
-        pick false r = (r, unaffected-unmarked (e .tail) (λ a. clash (onward a m r h)))
-
-    -- the same, part by part
     pub affected-closed : (e : Edge) → List·Memᴰ e es → tight P ws e ≡ true → e .head ≢ s → word P ws (e .head) ≢ P .none
         → marked marks (e .head) ≡ false → (removed P fs e ≡ false) × (marked marks (e .tail) ≡ false)
-    affected-closed e m t d w q = held-closed e m (record { tight = t; elsewhere = d; routed = w }) q
+    affected-closed e m t d w q =
+        let h : Held P s ws e = record { tight = t; elsewhere = d; routed = w } in
+        let clash : Affected P es fs s ws (e .head) → ⊥ = λ a. true≢false (sym (all-marked (inside .heads) a) ∙ q) in
+        by-test (removed P fs e) (λ r. absurd (clash (at-removed m r h))) (λ r. (r, unaffected-unmarked (e .tail) (λ a. clash (onward a m r h))))
 
 -- The computed marks are the inductive closure. Each sweep marks only what the closure names. After n sweeps a further one would
 -- change nothing, so the marks are closed under both rules of the closure, and by induction along these rules they have all
