@@ -30,19 +30,12 @@ unfolding below
 none-below u [] h = refl
 none-below u (e ∷ es) h = rw (le-ltb (e .tail) u (h 0 (omega arith))) (none-below u es (λ k l. h (suc k) (omega arith)))
 
-none-equal : (u : ℕ) (es : List Edge) → ((k : ℕ) → k < length es → u < getD es k (edge 0 0 0) .tail) → equal u (tailsOf es) ≡ 0
-unfolding equal
-none-equal u [] h = refl
-none-equal u (e ∷ es) h =
+none-later : (u : ℕ) (es : List Edge) → ((k : ℕ) → k < length es → u < getD es k (edge 0 0 0) .tail) → (equal u (tailsOf es) ≡ 0) × (leaving u es ≡ [])
+unfolding equal keep keepIf
+none-later u [] h = (refl, refl)
+none-later u (e ∷ es) h =
     let l = h 0 (omega arith) in
-    rw (ne-eqb (e .tail) u (λ q. omega arith)) (none-equal u es (λ k i. h (suc k) (omega arith)))
-
-none-leaving : (u : ℕ) (es : List Edge) → ((k : ℕ) → k < length es → u < getD es k (edge 0 0 0) .tail) → leaving u es ≡ []
-unfolding keep keepIf
-none-leaving u [] h = refl
-none-leaving u (e ∷ es) h =
-    let l = h 0 (omega arith) in
-    rw (ne-eqb (e .tail) u (λ q. omega arith)) (none-leaving u es (λ k i. h (suc k) (omega arith)))
+    rw (ne-eqb (e .tail) u (λ q. omega arith)) (none-later u es (λ k i. h (suc k) (omega arith)))
 
 leaving-part : (n u : ℕ) (es : List Edge) → Sound n es → take (equal u (tailsOf es)) (drop (below u (tailsOf es)) es) ≡ leaving u es
 unfolding below equal keep keepIf
@@ -61,7 +54,8 @@ leaving-part n u (e ∷ es) s =
     let c = eqb-false (e .tail) u q in
     let l : u < e .tail = omega arith in
     let f : (k : ℕ) → k < length es → u < getD es k (edge 0 0 0) .tail = λ k h. let m = first k h in omega arith in
-    rw (p, q, none-below u es (λ k h. let m = f k h in omega arith), none-equal u es f) (sym (none-leaving u es f))))
+    let (x, y) = none-later u es f in
+    rw (p, q, none-below u es (λ k h. let m = f k h in omega arith), x) (sym y)))
   where
     first : (k : ℕ) → k < length es → e .tail ≤ getD es k (edge 0 0 0) .tail
     first k l = precedes-tail e (getD es k (edge 0 0 0)) (sorted-before table-ordered (isEdge n) (edge 0 0 0) (e ∷ es) s 0 (suc k) (omega arith) (omega arith))
