@@ -3,11 +3,13 @@
 use Rattle.property.proofs.Basics.{_≡_, refl, sym, ap, _∙_, _⊎_, inl, inr, true, false, not, _&&_, _||_, cond, List, [], _∷_, ℕ, zero, suc, _+_, _<_, _≤_, min, add-one, arith, length, getD, drop, ltb, eqb, lt-ltb, le-ltb, eq-eqb, ne-eqb, eqb-true, not-false}
 use mathlib.Core.Bool.{and-false, or-false}
 use Rattle.graph.specs.declared.Found.the-variants.{At, Absent}
+use Rattle.graph.specs.declared.Judged.{Judged}
+use Rattle.graph.specs.declared.Judged.the-variants as judged
 use Rattle.graph.specs.Limits.{maxEdges}
 use Rattle.graph.specs.Refusal.{Verdict, accept, refuse, _▷_, refuseIf}
 use Rattle.graph.specs.Edge.{Edge, edge, edges}
 use Rattle.graph.specs.Table.{isWeight}
-use Rattle.graph.specs.Code.{Room, find}
+use Rattle.graph.specs.Code.{Room, find, told}
 use Rattle.graph.proofs.Verdicts.{then-accept, if-accept}
 use Rattle.graph.proofs.Order.{rules-accept, accept-rules}
 use Rattle.graph.proofs.Records.{room-less, edges-length}
@@ -16,7 +18,7 @@ use Rattle.graph.proofs.Lookup.{found-present, absent-present}
 use Rattle.items.specs.declared.Edited.{Edited}
 use Rattle.items.specs.declared.Edited.the-variants.{Count, Refused}
 use Rattle.network.specs.Change.{Change, edit, edits, item, items, words, against}
-use Rattle.items.specs.Code.{change, changes, Leaves}
+use Rattle.items.specs.Code.{change, changes, verdict, Leaves}
 use Rattle.calls.specs.Code.{Tabled}
 use Rattle.network.proofs.Items.{item-good}
 
@@ -112,59 +114,63 @@ found-below n m ts hs ws t e i f =
     let l = find-below _ e (edges ts hs ws m) i f in
     omega arith
 
--- ---- a change as a whole
-
-pub item-words : (n i : ℕ) (es : List Edge) (c : Change) (k j : ℕ) → refuse k j ≡ words n i c → refuse k j ≡ item n i es c
-unfolding item _▷_
-item-words n i es c k j e = ap (λ v. v ▷ against i es c) e
-
-pub item-against : (n i : ℕ) (es : List Edge) (c : Change) {v : Verdict} → accept ≡ words n i c → v ≡ against i es c → v ≡ item n i es c
-unfolding item _▷_
-item-against n i es c a e = e ∙ ap (λ v. v ▷ against i es c) a
-
--- a change that is another by its words
-module _ (n i : ℕ) (es : List Edge) (c d : Change) (q : c ≡ d) where
-  pub item-as : {v : Verdict} → accept ≡ words n i c → v ≡ against i es d → v ≡ item n i es c
-  item-as a e = item-against n i es c a (rw q e)
-
-  pub leaves-as : {r : Edited} {ts hs ws : List ℕ} → Leaves n r ts hs ws (edit es d) → Leaves n r ts hs ws (edit es c)
-  leaves-as l = rw q l
-
--- the table after an accepted change
-pub item-tabled : (n i m : ℕ) (ts hs ws : List ℕ) (c : Change) → Tabled n m ts hs ws → accept ≡ words n i c → accept ≡ against i (edges ts hs ws m) c
-    → (m′ : ℕ) (ts′ hs′ ws′ : List ℕ) → m′ ≤ maxEdges → Room maxEdges ts′ hs′ ws′ → edges ts′ hs′ ws′ m′ ≡ edit (edges ts hs ws m) c
-    → Tabled n m′ ts′ hs′ ws′
-item-tabled n i m ts hs ws c t a b m′ ts′ hs′ ws′ l r e =
-    let few : m ≤ maxEdges = t .few in
-    let q = edges-length ts hs ws m (room-less few (t .room)) in
-    let long : length (edges ts hs ws m) ≤ maxEdges = omega arith in
-    let z = item-good n i (edges ts hs ws m) c (sym (item-against n i (edges ts hs ws m) c a b)) (rules-accept n _ (t .rules)) long in
-    record { few = l; room = r; rules = rw e (accept-rules n _ (z .0)) }
-
 -- ---- what an answer tells of the lists
 
-pub leaves-refused : (n k i : ℕ) (r : Edited) (ts hs ws : List ℕ) (fs : List Edge) → r ≡ Refused k i → Leaves n r ts hs ws fs
-leaves-refused n k i r ts hs ws fs q = record {
+pub leaves-refused : (n k i : ℕ) (r : Edited) (ts hs ws : List ℕ) (fs : List Edge) {v : Verdict} → r ≡ Refused k i → refuse k i ≡ v → (verdict r ≡ v) × Leaves n r ts hs ws fs
+unfolding verdict
+leaves-refused n k i r ts hs ws fs q e = (ap verdict q ∙ e, record {
   table = λ m e. let z : _≡_ {A = ℕ} 0 1 = cc in absurd (omega arith);
   edges = λ m e. let z : _≡_ {A = ℕ} 0 1 = cc in absurd (omega arith);
-}
+})
 
-pub leaves-count : (n m : ℕ) (ts hs ws : List ℕ) (fs : List Edge) → Tabled n m ts hs ws → edges ts hs ws m ≡ fs → Leaves n (Count m) ts hs ws fs
-leaves-count n m ts hs ws fs t e = record {
+pub leaves-count : (n m : ℕ) (ts hs ws : List ℕ) (fs : List Edge) {v : Verdict} → Tabled n m ts hs ws → edges ts hs ws m ≡ fs → accept ≡ v → (verdict (Count m) ≡ v) × Leaves n (Count m) ts hs ws fs
+unfolding verdict
+leaves-count n m ts hs ws fs t e a = (a, record {
   table = λ k q. let z : m ≡ k = cc in rw z at t;
   edges = λ k q. let z : m ≡ k = cc in rw z at e;
-}
+})
+
+-- ---- a change as a whole
+
+pub item-words : (n i : ℕ) (es : List Edge) (c : Change) (r : Judged) (k j : ℕ) → told r ≡ words n i c → r ≡ judged.Refused k j → refuse k j ≡ item n i es c
+unfolding item _▷_ told
+item-words n i es c r k j e q = ap (λ v. v ▷ against i es c) (sym (ap told q) ∙ e)
+
+item-against : (n i : ℕ) (es : List Edge) (c : Change) {v : Verdict} → words n i c ≡ accept → v ≡ against i es c → v ≡ item n i es c
+unfolding item _▷_
+item-against n i es c a e = rw a e
+
+-- a change that is another by its words, as by the kind that a branch takes it for
+pub change-kind : {k j : ℕ} (t h w : ℕ) → k ≡ j → change k t h w ≡ change j t h w
+change-kind t h w e = rw e
+
+pub words-as : (n i : ℕ) (c d : Change) → c ≡ d → words n i c ≡ accept → words n i d ≡ accept
+words-as n i c d q a = rw q at a
+
+pub item-as : (n i : ℕ) (es : List Edge) (c d : Change) → c ≡ d → {v : Verdict} {r : Edited} {ts hs ws : List ℕ} → words n i c ≡ accept
+    → (v ≡ against i es d) × Leaves n r ts hs ws (edit es d) → (v ≡ item n i es c) × Leaves n r ts hs ws (edit es c)
+item-as n i es c d q a (e, l) = (item-against n i es c a (rw q e), rw q l)
+
+-- the table after an accepted change
+pub item-leaves : (n i m : ℕ) (ts hs ws : List ℕ) (c : Change) → Tabled n m ts hs ws → words n i c ≡ accept → accept ≡ against i (edges ts hs ws m) c
+    → (m′ : ℕ) (ts′ hs′ ws′ : List ℕ) → m′ ≤ maxEdges → Room maxEdges ts′ hs′ ws′ → edges ts′ hs′ ws′ m′ ≡ edit (edges ts hs ws m) c
+    → (verdict (Count m′) ≡ against i (edges ts hs ws m) c) × Leaves n (Count m′) ts′ hs′ ws′ (edit (edges ts hs ws m) c)
+item-leaves n i m ts hs ws c t a b m′ ts′ hs′ ws′ l r e =
+    let few : m ≤ maxEdges = t .few in
+    let q = edges-length ts hs ws m (room-less few (t .room)) in
+    let z = item-good n i (edges ts hs ws m) c (sym (item-against n i (edges ts hs ws m) c a b)) (rules-accept n _ (t .rules)) (omega arith) in
+    leaves-count n m′ ts′ hs′ ws′ _ (record { few = l; room = r; rules = rw e (accept-rules n _ (z .0)) }) e b
 
 -- ---- a chain of changes from one on
 
 module _ (n k : ℕ) (es : List Edge) (c : Change) (cs ds : List Change) (e : cs ≡ c ∷ ds) {v : Verdict} (h : items n k es cs ≡ v) where
-  pub items-more : (fs : List Edge) → fs ≡ edit es c → accept ≡ item n k es c → items n (k + 1) fs ds ≡ v
-  unfolding items _▷_
-  items-more fs f a = rw (add-one, f) (rw (e, ← a) at h)
+  pub items-more : (r : Edited) (m : ℕ) → r ≡ Count m → verdict r ≡ item n k es c → (fs : List Edge) → fs ≡ edit es c → items n (k + 1) fs ds ≡ v
+  unfolding items _▷_ verdict
+  items-more r m q a fs f = let z : accept ≡ item n k es c = sym (ap verdict q) ∙ a in rw (add-one, f) (rw (e, ← z) at h)
 
-  pub items-stop : (j p : ℕ) → refuse j p ≡ item n k es c → refuse j p ≡ v
-  unfolding items _▷_
-  items-stop j p a = rw (e, ← a) at h
+  pub items-stop : (r : Edited) (j p : ℕ) → r ≡ Refused j p → verdict r ≡ item n k es c → refuse j p ≡ v
+  unfolding items _▷_ verdict
+  items-stop r j p q a = let z : refuse j p ≡ item n k es c = sym (ap verdict q) ∙ a in rw (e, ← z) at h
 
 pub items-none : (n k : ℕ) (es : List Edge) (cs : List Change) {v : Verdict} → cs ≡ [] → items n k es cs ≡ v → accept ≡ v
 unfolding items

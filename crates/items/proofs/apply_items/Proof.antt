@@ -1,9 +1,9 @@
 -- `items::apply_items` meets its contract: what is left of the changes gives, from here, the verdict and the edges of all.
 -- Assumes nothing.
-use Rattle.property.proofs.Basics.{needs, arith, _≡_, refl, sym, ap, _∙_, _-_, _≤_, _<_, length, drop, drop-of-length-le}
+use Rattle.property.proofs.Basics.{needs, arith, _≡_, refl, _∙_, _-_, _≤_, _<_, length, drop, drop-of-length-le}
 use Rattle.graph.specs.Edge.{edges}
 use Rattle.network.specs.Change.{edits, items}
-use Rattle.items.specs.Code.{changes, verdict}
+use Rattle.items.specs.Code.{changes}
 use Rattle.calls.specs.Code.{Tabled}
 use Rattle.items.proofs.Editing.{changes-length, changes-more, items-more, items-stop, items-none, edits-more, edits-none, leaves-refused, leaves-count}
 use Rattle.items.proofs.apply_items.Statement.{statement}
@@ -35,7 +35,6 @@ inside c =
     (omega arith, omega arith, omega arith, omega arith)
 
 returns : tie.Need-returns Inv-loop μ-loop
-unfolding verdict
 returns c =
     let a = c .before .before .before .before .before .before .before .before in
     let t = a .before .before .before .before .before .before .before .before in
@@ -43,10 +42,9 @@ returns c =
     let g = start l .args in
     let q = c .enum-told .given .1 in
     let d = changes-more (g .kinds .now) (g .froms .now) (g .tos .now) (g .values .now) (l .loop .k) (within t) in
-    (ap verdict q ∙ items-stop _ _ _ _ _ _ d (l .loop .inv .0) _ _ (sym (ap verdict q) ∙ a .apply-item .ensures .0), leaves-refused _ _ _ _ _ _ _ _ q)
+    leaves-refused _ _ _ _ _ _ _ _ q (items-stop _ _ _ _ _ _ d (l .loop .inv .0) _ _ _ q (a .apply-item .ensures .0))
 
 loop-again : tie.Need-loop-again Inv-loop μ-loop
-unfolding verdict
 loop-again c =
     let e = c .before in
     let a = e .before .before .before .before .before .before .before .before in
@@ -56,7 +54,7 @@ loop-again c =
     let q = e .edited .given .1 in
     let d = changes-more (g .kinds .now) (g .froms .now) (g .tos .now) (g .values .now) (l .loop .k) (within t) in
     let f = a .apply-item .ensures .1 .edges _ q in (
-      items-more _ _ _ _ _ _ d (l .loop .inv .0) _ f (sym (ap verdict q) ∙ a .apply-item .ensures .0),
+      items-more _ _ _ _ _ _ d (l .loop .inv .0) _ _ q (a .apply-item .ensures .0) _ f,
       edits-more _ _ _ _ _ d f (l .loop .inv .1),
       a .apply-item .ensures .1 .table _ q,
       omega arith,
@@ -64,15 +62,6 @@ loop-again c =
       a .apply-item .kept .1 .1 .1 .1 .1 .1 .0 ∙ l .loop .inv .5,
       a .apply-item .kept .1 .1 .1 .1 .1 .1 .1 .0 ∙ l .loop .inv .6,
     )
-
-returns-2 : tie.Need-returns-2 Inv-loop μ-loop
-unfolding verdict
-returns-2 c =
-    let l = c .before in
-    let a = start l .args in
-    let e = l .before .count-changes .ensures in
-    let z = drop-of-length-le (changes (a .kinds .now) (a .froms .now) (a .tos .now) (a .values .now)) {i = l .loop .k} (omega arith) in
-    (items-none _ _ _ _ z (l .loop .inv .0), leaves-count _ _ _ _ _ _ (l .loop .inv .2) (edits-none _ _ z (l .loop .inv .1)))
 
 pub apply-items-spec : {M : Type 1} → statement M
 apply-items-spec =
@@ -105,4 +94,9 @@ apply-items-spec =
     (λ c. search needs)
     (λ c. search needs)
     (λ c. search needs)
-    returns-2)
+    (λ c.
+    let l = c .before in
+    let a = start l .args in
+    let e = l .before .count-changes .ensures in
+    let z = drop-of-length-le (changes (a .kinds .now) (a .froms .now) (a .tos .now) (a .values .now)) {i = l .loop .k} (omega arith) in
+    leaves-count _ _ _ _ _ _ (l .loop .inv .2) (edits-none _ _ z (l .loop .inv .1)) (items-none _ _ _ _ z (l .loop .inv .0))))

@@ -7,8 +7,8 @@ use Rattle.graph.specs.Code.{Room, find}
 use Rattle.graph.proofs.Records.{room-less}
 use Rattle.graph.proofs.Seek.{delete-found}
 use Rattle.network.specs.Change.{edit}
-use Rattle.items.specs.Code.{change, verdict}
-use Rattle.items.proofs.Editing.{leaves-refused, leaves-count, against-absent, against-found, found-below, item-tabled}
+use Rattle.items.specs.Code.{change}
+use Rattle.items.proofs.Editing.{leaves-refused, against-absent, against-found, found-below, item-leaves}
 use Rattle.items.proofs.delete_item.Statement.{statement}
 use Rattle.items.proofs.delete_item.Tie as tie
 
@@ -22,14 +22,8 @@ found i = sym (i .before .before .find .ensures) ∙ i .i .given .1
 below : (i : tie.After-i) → i .i .given .0 .0 < start i .args .count
 below i = found-below _ _ _ _ _ (start i .pre .0) _ _ (found i)
 
-returns : tie.Need-returns
-unfolding verdict
-returns c =
-    let f = c .before .before in
-    (against-absent _ 2 _ _ 0 _ refl (sym (f .find .ensures) ∙ c .enum-told .given .1), leaves-refused _ _ _ _ _ _ _ _ refl)
-
 returns-2 : tie.Need-returns-2
-unfolding verdict edit
+unfolding edit
 returns-2 c =
     let d = c .before .before .before .before .before .before in
     let i = d .before .before .before .before .before in
@@ -38,7 +32,7 @@ returns-2 c =
     let e = d .delete-at .ensures ∙ delete-found _ _ _ _ (found i) in
     let t : s .args .count ≤ maxEdges = s .pre .0 .few in
     let r : Room maxEdges (d .delete-at .last .1 .0) (d .delete-at .last .1 .1 .0) (d .delete-at .last .1 .1 .1 .0) = record { tails = omega arith; heads = omega arith; weights = omega arith } in
-    (a, leaves-count _ _ _ _ _ _ (item-tabled _ (s .args .place) _ _ _ _ (change 2 (s .args .t) (s .args .h) 0) (s .pre .0) (sym (s .pre .1)) a _ _ _ _ (omega arith) r e) e)
+    item-leaves _ (s .args .place) _ _ _ _ (change 2 (s .args .t) (s .args .h) 0) (s .pre .0) (s .pre .1) a _ _ _ _ (omega arith) r e
 
 pub delete-item-spec : {M : Type 1} → statement M
 delete-item-spec =
@@ -50,7 +44,7 @@ delete-item-spec =
     (λ c. search needs)
     (λ c. search needs)
     (λ c. search needs)
-    returns
+    (λ c. leaves-refused _ _ _ _ _ _ _ _ refl (against-absent _ 2 _ _ 0 _ refl (sym (c .before .before .find .ensures) ∙ c .enum-told .given .1)))
     (λ c κs.
     let i = c .before .before .before .before in
     let t = start i .pre .0 in

@@ -6,9 +6,9 @@ use Rattle.graph.specs.Edge.{edge, edges}
 use Rattle.graph.specs.Code.{Room, find}
 use Rattle.graph.proofs.Records.{room-less, edges-length}
 use Rattle.network.specs.Change.{edit}
-use Rattle.items.specs.Code.{change, verdict}
+use Rattle.items.specs.Code.{change}
 use Rattle.graph.proofs.Lookup.{absent-present}
-use Rattle.items.proofs.Editing.{leaves-refused, leaves-count, insert-present, insert-full, insert-fine, item-tabled}
+use Rattle.items.proofs.Editing.{leaves-refused, insert-present, insert-full, insert-fine, item-leaves}
 use Rattle.items.proofs.insert_item.Statement.{statement}
 use Rattle.items.proofs.insert_item.Tie as tie
 
@@ -22,18 +22,8 @@ absent e = sym (e .before .before .find .ensures) ∙ e .enum-told2 .given .1
 long : (e : tie.After-enum-told2) → let a = start e .args in length (edges (a .tails .now) (a .heads .now) (a .weights .now) (a .count)) ≡ a .count
 long e = let t = start e .pre .0 in edges-length _ _ _ _ (room-less (t .few) (t .room))
 
-returns : tie.Need-returns
-unfolding verdict
-returns c =
-    let f = c .before .before in
-    (insert-present _ _ _ _ _ _ (sym (f .find .ensures) ∙ c .enum-told .given .1), leaves-refused _ _ _ _ _ _ _ _ refl)
-
-returns-2 : tie.Need-returns-2
-unfolding verdict
-returns-2 c = let q = long (c .before) in (insert-full _ _ _ _ _ (absent (c .before)) (omega arith), leaves-refused _ _ _ _ _ _ _ _ refl)
-
 returns-3 : tie.Need-returns-3
-unfolding verdict edit
+unfolding edit
 returns-3 c =
     let i = c .before .before .before .before .before .before in
     let e = i .before .before .before .before in
@@ -41,7 +31,7 @@ returns-3 c =
     let q = long (e .before) in
     let a = insert-fine _ (s .args .t) (s .args .h) (s .args .w) (s .args .place) (absent (e .before)) (omega arith) in
     let r : Room maxEdges (i .insert .last .1 .1 .1 .1 .0) (i .insert .last .1 .1 .1 .1 .1 .0) (i .insert .last .1 .1 .1 .1 .1 .1 .0) = record { tails = omega arith; heads = omega arith; weights = omega arith } in
-    (a, leaves-count _ _ _ _ _ _ (item-tabled _ (s .args .place) _ _ _ _ (change 1 (s .args .t) (s .args .h) (s .args .w)) (s .pre .0) (sym (s .pre .1)) a _ _ _ _ (omega arith) r (i .insert .ensures)) (i .insert .ensures))
+    item-leaves _ (s .args .place) _ _ _ _ (change 1 (s .args .t) (s .args .h) (s .args .w)) (s .pre .0) (s .pre .1) a _ _ _ _ (omega arith) r (i .insert .ensures)
 
 pub insert-item-spec : {M : Type 1} → statement M
 insert-item-spec =
@@ -52,12 +42,12 @@ insert-item-spec =
     (λ c. search needs)
     (λ c. search needs)
     (λ c. search needs)
-    returns
+    (λ c. leaves-refused _ _ _ _ _ _ _ _ refl (insert-present _ _ _ _ _ _ (sym (c .before .before .find .ensures) ∙ c .enum-told .given .1)))
     (λ c. search needs)
     (λ c. search needs)
     (λ c. search needs)
     (λ c. search needs)
-    returns-2
+    (λ c. let q = long (c .before) in leaves-refused _ _ _ _ _ _ _ _ refl (insert-full _ _ _ _ _ (absent (c .before)) (omega arith)))
     (λ c κs.
     let e = c .before .before .before in
     let t = start (e .before) .pre .0 in

@@ -7,8 +7,8 @@ use Rattle.graph.specs.Code.{Room, find}
 use Rattle.graph.proofs.Records.{room-less}
 use Rattle.graph.proofs.Lookup.{weight-set}
 use Rattle.network.specs.Change.{edit}
-use Rattle.items.specs.Code.{change, verdict}
-use Rattle.items.proofs.Editing.{leaves-refused, leaves-count, against-absent, against-found, found-below, item-tabled}
+use Rattle.items.specs.Code.{change}
+use Rattle.items.proofs.Editing.{leaves-refused, against-absent, against-found, found-below, item-leaves}
 use Rattle.items.proofs.update_item.Statement.{statement}
 use Rattle.items.proofs.update_item.Tie as tie
 
@@ -22,12 +22,6 @@ found i = sym (i .before .before .find .ensures) ∙ i .i .given .1
 below : (i : tie.After-i) → i .i .given .0 .0 < start i .args .count
 below i = found-below _ _ _ _ _ (start i .pre .0) _ _ (found i)
 
-returns : tie.Need-returns
-unfolding verdict
-returns c =
-    let f = c .before .before in
-    (against-absent _ 3 _ _ _ _ refl (sym (f .find .ensures) ∙ c .enum-told .given .1), leaves-refused _ _ _ _ _ _ _ _ refl)
-
 slice-write-weights : tie.Need-slice-write-weights
 slice-write-weights c =
     let l = below (c .before) in
@@ -36,7 +30,7 @@ slice-write-weights c =
     omega arith
 
 returns-2 : tie.Need-returns-2
-unfolding verdict edit
+unfolding edit
 returns-2 c =
     let i = c .before in
     let s = start i in
@@ -45,7 +39,7 @@ returns-2 c =
     let a = against-found _ 3 (g .t) (g .h) (g .w) (g .place) refl _ (found i) in
     let e = weight-set _ _ _ _ (room-less (t .few) (t .room)) (g .t) (g .h) (g .w) _ (below i) (found i) in
     let r : Room maxEdges (g .tails .now) (g .heads .now) (set (g .weights .now) (i .i .given .0 .0) (g .w)) = record { tails = t .room .tails; heads = t .room .heads; weights = rw (length-set (g .weights .now)) (t .room .weights) } in
-    (a, leaves-count _ _ _ _ _ _ (item-tabled _ (g .place) _ _ _ _ (change 3 (g .t) (g .h) (g .w)) t (sym (s .pre .1)) a _ _ _ _ (t .few) r e) e)
+    item-leaves _ (g .place) _ _ _ _ (change 3 (g .t) (g .h) (g .w)) t (s .pre .1) a _ _ _ _ (t .few) r e
 
 pub update-item-spec : {M : Type 1} → statement M
 update-item-spec =
@@ -57,7 +51,7 @@ update-item-spec =
     (λ c. search needs)
     (λ c. search needs)
     (λ c. search needs)
-    returns
+    (λ c. leaves-refused _ _ _ _ _ _ _ _ refl (against-absent _ 3 _ _ _ _ refl (sym (c .before .before .find .ensures) ∙ c .enum-told .given .1)))
     (λ c. let l = slice-write-weights c in search needs)
     slice-write-weights
     (λ c. search needs)
