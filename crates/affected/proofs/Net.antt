@@ -8,7 +8,7 @@ use Rattle.property.proofs.Tests.{by-test}
 use Rattle.property.specs.Property.{Property}
 use Rattle.property.specs.Laws.{Laws}
 use Rattle.graph.specs.Refusal.{accept}
-use Rattle.graph.specs.Edge.{Edge, reverse, samePair, alike, exists, present}
+use Rattle.graph.specs.Edge.{Edge, reverse, samePair, alike}
 use Rattle.graph.specs.Table.{isEdge, tableOrder, rules}
 use Rattle.graph.specs.Sorted.{Distinct}
 use Rattle.graph.proofs.Tests.{neither, or-false}
@@ -40,11 +40,6 @@ distinct-counterpart (x ∷ fs) h e f m p = by-test (samePair e x)
     (λ k. let a = pair-ends e x q in let b = pair-ends e f p in
     absurd (true≢false (sym (true-exists (alike x) k (pair-alike x f (sym (a .0) ∙ b .0) (sym (a .1) ∙ b .1))) ∙ h .0))) (List·Memᴰ·cases-cons m)))
     (λ q. rw q (⊎-elim (λ z. absurd (true≢false (sym (ap (samePair e) (sym z) ∙ p) ∙ q))) (λ k. distinct-counterpart fs (h .1) e f k p) (List·Memᴰ·cases-cons m)))
-
-pub counterpart-none : (fs : List Edge) (e : Edge) → present fs e ≡ false → counterpart fs e ≡ 0
-unfolding counterpart exists
-counterpart-none [] e h = refl
-counterpart-none (x ∷ fs) e h = let z = neither (samePair e x) (present fs e) h in rw (z .0) (counterpart-none fs e (z .1))
 
 -- ---- what is lost, and what is not
 
