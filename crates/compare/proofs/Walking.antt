@@ -5,7 +5,9 @@
 --   Noted fs i e w A     == e is one of the edges A a, of a below i; it differs in fs, where its pair has the weight w
 --   Half fs i g f o A    == of the edges A a, of a below i, those that differ in fs are listed: by the edges f k, of k below g, that have a weight; and
 --                           o k is the weight that the pair has in fs
---   Walk s s′ f h i j g  == so far for both tables, and the edges that are gone past precede those that are not
+--   Side s s′ f h i j g  == so far for the table s: by the edges f k, with the weights of the edges h k; and the edges of s′ that are gone past
+--                           precede the one at hand
+--   Walk s s′ f h i j g  == so far for both tables
 --
 -- Both tables are sorted by pair. At each step the edge that comes first is gone past: if it comes before the other table's edge at hand, it
 -- stands nowhere in the other table, since all before that one precede it and all from there on come after it. If both are of one pair, both
@@ -18,7 +20,7 @@ use Rattle.graph.specs.Edge.{Edge, edge, alike, precedes}
 use Rattle.graph.proofs.Tests.{both}
 use Rattle.graph.proofs.Edges.{pair-ends}
 use Rattle.graph.proofs.Sorted.{before-asym}
-use Rattle.graph.proofs.Order.{table-ordered}
+use Rattle.graph.proofs.Order.{EdgeFacts, table-ordered}
 use Rattle.graph.proofs.Arcs.{head-arc, weight-arc}
 use Rattle.graph.proofs.Records.{edges-mem}
 use Rattle.affected.specs.Net.{counterpart}
@@ -172,62 +174,49 @@ half-done s fs g f o t = record {
 
 -- ---- the walk
 
-pub record Walk {n : ℕ} (s s′ : Kept n) (f h : ℕ → Edge) (i j g : ℕ) : Type 0 where
-  pub old : Half (all s′) i g f (λ k. h k .weight) (at s)
-  pub new : Half (all s) j g h (λ k. f k .weight) (at s′)
+pub record Side {n : ℕ} (s s′ : Kept n) (f h : ℕ → Edge) (i j g : ℕ) : Type 0 where
+  pub listed : Half (all s′) i g f (λ k. h k .weight) (at s)
   pub behind : i < s .count → Past s′ (at s i) j
-  pub ahead : j < s′ .count → Past s (at s′ j) i
   pub low : i ≤ s .count
-  pub low′ : j ≤ s′ .count
+
+pub record Walk {n : ℕ} (s s′ : Kept n) (f h : ℕ → Edge) (i j g : ℕ) : Type 0 where
+  pub old : Side s s′ f h i j g
+  pub new : Side s′ s h f j i g
   pub few : g ≤ i + j
 
+side-start : {n : ℕ} (s s′ : Kept n) (f h : ℕ → Edge) → Side s s′ f h 0 0 0
+side-start s s′ f h = record { listed = half-none _ _ _ _; behind = λ l. passed-none s′ (at s 0); low = omega arith }
+
 pub walk-start : {n : ℕ} (s s′ : Kept n) (f h : ℕ → Edge) → Walk s s′ f h 0 0 0
-walk-start s s′ f h = record {
-  old = half-none _ _ _ _;
-  new = half-none _ _ _ _;
-  behind = λ l. passed-none s′ (at s 0);
-  ahead = λ l. passed-none s (at s′ 0);
-  low = omega arith;
-  low′ = omega arith;
-  few = omega arith;
-}
+walk-start s s′ f h = record { old = side-start s s′ f h; new = side-start s′ s h f; few = omega arith }
+
+module _ {n : ℕ} {s s′ : Kept n} {f h : ℕ → Edge} {i j g : ℕ} (t : Side s s′ f h i j g) where
+  side-moved : (f′ h′ : ℕ → Edge) → ((k : ℕ) → k < g → f′ k ≡ f k) → ((k : ℕ) → k < g → h′ k ≡ h k) → Side s s′ f′ h′ i j g
+  side-moved f′ h′ x y = record { listed = half-moved (t .listed) _ _ x (λ k l. ap (λ (e : Edge). e .weight) (y k l)); behind = t .behind; low = t .low }
+
+  side-made : (b c : Bool) → due s i s′ j ≡ b → due s′ j s i ≡ c → (g′ : ℕ) → Half (all s′) (cond b (i + 1) i) g′ f (λ k. h k .weight) (at s) → Side s s′ f h (cond b (i + 1) i) (cond c (j + 1) j) g′
+  side-made b c d e g′ l = record { listed = l; behind = passed-step s i s′ j (t .behind) b c d e; low = due-low s i s′ j b d (t .low) }
 
 -- the tables change places
 walk-flip : {n : ℕ} {s s′ : Kept n} {f h : ℕ → Edge} {i j g : ℕ} → Walk s s′ f h i j g → Walk s′ s h f j i g
-walk-flip w = record { old = w .new; new = w .old; behind = w .ahead; ahead = w .behind; low = w .low′; low′ = w .low; few = let z = w .few in omega arith }
+walk-flip w = record { old = w .new; new = w .old; few = let z = w .few in omega arith }
 
 module _ {n : ℕ} {s s′ : Kept n} {f h : ℕ → Edge} {i j g : ℕ} (w : Walk s s′ f h i j g) where
   -- by other lists that have the same
   walk-moved : (f′ h′ : ℕ → Edge) → ((k : ℕ) → k < g → f′ k ≡ f k) → ((k : ℕ) → k < g → h′ k ≡ h k) → Walk s s′ f′ h′ i j g
-  walk-moved f′ h′ x y = record {
-    old = half-moved (w .old) _ _ x (λ k l. ap (λ (e : Edge). e .weight) (y k l));
-    new = half-moved (w .new) _ _ y (λ k l. ap (λ (e : Edge). e .weight) (x k l));
-    behind = w .behind;
-    ahead = w .ahead;
-    low = w .low;
-    low′ = w .low′;
-    few = w .few;
-  }
+  walk-moved f′ h′ x y = record { old = side-moved (w .old) f′ h′ x y; new = side-moved (w .new) h′ f′ y x; few = w .few }
 
   made : (b c : Bool) → due s i s′ j ≡ b → due s′ j s i ≡ c → (g′ : ℕ) → g′ ≤ cond b (i + 1) i + cond c (j + 1) j → Half (all s′) (cond b (i + 1) i) g′ f (λ k. h k .weight) (at s)
       → Half (all s) (cond c (j + 1) j) g′ h (λ k. f k .weight) (at s′) → Walk s s′ f h (cond b (i + 1) i) (cond c (j + 1) j) g′
-  made b c d e g′ l old new = record {
-    old = old;
-    new = new;
-    behind = passed-step s i s′ j (w .behind) b c d e;
-    ahead = passed-step s′ j s i (w .ahead) c b e d;
-    low = due-low s i s′ j b d (w .low);
-    low′ = due-low s′ j s i c e (w .low′);
-    few = l;
-  }
+  made b c d e g′ l x y = record { old = side-made (w .old) b c d e g′ x; new = side-made (w .new) c b e d g′ y; few = l }
 
   -- both edges are of one pair
   step-both : due s i s′ j ≡ true → due s′ j s i ≡ true → f g ≡ at s i → h g ≡ at s′ j → (r : Bool) → eqb (f g .weight) (h g .weight) ≡ r → Walk s s′ f h (i + 1) (j + 1) (cond r g (g + 1))
   step-both d e p q r t = pick r t (met-counterpart s i s′ j d e) (met-counterpart s′ j s i e d)
     where
       pick : (r : Bool) → eqb (f g .weight) (h g .weight) ≡ r → counterpart (all s′) (at s i) ≡ at s′ j .weight → counterpart (all s) (at s′ j) ≡ at s i .weight → Walk s s′ f h (i + 1) (j + 1) (cond r g (g + 1))
-      pick true t a b = let z = eqb-true (f g .weight) (h g .weight) t in let u = w .few in made true true d e g (omega arith) (half-skip (w .old) (cc)) (half-skip (w .new) (cc))
-      pick false t a b = let z = eqb-false (f g .weight) (h g .weight) t in let u = w .few in made true true d e (g + 1) (omega arith) (half-list (w .old) (cc) (λ y. z (cc)) p) (half-list (w .new) (cc) (λ y. z (cc)) q)
+      pick true t a b = let z = eqb-true (f g .weight) (h g .weight) t in let u = w .few in made true true d e g (omega arith) (half-skip (w .old .listed) (cc)) (half-skip (w .new .listed) (cc))
+      pick false t a b = let z = eqb-false (f g .weight) (h g .weight) t in let u = w .few in made true true d e (g + 1) (omega arith) (half-list (w .old .listed) (cc) (λ y. z (cc)) p) (half-list (w .new .listed) (cc) (λ y. z (cc)) q)
 
   -- an edge of one table alone
   step-one : due s i s′ j ≡ true → due s′ j s i ≡ false → f g ≡ at s i → h g .weight ≡ 0 → Walk s s′ f h (i + 1) j (g + 1)
@@ -236,7 +225,7 @@ module _ {n : ℕ} {s s′ : Kept n} {f h : ℕ → Edge} {i j g : ℕ} (w : Wal
       let u = w .few in
       let v = at-facts s i l .some-weight in
       made true false d e (g + 1) (omega arith)
-      (half-list (w .old) (passed-counterpart s′ (at s i) j (w .behind l) (λ o. due-later s′ j s i e o .1) ∙ sym q) (λ z. omega arith) p) (half-stay (w .new) q)
+      (half-list (w .old .listed) (passed-counterpart s′ (at s i) j (w .old .behind l) (λ o. due-later s′ j s i e o .1) ∙ sym q) (λ z. omega arith) p) (half-stay (w .new .listed) q)
 
 -- ---- a change is stored
 
@@ -272,12 +261,14 @@ pub record Words {n : ℕ} (s s′ : Kept n) (i j : ℕ) (b c : Bool) (x y o w :
 
 module _ {n : ℕ} {s s′ : Kept n} {i j : ℕ} {b c : Bool} {x y o w : ℕ} (p : Words s s′ i j b c x y o w) where
   pub words-low : (x < n) × (y < n) × (o ≤ maxWeight) × (w ≤ maxWeight)
-  words-low = (
-    rw (p .tail) (either-below b (λ q. at-facts s i (step-due (p .step) q) .tail-below) (λ q. at-facts s′ j (step-other (p .step) q) .tail-below)),
-    rw (p .head) (either-below b (λ q. at-facts s i (step-due (p .step) q) .head-below) (λ q. at-facts s′ j (step-other (p .step) q) .head-below)),
-    rw (p .old) (weight-most b (λ q. at-facts s i (step-due (p .step) q) .weight-most)),
-    rw (p .new) (weight-most c (λ q. at-facts s′ j (step-due (step-flip (p .step)) q) .weight-most)),
-  )
+  words-low =
+      let f : b ≡ true → EdgeFacts n (at s i) = λ q. at-facts s i (step-due (p .step) q) in
+      let g : b ≡ false → EdgeFacts n (at s′ j) = λ q. at-facts s′ j (step-other (p .step) q) in (
+        rw (p .tail) (either-below b (λ q. f q .tail-below) (λ q. g q .tail-below)),
+        rw (p .head) (either-below b (λ q. f q .head-below) (λ q. g q .head-below)),
+        rw (p .old) (weight-most b (λ q. f q .weight-most)),
+        rw (p .new) (weight-most c (λ q. at-facts s′ j (step-due (step-flip (p .step)) q) .weight-most)),
+      )
     where
       either-below : (b : Bool) {x y : ℕ} → (b ≡ true → x < n) → (b ≡ false → y < n) → cond b x y < n
       either-below true f g = f refl
@@ -305,31 +296,29 @@ module _ {n : ℕ} (s s′ : Kept n) (xs : List ℕ) (i j g : ℕ) (wk : Listed 
   walk-turn long b c x y o w p =
       let (lx, ly, lo, lw) = words-low p in
       let k : cond (eqb o w) g (g + 1) ≤ g + 1 = by-test (eqb o w) (λ q. rw q (omega arith)) (λ q. rw q (omega arith)) in
-      (pick b c p (omega arith) (omega arith), λ a l. stored-inside xs g x y o w long (omega arith) (omega arith) n lx ly (wk .1) a (omega arith))
+      let so : o < arcWeights = omega arith in
+      let sw : w < arcWeights = omega arith in
+      (pick b c p (moved ys (kept-word xs g x y o w long so sw)) (stored-before xs g x y o w long so sw) (stored-after xs g x y o w long so sw), λ a l. stored-inside xs g x y o w long so sw n lx ly (wk .1) a (omega arith))
     where
       ys : List ℕ
       ys = put xs g (arc x o) (arc y w)
 
-      pick : (b c : Bool) → Words s s′ i j b c x y o w → o < arcWeights → w < arcWeights → Walk s s′ (before ys) (after ys) (cond b (i + 1) i) (cond c (j + 1) j) (cond (eqb o w) g (g + 1))
-      pick true true p so sw =
-          let v = moved ys (kept-word xs g x y o w long so sw) in
-          let a = stored-before xs g x y o w long so sw in
-          let z = stored-after xs g x y o w long so sw in
+      pick : (b c : Bool) → Words s s′ i j b c x y o w → Walk s s′ (before ys) (after ys) i j g → before ys g ≡ edge x y o → after ys g ≡ edge x y w
+          → Walk s s′ (before ys) (after ys) (cond b (i + 1) i) (cond c (j + 1) j) (cond (eqb o w) g (g + 1))
+      pick true true p v a z =
           let q = pair-ends (at s i) (at s′ j) (met-alike s i s′ j (sym (p .step .old)) (sym (p .step .new))) in
           step-both v (sym (p .step .old)) (sym (p .step .new)) (a ∙ rw (p .tail, p .head, p .old)) (z ∙ rw (p .tail, p .head, p .new, q .0, q .1)) (eqb o w) (cc)
-      pick true false p so sw =
-          let v = moved ys (kept-word xs g x y o w long so sw) in
+      pick true false p v a z =
           let l = at-facts s i (step-due (p .step) refl) .some-weight in
           let e = p .old in
           let d = p .new in
-          rw (ne-eqb o w (λ q. omega arith)) (step-one v (sym (p .step .old)) (sym (p .step .new)) (stored-before xs g x y o w long so sw ∙ rw (p .tail, p .head, p .old)) (ap (λ (f : Edge). f .weight) (stored-after xs g x y o w long so sw) ∙ d))
-      pick false true p so sw =
-          let v = moved ys (kept-word xs g x y o w long so sw) in
+          rw (ne-eqb o w (λ q. omega arith)) (step-one v (sym (p .step .old)) (sym (p .step .new)) (a ∙ rw (p .tail, p .head, p .old)) (ap (λ (f : Edge). f .weight) z ∙ d))
+      pick false true p v a z =
           let l = at-facts s′ j (step-other (p .step) refl) .some-weight in
           let e = p .old in
           let d = p .new in
-          rw (ne-eqb o w (λ q. omega arith)) (walk-flip (step-one (walk-flip v) (sym (p .step .new)) (sym (p .step .old)) (stored-after xs g x y o w long so sw ∙ rw (p .tail, p .head, p .new)) (ap (λ (f : Edge). f .weight) (stored-before xs g x y o w long so sw) ∙ e)))
-      pick false false p so sw = absurd (step-none (p .step))
+          rw (ne-eqb o w (λ q. omega arith)) (walk-flip (step-one (walk-flip v) (sym (p .step .new)) (sym (p .step .old)) (z ∙ rw (p .tail, p .head, p .new)) (ap (λ (f : Edge). f .weight) a ∙ e)))
+      pick false false p v a z = absurd (step-none (p .step))
 
   module _ (long : 2 * g ≤ length xs) where
     pub walk-inside : Inside n (take (2 * g) xs)
@@ -338,11 +327,11 @@ module _ {n : ℕ} (s s′ : Kept n) (xs : List ℕ) (i j g : ℕ) (wk : Listed 
     pub walk-done : (i < s .count → ⊥) → (j < s′ .count → ⊥) → Differences (all s) (all s′) (take (2 * g) xs)
     walk-done a b =
         let v = moved (take (2 * g) xs) (λ k l. getD-take (2 * g) xs k 0 l) in
-        let ei : i ≡ s .count = (let z = wk .0 .low in omega arith) in
-        let ej : j ≡ s′ .count = (let z = wk .0 .low′ in omega arith) in
+        let ei : i ≡ s .count = (let z = wk .0 .old .low in omega arith) in
+        let ej : j ≡ s′ .count = (let z = wk .0 .new .low in omega arith) in
         let z = length-take-le (2 * g) xs long in
         let q : length (take (2 * g) xs) / 2 ≡ g = omega arith in
-        record { old = rw q (half-done s _ g _ _ (rw ei at (v .old))); new = rw q (half-done s′ _ g _ _ (rw ej at (v .new))) }
+        record { old = rw q (half-done s _ g _ _ (rw ei at (v .old .listed))); new = rw q (half-done s′ _ g _ _ (rw ej at (v .new .listed))) }
 
 -- ---- the two tables
 

@@ -65,14 +65,14 @@ loop-less c =
     let (n, t) = start (d .before .before .before) .pre .0 in
     let z = step-on _ _ (step d n t) in
     let w = turned c n t .0 in
-    omega (arith, z, w .low, w .low′, c .before .past .ensures, c .past2 .ensures)
+    omega (arith, z, w .old .low, w .new .low, c .before .past .ensures, c .past2 .ensures)
 
 returns : tie.Need-returns Inv-loop μ-loop
 returns c =
     let l = c .before .before in
     let (n, t) = start l .pre .0 in
     let w = l .loop .inv .0 n t .0 in
-    let long : 2 * l .loop .size ≤ length (l .loop .list) = omega (arith, l .loop .inv .1, w .low, w .low′, w .few, start l .pre .1) in (
+    let long : 2 * l .loop .size ≤ length (l .loop .list) = omega (arith, l .loop .inv .1, w .old .low, w .new .low, w .few, start l .pre .1) in (
       (long, (λ n t. walk-inside (oldTable t) (newTable t) (l .loop .list) (l .loop .i) (l .loop .j) (l .loop .size) (l .loop .inv .0 n t) long)),
       walk-done (oldTable t) (newTable t) (l .loop .list) (l .loop .i) (l .loop .j) (l .loop .size) (l .loop .inv .0 n t) long (λ q. omega (arith, q, c .before .if1 .left)) (λ q. let z = ltb-false (l .loop .j) (start l .args .count2) (c .if2 .left) in omega arith),
     )
@@ -91,10 +91,10 @@ differences-spec =
     (λ c κs q. let d = c .before .before in let (n, t) = start (d .before .before .before) .pre .0 in let z = step-due (step d n t) q in omega (arith, t .old .1 .weights))
     (λ c κs q. let d = c .before .before .before in let (n, t) = start (d .before .before .before) .pre .0 in let z = step-due (step-flip (step d n t)) q in omega (arith, t .new .1 .weights))
     note-requires
-    (λ c κs. let l = c .before .before .before .before .before .before .before .before .before .before .before in let (n, t) = start l .pre .0 in omega (arith, l .loop .inv .0 n t .0 .low, t .old .0))
-    (λ c κs. let l = c .before .before .before .before .before .before .before .before .before .before .before .before in let (n, t) = start l .pre .0 in omega (arith, l .loop .inv .0 n t .0 .low′, t .new .0))
+    (λ c κs. let l = c .before .before .before .before .before .before .before .before .before .before .before in let (n, t) = start l .pre .0 in omega (arith, l .loop .inv .0 n t .0 .old .low, t .old .0))
+    (λ c κs. let l = c .before .before .before .before .before .before .before .before .before .before .before .before in let (n, t) = start l .pre .0 in omega (arith, l .loop .inv .0 n t .0 .new .low, t .new .0))
     loop-less
     (λ c. (turned c, search needs))
-    (λ c. let l = c .before .before in let (n, t) = start l .pre .0 in let w = l .loop .inv .0 n t .0 in omega (arith, w .low, w .low′, w .few, t .old .0, t .new .0))
+    (λ c. let l = c .before .before in let (n, t) = start l .pre .0 in let w = l .loop .inv .0 n t .0 in omega (arith, w .old .low, w .new .low, w .few, t .old .0, t .new .0))
     (λ c. search needs)
     returns)
