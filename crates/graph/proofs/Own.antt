@@ -184,9 +184,6 @@ module _ (n m : ℕ) (ts hs ws : List ℕ) (r : Room m ts hs ws) (a : rules n (e
 
 -- ---- an index of a table that may have one
 
-pub firsts-within : (n m : ℕ) (ks fs : List ℕ) → m ≤ length ks → m ≤ maxEdges → Firsts n (take m ks) fs → (u : ℕ) → u ≤ n → getD fs u 0 ≤ maxEdges
-firsts-within n m ks fs l g f u h = let a = f u h in let b = below-le u (take m ks) in let t = length-take-le m ks l in omega arith
-
 module _ {n m : ℕ} {ts hs ws fs₀ is₀ : List ℕ} (o : Indexable n m ts hs ws fs₀ is₀) where
   -- what the indexes of the tails and of the heads are asked
   pub keyed-tails : Keyed n m ts fs₀
@@ -194,6 +191,10 @@ module _ {n m : ℕ} {ts hs ws fs₀ is₀ : List ℕ} (o : Indexable n m ts hs 
 
   pub keyed-heads : (fs : List ℕ) → n < length fs → Keyed n m hs fs
   keyed-heads fs i = record { few = o .few; records = o .records; keys = o .room .heads; firsts = i; vertices = heads-below n m ts hs ws (o .room) (o .rules) }
+
+  -- what places are asked
+  pub places-asked : (ks fs : List ℕ) → m ≤ length ks → length fs ≡ length fs₀ → Firsts n (take m ks) fs → (n ≤ maxVertices) × (n < length fs) × (n < length is₀) × ((u : ℕ) → u ≤ n → getD fs u 0 ≤ maxEdges)
+  places-asked ks fs l e f = (o .few, omega (arith, o .firsts), omega (arith, o .list), λ u h. let t = length-take-le m ks l in omega (arith, f u h, below-le u (take m ks), o .records))
 
   -- what arcs are asked
   pub light : (k : ℕ) → k < m → getD ws k 0 < arcWeights
