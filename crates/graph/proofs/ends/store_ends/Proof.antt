@@ -13,7 +13,7 @@ abbrev μ-loop : tie.MeasureT-loop
 
 -- the word after the key is in the list
 near : (c : tie.In-loop Inv-loop μ-loop) → getD (c .before .before .args .keys .now) (c .before .loop .k) 0 + 1 < length (c .before .before .args .ends .now)
-near c = c .before .before .pre .1 .0 (c .before .loop .k) (c .loop-test .taken)
+near c = c .before .before .pre .1 .0 _ (c .loop-test .taken)
 
 loop-again : tie.Need-loop-again Inv-loop μ-loop
 loop-again c =

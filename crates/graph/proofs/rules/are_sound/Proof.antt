@@ -32,11 +32,11 @@ loop-again c =
     let f = edgeAt (a .tails .now) (a .heads .now) (a .weights .now) k in
     let x : k + 1 - 1 ≡ k = omega arith in (
       (λ t i.
-          let z = both (l .loop .all) _ t in
-          let y = both (ltb (f .head) (a .n) && (not (eqb (f .tail) (f .head)) && isWeight (f .weight))) (precedes e f) (sym (c .is-next .ensures) ∙ z .1) in
+          let z = both _ _ t in
+          let y = both (ltb (f .head) _ && (not (eqb (f .tail) (f .head)) && isWeight (f .weight))) (precedes e f) (sym (c .is-next .ensures) ∙ z .1) in
           let j : f .tail < a .n = rw x at i in
           let p = precedes-tail e f (y .1) in
-          follow-more _ _ _ _ (start l .pre .1) (a .n) k (l .loop .inv .0 (z .0) (omega arith)) (omega arith) (and-true (y .1) (and-true (lt-ltb _ _ j) (y .0)))),
+          follow-more _ _ _ _ (start l .pre .1) _ k (l .loop .inv .0 (z .0) (omega arith)) (omega arith) (and-true (y .1) (and-true (lt-ltb _ _ j) (y .0)))),
       omega arith,
       omega arith,
     )
@@ -47,8 +47,8 @@ returns c =
     let a = start l .args in
     let x : l .loop .k ≡ a .count = omega arith in
     λ e.
-    let z = both (l .loop .all) _ e in
-    follow-end _ _ _ _ (start l .pre .1) (a .n) (l .loop .k) (l .loop .inv .0 (z .0) (rw x (ltb-true _ _ (z .1)))) (c .before .loop-test .left)
+    let z = both _ _ e in
+    follow-end _ _ _ _ (start l .pre .1) _ _ (l .loop .inv .0 (z .0) (rw x (ltb-true _ _ (z .1)))) (c .before .loop-test .left)
 
 pub are-sound-spec : {M : Type 1} → statement M
 are-sound-spec =
@@ -60,7 +60,7 @@ are-sound-spec =
     (λ c. search needs)
     (λ c. search needs)
     (λ c κs. search needs)
-    (λ c. let s = c .before .before .before .before .before .before .before in ((λ e i. rules-first _ _ _ _ (s .pre .1) (s .args .n) (s .pre .0) (sym (c .is-edge .ensures) ∙ e)), omega arith, omega arith))
+    (λ c. let s = c .before .before .before .before .before .before .before in ((λ e i. rules-first _ _ _ _ (s .pre .1) _ (s .pre .0) (sym (c .is-edge .ensures) ∙ e)), omega arith, omega arith))
     (λ c. search needs)
     (λ c. search needs)
     (λ c. search needs)

@@ -25,7 +25,7 @@ judge-rules-spec =
     μ-loop
     (λ c.
     let s = c .before .before .before .before in
-    rules-none _ _ _ _ (s .pre) (s .args .n) (c .if1 .taken))
+    rules-none _ _ _ _ (s .pre) _ (c .if1 .taken))
     (λ c. search needs)
     (λ c. search needs)
     (λ c. search needs)
@@ -33,22 +33,22 @@ judge-rules-spec =
     (λ c.
     let s = c .before .before .before .before .before .before .before .before .before in
     let e = c .before .is-edge .ensures in
-    rules-broken _ _ _ _ (s .pre) (s .args .n) (omega arith) (sym e ∙ not-true _ (c .if2 .taken)))
+    rules-broken _ _ _ _ (s .pre) _ (omega arith) (sym e ∙ not-true _ (c .if2 .taken)))
     (λ c.
     let s = c .before .before .before .before .before .before .before .before .before in
     let e = c .before .is-edge .ensures in
-    (rules-first _ _ _ _ (s .pre) (s .args .n) (omega arith) (sym e ∙ not-false _ (c .if2 .left)), omega arith, omega arith))
+    (rules-first _ _ _ _ (s .pre) _ (omega arith) (sym e ∙ not-false _ (c .if2 .left)), omega arith, omega arith))
     (λ c κs. search needs)
     (λ c.
     let f = c .before in
     let l = f .before .before in
-    follow-broken _ _ _ _ (start l .pre) (start l .args .n) (l .loop .k) (l .loop .inv .0) (omega arith) (sym (f .follows .ensures) ∙ not-true _ (c .if3 .taken)))
+    follow-broken _ _ _ _ (start l .pre) (start l .args .n) _ (l .loop .inv .0) (omega arith) (sym (f .follows .ensures) ∙ not-true _ (c .if3 .taken)))
     (λ c. search needs)
     (λ c. search needs)
     (λ c.
     let f = c .before in
     let l = f .before .before in
-    (follow-more _ _ _ _ (start l .pre) (start l .args .n) (l .loop .k) (l .loop .inv .0) (omega arith) (sym (f .follows .ensures) ∙ not-false _ (c .if3 .left)), omega arith, omega arith))
+    (follow-more _ _ _ _ (start l .pre) (start l .args .n) _ (l .loop .inv .0) (omega arith) (sym (f .follows .ensures) ∙ not-false _ (c .if3 .left)), omega arith, omega arith))
     (λ c.
     let l = c .before in
-    follow-none _ _ _ _ (start l .pre) (start l .args .n) (l .loop .k) (l .loop .inv .0) (c .loop-test .left)))
+    follow-none _ _ _ _ (start l .pre) (start l .args .n) _ (l .loop .inv .0) (c .loop-test .left)))

@@ -11,8 +11,7 @@ returns : tie.Need-returns
 unfolding told
 returns c =
     let s = c .before in
-    let a = c .before .before .before .before .before .before .before .args in
-    table-judged (a .n) (a .count) (a .tails .now) (a .heads .now) (a .weights .now) (leb-true (a .count) maxEdges (s .before .if2 .taken)) (s .are-sound .ensures (c .if3 .taken))
+    table-judged _ _ _ _ _ (leb-true _ maxEdges (s .before .if2 .taken)) (s .are-sound .ensures (c .if3 .taken))
 
 pub judge-table-spec : {M : Type 1} → statement M
-judge-table-spec = tie.close (tie.spec (λ c κs. let s = c .before .before .before .before .before in (omega arith, room-less (leb-true (s .args .count) maxEdges (c .if2 .taken)) (s .pre))) returns (λ c κs. search needs) (λ c. search needs))
+judge-table-spec = tie.close (tie.spec (λ c κs. let s = c .before .before .before .before .before in (omega arith, room-less (leb-true _ maxEdges (c .if2 .taken)) (s .pre))) returns (λ c κs. search needs) (λ c. search needs))

@@ -8,6 +8,6 @@ pub judge-table-plainly-spec : {M : Type 1} → statement M
 judge-table-plainly-spec =
     tie.close
     (tie.spec
-    (λ c. let a = c .before .before .before .before .args in table-crowded (a .n) (a .count) (a .tails .now) (a .heads .now) (a .weights .now) (c .if1 .taken))
+    (λ c. table-crowded _ _ _ _ _ (c .if1 .taken))
     (λ c κs. search needs)
-    (λ c. let a = c .before .before .before .before .before .args in table-judged (a .n) (a .count) (a .tails .now) (a .heads .now) (a .weights .now) (c .before .if1 .left) (c .judge-rules .ensures)))
+    (λ c. table-judged _ _ _ _ _ (c .before .if1 .left) (c .judge-rules .ensures)))

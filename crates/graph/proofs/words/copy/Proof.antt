@@ -14,7 +14,7 @@ loop-again : tie.Need-loop-again Inv-loop μ-loop
 loop-again c =
     let l = c .before .before in
     let s = l .before in (
-      copy-turn (s .args .src .now) (s .args .dst .now) (l .loop .dst) (s .args .at) (l .loop .i) (omega arith) (omega arith) (l .loop .inv .0),
+      copy-turn _ _ _ _ _ (omega arith) (omega arith) (l .loop .inv .0),
       omega arith,
       simp length-set (l .loop .inv .2),
     )
