@@ -118,17 +118,23 @@ found-below n m ts hs ws t e i f =
 
 pub leaves-refused : (n k i : ℕ) (r : Edited) (ts hs ws : List ℕ) (fs : List Edge) {v : Verdict} → r ≡ Refused k i → refuse k i ≡ v → (verdict r ≡ v) × Leaves n r ts hs ws fs
 unfolding verdict
-leaves-refused n k i r ts hs ws fs q e = (ap verdict q ∙ e, record {
-  table = λ m e. let z : _≡_ {A = ℕ} 0 1 = cc in absurd (omega arith);
-  edges = λ m e. let z : _≡_ {A = ℕ} 0 1 = cc in absurd (omega arith);
-})
+leaves-refused n k i r ts hs ws fs q e = (
+  ap verdict q ∙ e,
+  record {
+    table = λ m e. let z : _≡_ {A = ℕ} 0 1 = cc in absurd (omega arith);
+    edges = λ m e. let z : _≡_ {A = ℕ} 0 1 = cc in absurd (omega arith);
+  },
+)
 
 pub leaves-count : (n m : ℕ) (ts hs ws : List ℕ) (fs : List Edge) {v : Verdict} → Tabled n m ts hs ws → edges ts hs ws m ≡ fs → accept ≡ v → (verdict (Count m) ≡ v) × Leaves n (Count m) ts hs ws fs
 unfolding verdict
-leaves-count n m ts hs ws fs t e a = (a, record {
-  table = λ k q. let z : m ≡ k = cc in rw z at t;
-  edges = λ k q. let z : m ≡ k = cc in rw z at e;
-})
+leaves-count n m ts hs ws fs t e a = (
+  a,
+  record {
+    table = λ k q. let z : m ≡ k = cc in rw z at t;
+    edges = λ k q. let z : m ≡ k = cc in rw z at e;
+  },
+)
 
 -- ---- a change as a whole
 
