@@ -19,12 +19,11 @@ use Rattle.run.specs.Run.{Tally, noTally, word, relaxable, pass}
 use Rattle.run.specs.Rounds.{Rounds}
 use Rattle.run.specs.Start.{Landmark, bound, asked}
 use Rattle.theory.proofs.Settle.{Inv, pass-good, pass-rounds, settle-good, settle-rounds, settled}
-use Rattle.theory.proofs.Value.{value-before, settled-best}
+use Rattle.theory.proofs.Value.{value-before, best-fits, settled-best}
 use Rattle.theory.proofs.Rounds.{settle-all}
 use Rattle.theory.proofs.Exists.{best-same}
 use Rattle.theory.proofs.Reverse.{reversed-best}
 use Rattle.theory.proofs.Query.{by, Bounded, bound-under, bound-is, via, asked-source, asked-other, asked-good}
-use Rattle.theory.proofs.Fits.{best-fits}
 use Rattle.network.specs.Network.{Network, edgesIn, rowCount, shortRows, landmarks, row, propertyOf, landmarkOf}
 use Rattle.network.specs.Query.{Query, Words, rowAt, scheduled, known, atStart, atRounds, atEnd, longSchedule, shortWords, requested, queryFaults, queryVerdict, answered, queryCall}
 use Rattle.network.specs.History.{Triangle, QueryRun, QueryHolds}

@@ -19,9 +19,8 @@ use Rattle.run.specs.Run.{State, word}
 use Rattle.run.specs.Start.{opened}
 use Rattle.affected.specs.Prepared.{cleared, prepared}
 use Rattle.theory.proofs.Settle.{settle-sized}
-use Rattle.theory.proofs.Value.{opened-best}
+use Rattle.theory.proofs.Value.{best-fits, opened-best}
 use Rattle.affected.proofs.Batch.{batch-best as row-best, unaffected}
-use Rattle.theory.proofs.Fits.{best-fits}
 use Rattle.network.specs.Network.{Rows, rowCount, shortRows, isIn, areLandmarks, landmarks, row, propertyOf, landmarkOf, rowsOf, flat, unsettled}
 use Rattle.network.specs.Open.{openRow, openRows}
 use Rattle.network.specs.Batch.{batchRow, batchRows}

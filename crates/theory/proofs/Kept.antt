@@ -3,7 +3,7 @@
 --   own P v e   == the own value of the edge e, from the source's value on, is no worse than v
 --   owned t     == the edges whose own value is no worse than the best value of t
 --   tights      == the tight edges
-use Rattle.property.proofs.Basics.{_≡_, sym, ap, _∙_, inl, inr, ⊎-elim, _↔_, _≢_, Bool, true, false, not, true≢false, List, List·Memᴰ, ℕ, suc, _≤_, _<_, arith, length, eqb-true, eq-eqb, not-true, ltb-false}
+use Rattle.property.proofs.Basics.{_≡_, sym, ap, _∙_, ⊎-elim, _↔_, _≢_, Bool, true, false, not, true≢false, List, List·Memᴰ, ℕ, suc, _≤_, _<_, arith, length, eqb-true, eq-eqb, not-true, ltb-false}
 use Rattle.property.specs.Property.{M, Property, bfs}
 use Rattle.property.specs.Laws.{Laws}
 use Rattle.property.proofs.Tests.{is-false}
@@ -14,7 +14,7 @@ use Rattle.graph.specs.Leads.{Leads, stop, on, valueAlong, BestLeads}
 use Rattle.graph.proofs.Edges.{keep-in, in-keep}
 use Rattle.graph.proofs.Order.{Within}
 use Rattle.run.specs.Run.{word, tight}
-use Rattle.theory.proofs.Value.{Attained, value-fits, value-after, best-settled}
+use Rattle.theory.proofs.Value.{value-fits, value-after, best-settled}
 use Rattle.theory.proofs.Exists.{best-same}
 use Rattle.theory.proofs.Tight.{source-word}
 use Rattle.theory.proofs.Leads.{leads-map, leads-route, route-leads, leads-best, along-after, along-none, count-along}
@@ -109,11 +109,8 @@ module _ (ks : List Edge) (t : ℕ) (hs : List ℕ) (best : (u : ℕ) → Best b
       omega (arith, count-along 0 rs (omega arith))
 
   pub hops-attained : (u : ℕ) → word bfs hs u < M → (rs : List Edge) × Leads ks u rs t × (length rs ≡ word bfs hs u)
-  hops-attained u h = pick ((best u) .attained)
-    where
-      pick : Attained bfs ks u t (word bfs hs u) → (rs : List Edge) × Leads ks u rs t × (length rs ≡ word bfs hs u)
-      pick (inr c) = let z = c .1 in absurd (omega arith)
-      pick (inl r) = let (rs, l, z) = route-leads r in (rs, l, (let y = count-along 0 rs (omega arith) in omega arith))
+  hops-attained u h = ⊎-elim (λ r. let (rs, l, z) = route-leads r in (rs, l, (let y = count-along 0 rs (omega arith) in omega arith)))
+      (λ c. let z = c .1 in absurd (omega arith)) ((best u) .attained)
 
   -- the first edge of a route with the fewest edges leads to a vertex that needs one less
   pub hop-down : {e : Edge} {rs : List Edge} (k : ℕ) → k < M → List·Memᴰ e ks → Leads ks (e .head) rs t → length rs ≡ k → word bfs hs (e .tail) ≡ suc k
