@@ -16,7 +16,7 @@ Top P es s v t = ((u : ℕ) × Way P es s v t u × ((w : ℕ) → Way P es s v t
 
 abbrev pub Through : Property → Edge → List Edge → ℕ → ℕ → ℕ → ℕ → Type 0
 Through P o es s v t u =
-    (x : ℕ) × Way P es s v (o .tail) x × ((y : ℕ) × Way P es (o .head) (P .along x (o .weight)) t y × (P .better u y ≡ false))
+    (x : ℕ) × Way P es s v (o .tail) x × (y : ℕ) × Way P es (o .head) (P .along x (o .weight)) t y × (P .better u y ≡ false)
 
 -- ---- ways, put together
 
@@ -52,9 +52,9 @@ module _ {P : Property} (L : Laws P) where
     -- what lies between: going along never betters, so the value with which it first came to o's tail was no worse.
     once-more : (e : Edge) (w : ℕ) → Once (e .tail) w → (e ≡ o) ⊎ List·Memᴰ e es → Once (e .head) (along w (e .weight))
     once-more e w (inl r) (inr m) = inl (step r m)
-    once-more e w (inl r) (inl p) = inr (w, rw (ap (λ z. z .tail) p) at r, (along w (o .weight), rw p here, rw p (L .irreflexive _)))
-    once-more e w (inr (x, r, (y, q, h))) (inr m) = inr (x, r, (along y (e .weight), step q m, L .along-monotone _ _ _ h))
-    once-more e w (inr (x, r, (y, q, h))) (inl p) = inr (x, r, (along x (o .weight), rw p here, rw p (L .along-monotone _ _ _ (L .transitive _ _ _ back h))))
+    once-more e w (inl r) (inl p) = inr (w, rw (ap (λ z. z .tail) p) at r, along w (o .weight), rw p here, rw p (L .irreflexive _))
+    once-more e w (inr (x, r, y, q, h)) (inr m) = inr (x, r, along y (e .weight), step q m, L .along-monotone _ _ _ h)
+    once-more e w (inr (x, r, y, q, h)) (inl p) = inr (x, r, along x (o .weight), rw p here, rw p (L .along-monotone _ _ _ (L .transitive _ _ _ back h)))
       where
         x-fits : x ≤ M
         x-fits = way-fits L weights′ fits r
@@ -74,11 +74,11 @@ module _ {P : Property} (L : Laws P) where
 
     -- the best that goes through o: come to its tail with the best value, and go on from its head in the best way
     via : (t : ℕ) → Top P es s v (o .tail) → ((y : ℕ) → y ≤ M → Top P es (o .head) y t) → Via t
-    via t (inr d) below = inr (λ u (x, r, z). d x r)
+    via t (inr d) below = inr (λ u z. d (z .0) (z .1))
     via t (inl (x, r, first)) below = pick (below (along x (o .weight)) (L .along-fits _ _ (way-fits L weights′ fits r) weight))
       where
         moved : (u : ℕ) → Through P o es s v t u → (w : ℕ) × Way P es (o .head) (along x (o .weight)) t w × (better u w ≡ false)
-        moved u (x′, r′, (y, q, h)) =
+        moved u (x′, r′, y, q, h) =
             let (w, q′, k) = way-better (along x (o .weight)) (L .along-monotone _ _ _ (first x′ r′)) q in
             (w, q′, L .transitive _ _ _ k h)
 

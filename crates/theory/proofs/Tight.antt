@@ -17,7 +17,7 @@ use Rattle.graph.specs.Route.{Route, here, step, Best}
 use Rattle.graph.proofs.Edges.{keep-in, in-keep}
 use Rattle.graph.proofs.Order.{Within}
 use Rattle.run.specs.Run.{word, relaxable, tight}
-use Rattle.theory.proofs.Walk.{Walk, stay, go, walk?, walk-map, walk-of, route-of}
+use Rattle.theory.proofs.Walk.{Walk, stay, go, walk?, walk-map, step-for, walk-of, route-of}
 use Rattle.theory.proofs.Settle.{Settled, Backed}
 use Rattle.theory.proofs.Value.{value-fits, value-after}
 
@@ -123,7 +123,7 @@ module _ {P : Property} (L : Laws P) (es : List Edge) (s n : ℕ) (inside : With
     upheld-on : (e : Edge) → Stands P fs e → along (word P ws (e .tail)) (e .weight) ≡ word P ws (e .head) → Upheld (e .tail) → Upheld (e .head)
     upheld-on e (f, m, p, q, h) z (u, r, j) = (
       along u (f .weight),
-      subst (λ x. Route P fs s x (along u (f .weight))) (sym q) (step (subst (λ x. Route P fs s x u) p r) m),
+      step-for p q m r,
       subst (λ x. better x (along u (f .weight)) ≡ false) z (L .transitive _ _ _ (h u) (L .along-monotone _ _ _ j)),
     )
 

@@ -63,6 +63,10 @@ walk? (e ∷ es) s t = elim (walk? es s t) [
 
 -- ---- walks and routes
 
+-- a route goes on along an edge that has the ends of another
+pub step-for : {P : Property} {es : List Edge} {s t h v : ℕ} {f : Edge} → t ≡ f .tail → h ≡ f .head → List·Memᴰ f es → Route P es s t v → Route P es s h (P .along v (f .weight))
+step-for p q m r = rw q (step (rw p at r) m)
+
 pub walk-of : {P : Property} {es : List Edge} {s t u : ℕ} → Route P es s t u → Walk es s t
 walk-of here = stay
 walk-of (step r m) = go (walk-of r) m
