@@ -54,6 +54,10 @@ faults-parts n ls w h =
     let d = then-accept (landmarks n ls) (table n (w .memory .table) (w .count)) (c .1) in
     (a .0, b .0, c .0, d .0, d .1)
 
+-- .. and back
+pub good-faults : (n : ℕ) (ls : List ℕ) (w : Network) → Good n ls w → faults n ls w ≡ accept
+good-faults n ls w g = accept-then (g .sized) ∙ accept-then (g .roomy) ∙ accept-then (g .long) ∙ accept-then (g .chosen) ∙ g .sound
+
 module _ (n : ℕ) (ls : List ℕ) (w : Network) where
   abbrev begun : Memory → Network
   begun m = record { memory = m; count = w .count }
@@ -107,22 +111,11 @@ module _ (n : ℕ) (ls : List ℕ) (w : Network) (b : List Change) (g : Good n l
   abbrev out : Verdict → Outcome Report Memory
   out v = outcome v (report n ls w fs) (batchMemory n ls w fs) (w .memory)
 
-  called : (v : Verdict) → batchVerdict n ls w b ≡ v → batchCall n ls w b ≡ out v
-  unfolding batchCall
-  called v e = ap out e
-
-  afterwards : (v : Verdict) → turnedBack n es b ≡ v → after n es b ≡ choose v fs es
-  unfolding after
-  afterwards v e = ap (λ x. choose x fs es) e
-
   -- of the call's refusals those are left that document 01 has for a batch, and 13
   judged : batchVerdict n ls w b ≡ (turnedBack n es b ▷ stillWaiting n ls w fs)
   unfolding turnedBack batchFaults
-  judged = then-assoc (longBatch (length b)) _ _ ∙ then-same (longBatch (length b)) (λ _. accept-then whole)
+  judged = then-assoc (longBatch (length b)) _ _ ∙ then-same (longBatch (length b)) (λ _. accept-then (good-faults n ls w g))
       ∙ sym (then-assoc (longBatch (length b)) (items n 0 es b) _)
-    where
-      whole : faults n ls w ≡ accept
-      whole = accept-then (g .sized) ∙ accept-then (g .roomy) ∙ accept-then (g .long) ∙ accept-then (g .chosen) ∙ g .sound
 
   refused-kept : (v : Verdict) (k i : ℕ) → (out v) .reply ≡ refused k i → handOn w (out v) ≡ w
   unfolding replied choose reported
@@ -136,9 +129,10 @@ module _ (n : ℕ) (ls : List ℕ) (w : Network) (b : List Change) (g : Good n l
       → Unworse n ls (map reverse es) (map reverse (choose v fs es)) back ((out v) .memory .rows .backward)
       → ((r : Report) → (out v) .reply ≡ accepted r → Reported n ls es (choose v fs es) w r)
       → Step n ls w b
+  unfolding batchCall after
   stepped v e c good moved forward backward reports =
-      let d = called v c in
-      let f = afterwards v e in
+      let d : batchCall n ls w b ≡ out v = ap out c in
+      let f : after n es b ≡ choose v fs es = ap (λ x. choose x fs es) e in
       record {
         kept = subst (λ o. Good n ls (handOn w o)) (sym d) good;
         moved = ap (λ o. edgesIn (handOn w o)) d ∙ moved ∙ sym f;
@@ -233,16 +227,16 @@ module _ (n : ℕ) (ls : List ℕ) (w : Network) (b : List Change) (g : Good n l
         (batch-unworse n ls (g .chosen) (map reverse es) (map reverse fs) old-back new-back back (g .backward))
         (λ r q. subst (Reported n ls es fs w) ((reply-accepted accept (report n ls w fs) r q) .1) reports)
 
+  under : (v : Verdict) → turnedBack n es b ≡ v → Step n ls w b
+  under accept e = accepted-step e
+  under (refuse k i) e = refused-step k i e
+
   -- A batch keeps the invariant. As it holds before, the call refuses for nothing but what document 01 has for a batch on these edges, or
   -- for 13. Refused, all stays as it was. Accepted, the new edges keep the table's rules, and they are read back from the lists that were
   -- written. In no row anything waits after n rounds, so 13 does not come. From best words of the old edges come best words of the new,
   -- and none is worse that is not affected.
   pub steps : Step n ls w b
-  steps = pick (turnedBack n es b) refl
-    where
-      pick : (v : Verdict) → turnedBack n es b ≡ v → Step n ls w b
-      pick accept e = accepted-step e
-      pick (refuse k i) e = refused-step k i e
+  steps = under (turnedBack n es b) refl
 
 -- ---- a list of batches
 
