@@ -9,13 +9,6 @@ use Rattle.search.proofs.Steps.{told-of}
 use Rattle.search.proofs.find.Statement.{statement}
 use Rattle.search.proofs.find.Tie as tie
 
-index-requires : tie.Need-index-requires
-index-requires c κs =
-    let s = c .before .before .before .before .before .before in
-    let n = s .pre .3 in
-    let t = s .pre .4 in
-    record { few = n; records = t .few; room = room-less (t .few) (t .room); rules = t .rules; firsts = omega arith; list = omega (arith, t .few) }
-
 -- the row has its room
 size : (s : tie.Start) → length (take {A = ℕ} (s .args .n) (replicate maxVertices 0)) ≡ s .args .n
 size s = length-take-le {A = ℕ} (s .args .n) (replicate maxVertices 0) (s .pre .3)
@@ -50,7 +43,10 @@ find-spec =
     (tie.spec
     (λ c. search needs)
     (λ c. search needs)
-    index-requires
+    (λ c κs. let s = c .before .before .before .before .before .before in
+    let n = s .pre .3 in
+    let t = s .pre .4 in
+    record { few = n; records = t .few; room = room-less (t .few) (t .room); rules = t .rules; firsts = omega arith; list = omega (arith, t .few) })
     (λ c. search needs)
     (λ c. search needs)
     (λ c. sym (size (c .before .before .before .before .before .before .before .before .before .before .before)))

@@ -40,25 +40,6 @@ size l =
     let f = l .before .before .before in
     sym (l .loop .inv .1 ∙ length-set (f .fill .last .0) _ _ ∙ f .fill .kept .0)
 
-read-u : tie.Need-slice-read-u Inv-loop μ-loop
-read-u c =
-    let l = c .before .before .before .before in
-    let f = l .loop .inv .3 in
-    omega (arith, f .once, f .room)
-
-expand-requires : tie.Need-expand-requires Inv-loop μ-loop
-expand-requires c κs =
-    let l = c .before .before .before .before .before .before in
-    let s = l .before .before .before .before .before .before .before .before .before in
-    let f = l .loop .inv .3 in
-    let z = size l in
-    (f .inside (l .loop .i) (omega arith), subst (λ (k : ℕ). Fit k (s .args .index .now)) z (s .pre .2), s .pre .3 ∙ z, f)
-
-loop-less : tie.Need-loop-less Inv-loop μ-loop
-loop-less c =
-    let l = c .before .before .before .before .before .before .before .before .before .before .before in
-    omega (arith, l .loop .inv .3 .once)
-
 loop-again : tie.Need-loop-again Inv-loop μ-loop
 loop-again c =
     let x = c .before .before .before .before in
@@ -107,11 +88,18 @@ search-spec =
     (λ c. search needs)
     (λ c. search needs)
     (λ c. search needs)
-    read-u
+    (λ c. let l = c .before .before .before .before in
+    let f = l .loop .inv .3 in
+    omega (arith, f .once, f .room))
     (λ c. omega (arith, c .slice-known5 .given (c .before .before .before .before .loop .i)))
-    expand-requires
+    (λ c κs. let l = c .before .before .before .before .before .before in
+    let s = l .before .before .before .before .before .before .before .before .before in
+    let f = l .loop .inv .3 in
+    let z = size l in
+    (f .inside (l .loop .i) (omega arith), subst (λ (k : ℕ). Fit k (s .args .index .now)) z (s .pre .2), s .pre .3 ∙ z, f))
     (λ c. search needs)
-    loop-less
+    (λ c. let l = c .before .before .before .before .before .before .before .before .before .before .before in
+    omega (arith, l .loop .inv .3 .once))
     loop-again
     (λ c. search needs)
     (λ c. search needs)
