@@ -1,5 +1,5 @@
 -- The route that is written is the preferred one, and 15 comes exactly where there is none: the claim, proved. Assumes nothing.
-use Rattle.property.proofs.Basics.{_≡_, sym, ap, _∙_, subst, _≢_, _↔_, Bool, true, not, _&&_, List, [], _∷_, ℕ, suc, _≤_, _<_, arith, length, ltb, leb, eqb-true, eq-eqb, ne-eqb, ltb-true, leb-true, not-false}
+use Rattle.property.proofs.Basics.{_≡_, sym, ap, _∙_, _≢_, _↔_, Bool, true, not, _&&_, List, [], _∷_, ℕ, suc, _≤_, _<_, arith, length, ltb, leb, eqb-true, eq-eqb, ne-eqb, ltb-true, leb-true, not-false}
 use Rattle.property.specs.Property.{Property, property, properties, isProperty}
 use Rattle.property.proofs.Tests.{is-true}
 use Rattle.property.proofs.Instances.{property-laws}
@@ -144,7 +144,7 @@ module _ (n : ℕ) (cs : Columns) (m : ℕ) (q : Request) (out : Answer) (h : ot
 
   -- the route without an edge
   ends : Leads (es n cs m q) (q .source) [] (q .target)
-  ends = subst (λ t. Leads (es n cs m q) (q .source) [] t) z stop
+  ends = rw (← z) stop
 
   routed : bestWord n cs m q ≢ P n cs m q .none
   routed y = unrouted n (es n cs m q) (q .property) (q .source) (q .target) able .0 y [] ends

@@ -1,6 +1,6 @@
 -- What a batch reports as affected is how many vertices the closure names, and what it reports as stores is what its runs store, row by row.
 -- Assumes nothing.
-use Rattle.property.proofs.Basics.{_≡_, refl, sym, _∙_, subst, _↔_, _⊎_, inl, inr, ⊎-elim, Bool, true, false, _&&_, _||_, cond, false≢true, List, [], _∷_, map, List·Memᴰ, ℕ, suc, _+_, _<_, add-zero, zero-add, arith, length, getD, eqb, eqb-true, eq-eqb}
+use Rattle.property.proofs.Basics.{_≡_, refl, sym, _∙_, _↔_, _⊎_, inl, inr, ⊎-elim, Bool, true, false, _&&_, _||_, cond, false≢true, List, [], _∷_, map, List·Memᴰ, ℕ, suc, _+_, _<_, add-zero, zero-add, arith, length, getD, eqb, eqb-true, eq-eqb}
 use Rattle.property.specs.Property.{Property}
 use Rattle.property.proofs.Tests.{by-test}
 use Rattle.frontier.specs.Waiting.{anyOf, countOf}
@@ -36,7 +36,7 @@ module _ (n : ℕ) (ls : List ℕ) (es fs : List Edge) (xs : List ℕ) (inside :
       let A = Affected (propertyOf r) es fs (landmarkOf ls r) (row n r xs) in
       let e = affected-length (propertyOf r) es fs (landmarkOf ls r) (row n r xs) n in
       let f = affected-exact (propertyOf r) es fs (landmarkOf ls r) (row n r xs) n (inside .heads) in
-      subst (λ m. Counted A 0 m (countOf (affectedIn n ls es fs xs r))) e (counted-marks A (affectedIn n ls es fs xs r) 0 (λ t. rw zero-add (f t)))
+      rw e at (counted-marks A (affectedIn n ls es fs xs r) 0 (λ t. rw zero-add (f t)))
 
   -- The marks of a row are the closure (`affected-exact`), and the call sums how many they are over the rows.
   pub rows-affected : (rs : List ℕ) → TotalAffected n ls es fs xs rs (affectedOver n ls es fs xs rs)

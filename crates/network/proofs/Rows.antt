@@ -116,20 +116,15 @@ module _ (n : ℕ) (ls : List ℕ) (ok : landmarks n ls ≡ accept) where
   -- ---- an opening
 
   module _ (es : List Edge) (inside : Within n es) where
+    pub open-rests : unsettled (openRows n ls es) ≡ false
+    open-rests = unsettled-map (openRow n ls es) (rowsOf ls) (λ r m. open-row-ends n ls es inside r)
+
     -- The run of row r starts where only the row's landmark has a route. From any words nothing waits after n rounds: so its words are best
     -- for the row's property and landmark.
-    open-row : (r : ℕ) → r < rowCount ls
-        → ((t : ℕ) → Best (propertyOf r) es (landmarkOf ls r) t (word (propertyOf r) ((openRow n ls es r) .words) t)) × (anyOf ((openRow n ls es r) .waiting) ≡ false)
-    open-row r h =
-        let rests = open-row-ends n ls es inside r in
-        (opened-best (L r) es (landmarkOf ls r) n inside (source r h) n rests, rests)
-
-    pub open-rests : unsettled (openRows n ls es) ≡ false
-    open-rests = unsettled-map (openRow n ls es) (rowsOf ls) (λ r m. (open-row r (below r m)) .1)
-
-    -- row r of what an opening writes is the words in which the run of row r ends
+    -- Row r of what an opening writes is the words in which that run ends.
     pub open-best : (xs : List ℕ) → RowsBest n ls es (over (flat (openRows n ls es)) xs)
-    open-best xs r h t = rw (row-over n (openRow n ls es) (open-sized n ls es) (rowCount ls) r xs h) ((open-row r h) .0 t)
+    open-best xs r h t = rw (row-over n (openRow n ls es) (open-sized n ls es) (rowCount ls) r xs h)
+        (opened-best (L r) es (landmarkOf ls r) n inside (source r h) n (open-row-ends n ls es inside r) t)
 
   -- ---- a batch
 

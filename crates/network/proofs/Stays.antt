@@ -61,10 +61,7 @@ batch-stays n ls w b r h =
     let y = table-sound n (w .memory .table) (w .count) (d .4) in
     let few = (items-good n 0 (edgesIn w) b ((then-accept (items n 0 (edgesIn w) b) _ (a .1)) .0) (y .1)
     (rw (table-count (w .memory .table) (w .count) (d .1) (y .0)) (y .0))) .1 in
-    subst (λ m. Zeroed m (w .memory .table .tails) ((batchCall n ls w b) .memory .table .tails) × Zeroed m (w .memory .table .heads) ((batchCall n ls w b) .memory .table .heads)
-    × Zeroed m (w .memory .table .weights) ((batchCall n ls w b) .memory .table .weights) × RowsStay n ls (w .memory) ((batchCall n ls w b) .memory)) c
-    (subst (λ x. Zeroed (length fs) (w .memory .table .tails) (x .table .tails) × Zeroed (length fs) (w .memory .table .heads) (x .table .heads)
-    × Zeroed (length fs) (w .memory .table .weights) (x .table .weights) × RowsStay n ls (w .memory) x) (sym e) (
+    rw (e, ← c) (
       column-zeroed (λ x. x .tail) fs (w .memory .table .tails) few,
       column-zeroed (λ x. x .head) fs (w .memory .table .heads) few,
       column-zeroed (λ x. x .weight) fs (w .memory .table .weights) few,
@@ -73,4 +70,4 @@ batch-stays n ls w b r h =
         backward = rows-stay n ls (batchRow n ls (map reverse (edgesIn w)) (map reverse fs) (w .memory .rows .backward))
             (batch-sized n ls (map reverse (edgesIn w)) (map reverse fs) (w .memory .rows .backward)) (w .memory .rows .backward);
       },
-    ))
+    )

@@ -29,7 +29,7 @@ use Rattle.affected.proofs.Sweeps.{unaffected-unmarked}
 use Rattle.network.specs.Network.{Rows, Network, edgesIn, rowCount, shortRows, landmarks, faults, row, propertyOf, landmarkOf, rowsOf, flat, unsettled, storesOf}
 use Rattle.network.specs.Change.{Change, named, updates, edit, words, against, item, items}
 use Rattle.network.specs.Batch.{batchRow, batchRows, affectedOver, rewritten, newForward, newBackward, batchFaults, batchVerdict, batchMemory, report, batchCall}
-use Rattle.network.specs.Settled.{settled, found, Check, inRecords, inRows, check, settledCall}
+use Rattle.network.specs.Settled.{settled, Check, inRecords, inRows, check, settledCall}
 use Rattle.network.specs.Caller.{reported, handOn}
 use Rattle.network.specs.History.{moment}
 use Rattle.network.specs.Steady.{EmptyBatch, OwnWeight, SettledAfter}
@@ -93,9 +93,7 @@ flat-rows n f xs i (suc k) h =
     let b = suc-mul i n in
     let e : suc k * n ≡ n + k * n = omega arith in
     let d : suc i * n ≡ i * n + n = omega arith in
-    ap (λ l. l ++ flat (map f (range (suc i) k))) (h i (omega arith))
-    ∙ ap (λ l. row n i xs ++ l) (flat-rows n f xs (suc i) k (λ r q. h r (omega arith)) ∙ ap (λ j. take (k * n) (drop j xs)) d ∙ ap (λ l. take (k * n) l) (sym (drop-drop n (i * n) xs)))
-    ∙ sym (take-add n (k * n) (drop (i * n) xs)) ∙ ap (λ j. take j (drop (i * n) xs)) (sym e)
+    rw (h i (omega arith), flat-rows n f xs (suc i) k (λ r q. h r (omega arith)), e, d, take-add n (k * n) (drop (i * n) xs), drop-drop n (i * n) xs)
 
 front-over : (m : ℕ) (xs : List ℕ) → m ≤ length xs → over (take m xs) xs ≡ xs
 front-over m xs h = ap (λ j. take m xs ++ drop j xs) (length-take-le m xs h) ∙ take-append-drop m xs
@@ -229,7 +227,7 @@ records-settled : (P : Property) (ws : List ℕ) (side r j : ℕ) (es : List Edg
 unfolding inRecords
 records-settled P ws side r j [] later h = refl
 records-settled P ws side r j (e ∷ es) later h =
-    ap (λ b. cond b (found side r j) (inRecords P ws side r (suc j) es later)) (h e (List·Memᴰ·head refl)) ∙ records-settled P ws side r (suc j) es later (λ x m. h x (List·Memᴰ·tail m))
+    rw (h e (List·Memᴰ·head refl)) (records-settled P ws side r (suc j) es later (λ x m. h x (List·Memᴰ·tail m)))
 
 rows-settled : (n : ℕ) (es : List Edge) (xs : List ℕ) (side : ℕ) (rs : List ℕ) (later : Check)
     → ((r : ℕ) → List·Memᴰ r rs → Settled (propertyOf r) es (row n r xs)) → inRows n es xs side rs later ≡ later

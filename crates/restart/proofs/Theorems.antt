@@ -1,5 +1,5 @@
 -- The claim of specs/Claims.antt. Assumes nothing.
-use Rattle.property.proofs.Basics.{_≡_, refl, sym, ap, subst, _∙_, List, map, ℕ, suc, _*_, _%_, _≤_, _<_, arith, length, length-map, ext-getD}
+use Rattle.property.proofs.Basics.{_≡_, refl, sym, ap, _∙_, List, map, ℕ, suc, _*_, _%_, _≤_, _<_, arith, length, length-map, ext-getD}
 use Rattle.property.specs.Property.{properties}
 use Rattle.property.proofs.Instances.{property-laws}
 use Rattle.graph.specs.Limits.{maxEdges}
@@ -7,7 +7,7 @@ use Rattle.graph.specs.Refusal.{accept, accepted, verdictOf, over}
 use Rattle.graph.specs.Edge.{Edge, reverse}
 use Rattle.graph.specs.Table.{Columns, rules, shortTable, table}
 use Rattle.graph.proofs.Verdicts.{accept-then}
-use Rattle.graph.proofs.Order.{Sound, rules-accept}
+use Rattle.graph.proofs.Order.{rules-accept}
 use Rattle.graph.proofs.Judging.{lengths-accept, table-accept}
 use Rattle.theory.proofs.Exists.{best-same}
 use Rattle.network.specs.Network.{Rows, Network, edgesIn, rowCount, shortRows, landmarks, faults, row, propertyOf}
@@ -43,9 +43,9 @@ good-same n ls v w g h e = record {
   records = e;
   count = sym (good-count n ls v g) ∙ ap (λ (fs : List Edge). length fs) e ∙ good-count n ls w h;
   forward = rows-same n ls (edgesIn w) (v .memory .rows .forward) (w .memory .rows .forward) (long-rows n ls (v .memory .rows) (g .long) .0) (long-rows n ls (w .memory .rows) (h .long) .0)
-      (subst (λ (fs : List Edge). RowsBest n ls fs (v .memory .rows .forward)) e (g .forward)) (h .forward);
+      (rw e at (g .forward)) (h .forward);
   backward = rows-same n ls (map reverse (edgesIn w)) (v .memory .rows .backward) (w .memory .rows .backward) (long-rows n ls (v .memory .rows) (g .long) .1) (long-rows n ls (w .memory .rows) (h .long) .1)
-      (subst (λ (fs : List Edge). RowsBest n ls (map reverse fs) (v .memory .rows .backward)) e (g .backward)) (h .backward);
+      (rw e at (g .backward)) (h .backward);
 }
 
 -- ---- a table that was read
@@ -65,7 +65,7 @@ module _ (n : ℕ) (ls : List ℕ) (es : List Edge) (t : Table n es) (c : landma
 
   restored-faults : faults n ls (restored es ds xs) ≡ accept
   restored-faults = accept-then (t .vertices) ∙ accept-then (filled-long es ds (t .few) s) ∙ accept-then l ∙ accept-then c
-      ∙ accept-table n (filled es ds) (length es) (t .few) (subst (Sound n) (sym restored-edges) (rules-accept n es (t .rules)))
+      ∙ accept-table n (filled es ds) (length es) (t .few) (rw restored-edges (rules-accept n es (t .rules)))
 
   restored-opens : verdictOf ((openCall n ls (restored es ds xs)) .reply) ≡ accept
   restored-opens = open-judged n ls (restored es ds xs) ∙ restored-faults
@@ -98,7 +98,7 @@ saved n ls w es g e = record {
     held = record { vertices = g .sized; few = omega (arith, few, good-count n ls w g); rules = table-accept n (w .memory .table) (w .count) (g .sound) .1 }
 
     good : Table n es
-    good = subst (λ (fs : List Edge). Table n fs) e held
+    good = rw e at held
 
     writes : (out : List ℕ) → length text ≤ length out → Writes n (w .memory .table) (w .count) out (length text)
     writes out r = record {

@@ -7,7 +7,7 @@
 --   Stray e                == the head of e has a walk, but none of tight edges
 --   Upheld t               == a route to t along the new edges is no worse than the word of t
 --   Stands P fs e          == fs has an edge of the ends of e that is no worse, from whatever value
-use Rattle.property.proofs.Basics.{_≡_, refl, sym, ap, subst, _∙_, _⊎_, inl, inr, ⊎-elim, _≢_, Bool, true, false, List, [], _∷_, List·Memᴰ, List·Memᴰ·head, List·Memᴰ·tail, List·Memᴰ·cases-cons, List·Memᴰ·not-nil, ℕ, ℕ-discrete, eqb-true, eq-eqb}
+use Rattle.property.proofs.Basics.{_≡_, refl, sym, ap, _∙_, _⊎_, inl, inr, ⊎-elim, _≢_, Bool, true, false, List, [], _∷_, List·Memᴰ, List·Memᴰ·head, List·Memᴰ·tail, List·Memᴰ·cases-cons, List·Memᴰ·not-nil, ℕ, ℕ-discrete, eqb-true, eq-eqb}
 use mathlib.Core.Logic.{Dec·and, Dec·not}
 use Rattle.property.specs.Property.{Property}
 use Rattle.property.specs.Laws.{Laws}
@@ -124,7 +124,7 @@ module _ {P : Property} (L : Laws P) (es : List Edge) (s n : ℕ) (inside : With
     upheld-on e (f, m, p, q, h) z (u, r, j) = (
       along u (f .weight),
       step-for p q m r,
-      subst (λ x. better x (along u (f .weight)) ≡ false) z (L .transitive _ _ _ (h u) (L .along-monotone _ _ _ j)),
+      rw (← z) (L .transitive _ _ _ (h u) (L .along-monotone _ _ _ j)),
     )
 
     upheld : {t : ℕ} → Walk tights s t → word P ws t ≢ none → out t ≡ false → Upheld t

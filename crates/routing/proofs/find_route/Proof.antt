@@ -1,13 +1,11 @@
 -- `routing::find_route` meets its contract: what the search finds is the preferred route. Assumes nothing.
-use Rattle.property.proofs.Basics.{needs, arith, _≡_, sym, subst, false, List, ℕ}
-use Rattle.graph.specs.Edge.{edges}
+use Rattle.property.proofs.Basics.{needs, arith}
 use Rattle.graph.specs.Table.{Columns}
 use Rattle.graph.specs.Code.{columns}
 use Rattle.answers.specs.Routing.{Request, preferred}
-use Rattle.search.specs.Search.{isUnfound, searched}
 use Rattle.search.specs.Code.{Trace}
 use Rattle.routing.specs.Code.{requestOf}
-use Rattle.routing.proofs.Answering.{routable-asked, told-lacks, told-finds, lacks-route, some-route, found-preferred, route-lacking, route-written}
+use Rattle.routing.proofs.Answering.{routable-asked, lacks-route, some-route, found-preferred, route-lacking, route-written}
 use Rattle.routing.proofs.find_route.Statement.{statement}
 use Rattle.routing.proofs.find_route.Tie as tie
 
@@ -20,18 +18,13 @@ table s = columns (s .args .tails .now) (s .args .heads .now) (s .args .weights 
 abbrev asked : tie.Start → Request
 asked s = requestOf (s .args .request)
 
-finds : (c : tie.Else1) → let s = begin (c .before .before .before) in
-    isUnfound (searched (s .args .request .property) (edges (s .args .tails .now) (s .args .heads .now) (s .args .weights .now) (s .args .count)) (s .args .n) (s .args .request .source) (s .args .request .target)) (s .args .request .target) ≡ false
-finds c = told-finds _ _ (c .before .before .before .find .ensures .1) (c .if1 .left)
-
 -- the words that the search left lead back along the preferred route
 traces : (c : tie.Else1) → let f = c .before .before .before in let s = begin f in
     Trace (s .args .request .source) (s .args .request .target) (f .find .last .1 .1 .1 .1 .1 .1 .1 .1 .0) (preferred (s .args .n) (table s) (s .args .count) (asked s))
 traces c =
     let f = c .before .before .before in
     let s = begin f in
-    subst (λ (vs : List ℕ). Trace (s .args .request .source) (s .args .request .target) vs (preferred (s .args .n) (table s) (s .args .count) (asked s))) (sym (f .find .ensures .0))
-    (found-preferred (s .args .n) (table s) (s .args .count) (asked s) (routable-asked (s .pre .0)) (finds c))
+    found-preferred (s .args .n) (table s) (s .args .count) (asked s) (routable-asked (s .pre .0)) (f .find .ensures .1) (c .if1 .left) _ (f .find .ensures .0)
 
 pub find-route-spec : {M : Type 1} → statement M
 find-route-spec =
@@ -46,7 +39,7 @@ find-route-spec =
     (λ c. let f = c .before .before .before in
     let s = begin f in
     route-lacking (s .args .n) (table s) (s .args .count) (asked s) (s .args .vertices .now) (s .args .marks .now)
-    (lacks-route (s .args .n) (table s) (s .args .count) (asked s) (routable-asked (s .pre .0)) (told-lacks _ _ (f .find .ensures .1) (c .if1 .taken))))
+    (lacks-route (s .args .n) (table s) (s .args .count) (asked s) (routable-asked (s .pre .0)) (f .find .ensures .1) (c .if1 .taken)))
     (λ c κs. let e = c .before .before .before in
     let f = e .before .before .before in
     let s = begin f in
@@ -58,7 +51,8 @@ find-route-spec =
     (λ c. search needs)
     (λ c. let w = c .before .before .before .before in
     let e = w .before .before .before .before in
-    let s = begin (e .before .before .before) in
+    let f = e .before .before .before in
+    let s = begin f in
     route-written (s .args .n) (table s) (s .args .count) (asked s) (s .args .vertices .now) (s .args .marks .now) _ _ _
-    (some-route (s .args .n) (table s) (s .args .count) (asked s) (routable-asked (s .pre .0)) (finds e))
+    (some-route (s .args .n) (table s) (s .args .count) (asked s) (routable-asked (s .pre .0)) (f .find .ensures .1) (e .if1 .left))
     (w .write-route .ensures _ (traces e))))

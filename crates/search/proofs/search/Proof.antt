@@ -1,8 +1,8 @@
 -- `search::search` meets its contract. The loop's invariant: the steps that are left, from the search now, come to what `n` steps come to from the
 -- search before its first. Assumes nothing.
-use Rattle.property.proofs.Basics.{_≡_, refl, sym, ap, subst, _∙_, inl, inr, ⊎-elim, not, List, ℕ, _-_, length, length-set, arith, needs}
+use Rattle.property.proofs.Basics.{_≡_, refl, sym, ap, _∙_, inl, inr, ⊎-elim, not, List, ℕ, _-_, length, length-set, arith, needs}
 use Rattle.graph.specs.Edge.{Edge}
-use Rattle.graph.specs.Index.{Fit, Own}
+use Rattle.graph.specs.Index.{Own}
 use Rattle.answers.specs.Routing.{eligible}
 use Rattle.search.specs.Search.{isUnfound, begun}
 use Rattle.search.specs.Search as spec
@@ -52,7 +52,7 @@ loop-again c =
       λ n h es o.
           let z : n ≡ length (at .via) = h ∙ x .expand .kept .1 .1 .1 .1 .1 .1 .1 .0 in
           sym (search-turn (eligible (g .p) (g .row .now) (g .v)) es (g .t) (at .i) (at .count) (at .queue) (at .via) (at .inv .3) n _ z (b .before .before .loop-test .taken) (b .if1 .taken)
-          (x .expand .ensures .0 es (subst (λ (k : ℕ). Own k (g .index .now) es) z o)))
+          (x .expand .ensures .0 es (rw z at o)))
           ∙ at .inv .0 n z es o,
       x .expand .kept .1 .1 .1 .1 .1 .1 .1 .0 ∙ at .inv .1,
       x .expand .kept .1 .1 .1 .1 .1 .0 ∙ at .inv .2,
@@ -96,7 +96,7 @@ search-spec =
     let s = l .before .before .before .before .before .before .before .before .before in
     let f = l .loop .inv .3 in
     let z = size l in
-    (f .inside (l .loop .i) (omega arith), subst (λ (k : ℕ). Fit k (s .args .index .now)) z (s .pre .2), s .pre .3 ∙ z, f))
+    (f .inside (l .loop .i) (omega arith), rw z at (s .pre .2), s .pre .3 ∙ z, f))
     (λ c. search needs)
     (λ c. let l = c .before .before .before .before .before .before .before .before .before .before .before in
     omega (arith, l .loop .inv .3 .once))
