@@ -1,10 +1,10 @@
 -- What a batch reports as affected is how many vertices the closure names, and what it reports as stores is what its runs store, row by row.
 -- Assumes nothing.
-use Rattle.property.proofs.Basics.{_≡_, refl, sym, _∙_, _↔_, _⊎_, inl, inr, ⊎-elim, Bool, true, false, _&&_, _||_, cond, false≢true, List, [], _∷_, map, List·Memᴰ, ℕ, suc, _+_, _<_, add-zero, zero-add, arith, length, getD, eqb, eqb-true, eq-eqb}
+use Rattle.property.proofs.Basics.{_≡_, refl, sym, _∙_, _↔_, _⊎_, inl, inr, ⊎-elim, Bool, true, false, _&&_, _||_, cond, false≢true, List, [], _∷_, map, List·Memᴰ, ℕ, suc, _+_, _<_, add-zero, zero-add, arith, length, eqb, eqb-true, eq-eqb}
 use Rattle.property.specs.Property.{Property}
 use Rattle.property.proofs.Tests.{by-test}
 use Rattle.frontier.specs.Waiting.{anyOf, countOf}
-use Rattle.graph.specs.Edge.{Edge, exists, range}
+use Rattle.graph.specs.Edge.{Edge, exists}
 use Rattle.graph.proofs.Tests.{and-true, both, neither, or-right}
 use Rattle.graph.proofs.Lists.{length-table, table-at}
 use Rattle.graph.proofs.Edges.{true-exists, exists-true}
@@ -54,6 +54,9 @@ module _ (P : Property) (es fs : List Edge) (s : ℕ) (ws : List ℕ) (n : ℕ) 
   abbrev Woken : ℕ → Type 0
   Woken t = (e : Edge) × List·Memᴰ e fs × (e .tail ≡ t) × (Affected P es fs s ws (e .head) ⊎ (added P es e ≡ true))
 
+  abbrev wiped : ℕ → ℕ
+  wiped t = cond (marked marks t) (P .none) (word P ws t)
+
   abbrev wakes : ℕ → Edge → Bool
   wakes t e = eqb (e .tail) t && (marked marks (e .head) || added P es e)
 
@@ -74,17 +77,11 @@ module _ (P : Property) (es fs : List Edge) (s : ℕ) (ws : List ℕ) (n : ℕ) 
   prepared-start = record {
     words = length-table _ 0 n;
     waiting = length-table _ 0 n;
-    cleared = λ t h a. at t h ∙ rw (affected-exact P es fs s ws n heads t .1 a);
-    kept = λ t h d. at t h ∙ rw (unaffected-unmarked P es fs s ws n t d);
-    wakes = λ t h. (λ q. woken t (sym (bit t h) ∙ q), λ w. bit t h ∙ waking t w);
+    cleared = λ t h a. table-at wiped n t (P .none) h ∙ rw (affected-exact P es fs s ws n heads t .1 a);
+    kept = λ t h d. table-at wiped n t (P .none) h ∙ rw (unaffected-unmarked P es fs s ws n t d);
+    wakes = λ t h. let bit = table-at (λ k. exists (wakes k) fs) n t false h in (λ q. woken t (sym bit ∙ q), λ w. bit ∙ waking t w);
     untallied = refl;
   }
-    where
-      at : (t : ℕ) → t < n → word P (map (λ k. cond (marked marks k) (P .none) (word P ws k)) (range 0 n)) t ≡ cond (marked marks t) (P .none) (word P ws t)
-      at t h = table-at (λ k. cond (marked marks k) (P .none) (word P ws k)) n t (P .none) h
-
-      bit : (t : ℕ) → t < n → getD (map (λ k. exists (wakes k) fs) (range 0 n)) t false ≡ exists (wakes t) fs
-      bit t h = table-at (λ k. exists (wakes k) fs) n t false h
 
 -- Nothing waits in any row at the end, so the rounds of each are all its rounds; and the call sums their stores.
 pub rows-stores : (n : ℕ) (ls : List ℕ) (es fs : List Edge) (xs rs : List ℕ) → Within n es → unsettled (map (batchRow n ls es fs xs) rs) ≡ false
