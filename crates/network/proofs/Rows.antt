@@ -59,13 +59,19 @@ module _ (n : ℕ) (f : ℕ → State) (sized : (r : ℕ) → length ((f r) .wor
   pub length-rows : (k : ℕ) (xs : List ℕ) → k * n ≤ length xs → length (over (flat (map f (range 0 k))) xs) ≡ length xs
   length-rows k xs h = length-over (flat (map f (range 0 k))) xs (rw (length-flat (range 0 k), length-range 0 k) h)
 
+-- row lists that number 2 lets pass
+pub long-rows : (n : ℕ) (ls : List ℕ) (xs : Rows) → shortRows n ls xs ≡ accept → (rowCount ls * n ≤ length (xs .forward)) × (rowCount ls * n ≤ length (xs .backward))
+long-rows n ls xs h =
+    let z = neither (ltb (length (xs .forward)) (rowCount ls * n)) (ltb (length (xs .backward)) (rowCount ls * n)) (if-accept _ 2 0 h) in
+    (ltb-false _ _ (z .0), ltb-false _ _ (z .1))
+
 -- both row lists are as long as before
 pub rows-long : (n : ℕ) (ls : List ℕ) (f g : ℕ → State) → ((r : ℕ) → length ((f r) .words) ≡ n) → ((r : ℕ) → length ((g r) .words) ≡ n)
     → (xs : Rows) → shortRows n ls xs ≡ accept
     → shortRows n ls (record { forward = over (flat (map f (rowsOf ls))) (xs .forward); backward = over (flat (map g (rowsOf ls))) (xs .backward) }) ≡ accept
 rows-long n ls f g a b xs h =
-    let z = neither (ltb (length (xs .forward)) (rowCount ls * n)) (ltb (length (xs .backward)) (rowCount ls * n)) (if-accept _ _ _ h) in
-    rw (length-rows n f a (rowCount ls) (xs .forward) (ltb-false _ _ (z .0)), length-rows n g b (rowCount ls) (xs .backward) (ltb-false _ _ (z .1))) h
+    let z = long-rows n ls xs h in
+    rw (length-rows n f a (rowCount ls) (xs .forward) (z .0), length-rows n g b (rowCount ls) (xs .backward) (z .1)) h
 
 pub unsettled-map : (f : ℕ → State) (rs : List ℕ) → ((r : ℕ) → List·Memᴰ r rs → anyOf ((f r) .waiting) ≡ false) → unsettled (map f rs) ≡ false
 unfolding unsettled

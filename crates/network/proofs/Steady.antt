@@ -1,5 +1,5 @@
 -- The claims of specs/Steady.antt. Assumes nothing.
-use Rattle.property.proofs.Basics.{_≡_, refl, sym, ap, _∙_, Bool, true, false, _&&_, _||_, cond, true≢false, false≢true, List, [], _∷_, _++_, map, List·Memᴰ, List·Memᴰ·head, List·Memᴰ·tail, ℕ, zero, suc, _+_, _*_, _%_, _≤_, _<_, zero-mul, suc-mul, mul-le-mul-right, arith, length, getD, take, drop, length-drop, List·getD-map, take-append-drop, length-take-le, take-add, drop-drop, ext-getD, ltb, eqb, ltb-false, lt-ltb, le-leb, eqb-true, ne-eqb}
+use Rattle.property.proofs.Basics.{_≡_, refl, sym, ap, _∙_, Bool, true, false, _&&_, _||_, cond, true≢false, false≢true, List, [], _∷_, _++_, map, List·Memᴰ, List·Memᴰ·head, List·Memᴰ·tail, ℕ, zero, suc, _+_, _*_, _%_, _≤_, _<_, zero-mul, suc-mul, mul-le-mul-right, arith, length, getD, take, drop, length-drop, List·getD-map, take-append-drop, length-take-le, take-add, drop-drop, ext-getD, eqb, lt-ltb, le-leb, eqb-true, ne-eqb}
 use Rattle.property.specs.Property.{Property, properties}
 use Rattle.property.specs.Laws.{Laws}
 use Rattle.property.proofs.Tests.{is-false}
@@ -10,10 +10,10 @@ use Rattle.graph.specs.Refusal.{accept, _▷_, refuseIf, accepted, replied, ove
 use Rattle.graph.specs.Limits.{maxWeight}
 use Rattle.graph.specs.Edge.{Edge, reverse, alike, range, exists}
 use Rattle.graph.specs.Table.{isEdge, rules, size, shortTable, table}
-use Rattle.graph.proofs.Tests.{both, neither, or-false}
+use Rattle.graph.proofs.Tests.{both, or-false}
 use Rattle.graph.proofs.Lists.{length-table, table-at, range-below}
 use Rattle.graph.proofs.Edges.{exists-true, true-exists}
-use Rattle.graph.proofs.Verdicts.{if-accept, accept-if, outcome-accepted}
+use Rattle.graph.proofs.Verdicts.{accept-if, outcome-accepted}
 use Rattle.graph.proofs.Judging.{table-accept}
 use Rattle.graph.proofs.Sorted.{sorted-distinct}
 use Rattle.graph.proofs.Order.{Within, table-ordered, pair-alike, rules-accept, sound-fit, update-own}
@@ -26,7 +26,7 @@ use Rattle.affected.specs.Affected.{Affected, at-removed, onward, marked, affec
 use Rattle.affected.specs.Prepared.{cleared, reopened, prepared}
 use Rattle.affected.proofs.Net.{Single, rules-single, single-reverse, kept-stays}
 use Rattle.affected.proofs.Sweeps.{unaffected-unmarked}
-use Rattle.network.specs.Network.{Rows, Network, edgesIn, rowCount, shortRows, landmarks, faults, row, propertyOf, landmarkOf, rowsOf, flat, unsettled, storesOf}
+use Rattle.network.specs.Network.{Network, edgesIn, rowCount, shortRows, landmarks, faults, row, propertyOf, landmarkOf, rowsOf, flat, unsettled, storesOf}
 use Rattle.network.specs.Change.{Change, named, updates, edit, words, against, item, items}
 use Rattle.network.specs.Batch.{batchRow, batchRows, affectedOver, rewritten, newForward, newBackward, batchFaults, batchVerdict, batchMemory, report, batchCall}
 use Rattle.network.specs.Settled.{settled, Check, inRecords, inRows, check, settledCall}
@@ -34,7 +34,7 @@ use Rattle.network.specs.Caller.{reported, handOn}
 use Rattle.network.specs.History.{moment}
 use Rattle.network.specs.Steady.{EmptyBatch, OwnWeight, SettledAfter}
 use Rattle.network.proofs.Items.{table-sound, table-count, rewritten-edges}
-use Rattle.network.proofs.Rows.{RowsBest, unsettled-map}
+use Rattle.network.proofs.Rows.{RowsBest, long-rows, unsettled-map}
 use Rattle.network.proofs.Moment.{good-within, faults-parts, good-faults, moment-good}
 use Rattle.network.proofs.Never.{open-judged}
 
@@ -97,12 +97,6 @@ flat-rows n f xs i (suc k) h =
 
 front-over : (m : ℕ) (xs : List ℕ) → m ≤ length xs → over (take m xs) xs ≡ xs
 front-over m xs h = ap (λ j. take m xs ++ drop j xs) (length-take-le m xs h) ∙ take-append-drop m xs
-
--- row lists that number 2 lets pass
-pub long-rows : (n : ℕ) (ls : List ℕ) (xs : Rows) → shortRows n ls xs ≡ accept → (rowCount ls * n ≤ length (xs .forward)) × (rowCount ls * n ≤ length (xs .backward))
-long-rows n ls xs h =
-    let z = neither (ltb (length (xs .forward)) (rowCount ls * n)) (ltb (length (xs .backward)) (rowCount ls * n)) (if-accept _ 2 0 h) in
-    (ltb-false _ _ (z .0), ltb-false _ _ (z .1))
 
 pub row-long : (n k r : ℕ) (xs : List ℕ) → k * n ≤ length xs → r < k → length (row n r xs) ≡ n
 row-long n k r xs h q = length-take-le n (drop (r * n) xs) (let z = length-drop (r * n) xs in let a = suc-mul r n in let b = mul-le-mul-right n q in omega arith)

@@ -15,10 +15,10 @@ use Rattle.network.specs.Open.{openCall}
 use Rattle.network.specs.Caller.{openedNetwork}
 use Rattle.network.specs.History.{moment, edgesNow}
 use Rattle.network.proofs.Items.{accept-table, length-over}
-use Rattle.network.proofs.Rows.{RowsBest}
+use Rattle.network.proofs.Rows.{RowsBest, long-rows}
 use Rattle.network.proofs.Moment.{Good, good-count, opens, moment-good}
 use Rattle.network.proofs.Never.{open-judged}
-use Rattle.network.proofs.Steady.{long-rows, row-long}
+use Rattle.network.proofs.Steady.{row-long}
 use Rattle.dimacs.specs.Network as net
 use Rattle.dimacs.specs.Call.{filled}
 use Rattle.dimacs.specs.Claims.{Table}
@@ -53,10 +53,10 @@ good-same n ls v w g h e = record {
 filled-long : (es : List Edge) (ds : Columns) → length es ≤ maxEdges → shortTable ds ≡ accept → shortTable (filled es ds) ≡ accept
 filled-long es ds f s =
     let l = lengths-accept (ds .tails) (ds .heads) (ds .weights) s in
-    let a : length (map (λ e. e .tail) es) ≤ length (ds .tails) = omega (arith, length-map es (λ e. e .tail), l .tails) in
-    let b : length (map (λ e. e .head) es) ≤ length (ds .heads) = omega (arith, length-map es (λ e. e .head), l .heads) in
-    let c : length (map (λ e. e .weight) es) ≤ length (ds .weights) = omega (arith, length-map es (λ e. e .weight), l .weights) in
-    rw (length-over (map (λ e. e .tail) es) (ds .tails) a, length-over (map (λ e. e .head) es) (ds .heads) b, length-over (map (λ e. e .weight) es) (ds .weights) c) s
+    rw (kept (λ e. e .tail) (ds .tails) (l .tails), kept (λ e. e .head) (ds .heads) (l .heads), kept (λ e. e .weight) (ds .weights) (l .weights)) s
+  where
+    kept : (g : Edge → ℕ) (xs : List ℕ) → maxEdges ≤ length xs → length (over (map g es) xs) ≡ length xs
+    kept g xs h = length-over (map g es) xs (omega (arith, length-map es g))
 
 module _ (n : ℕ) (ls : List ℕ) (es : List Edge) (t : Table n es) (c : landmarks n ls ≡ accept) (ds : Columns) (xs : Rows)
     (s : shortTable ds ≡ accept) (l : shortRows n ls xs ≡ accept) where
