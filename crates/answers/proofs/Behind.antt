@@ -7,8 +7,7 @@ use Rattle.theory.proofs.Exists.{best-same}
 use Rattle.theory.proofs.Leads.{leads-route, route-leads, leads-best}
 use Rattle.network.specs.History.{moment}
 use Rattle.network.proofs.History.{best-over-routes}
-use Rattle.network.proofs.Moment.{moment-good}
-use Rattle.network.proofs.Never.{open-judged}
+use Rattle.network.proofs.Never.{begun}
 use Rattle.network.proofs.Routed.{words-routed}
 use Rattle.answers.specs.Behind.{RouteBehind, wanted}
 use Rattle.answers.proofs.Routing.{routes-preferred}
@@ -19,7 +18,7 @@ pub route-behind : RouteBehind
 route-behind n ls w h bs q words tally e t l out =
     let m = moment n ls w bs in
     let P = property (q .property) in
-    let now = (moment-good n ls w (open-judged n ls w ∙ h) bs) .1 in
+    let now = (begun n ls w h bs) .1 in
     let b = (best-over-routes n ls w h bs) .query q words tally e t l in
     let r = (words-routed n ls w h bs) .query q words tally e t l in
     let c = routes-preferred n (m .memory .table) (m .count) (wanted q t) out in

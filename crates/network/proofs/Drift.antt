@@ -22,8 +22,8 @@ use Rattle.network.specs.Batch.{longBatch}
 use Rattle.network.specs.Current.{turnedBack, after}
 use Rattle.network.specs.History.{moment, edgesNow}
 use Rattle.network.specs.Drift.{DriftLimit, RoutesStay, NearRows, NearAnswers, RetuneLimit, ZoneLimit}
-use Rattle.network.proofs.Moment.{good-within, moment-good}
-use Rattle.network.proofs.Never.{open-judged}
+use Rattle.network.proofs.Moment.{good-within}
+use Rattle.network.proofs.Never.{begun}
 use Rattle.network.proofs.History.{best-over-routes}
 
 -- ---- one weight
@@ -53,7 +53,7 @@ zone-limit p k d n es fs h j z s t v w a b = elim (ℕ-discrete p 1) [
 -- the network at a moment keeps the rules
 weighed : (n : ℕ) (ls : List ℕ) (w : Network) → faults n ls w ≡ accept → (bs : List (List Change)) → Weighed (edgesNow n w bs)
 weighed n ls w g bs =
-    let z = moment-good n ls w (open-judged n ls w ∙ g) bs in subst Weighed (z .1) ((good-within n ls (moment n ls w bs) (z .0)) .weights)
+    let z = begun n ls w g bs in subst Weighed (z .1) ((good-within n ls (moment n ls w bs) (z .0)) .weights)
 
 -- The rows at a moment hold best values of the network as it is then, and so do the answers. So the limit for best values is one for words.
 words-near : (d n : ℕ) (ls : List ℕ) (w : Network) → faults n ls w ≡ accept → (bs cs : List (List Change)) → Moved d (edgesNow n w bs) (edgesNow n w cs)

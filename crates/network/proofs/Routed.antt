@@ -15,9 +15,8 @@ use Rattle.network.specs.Query.{Query, Words, atEnd, queryFaults, queryV
 use Rattle.network.specs.History.{moment}
 use Rattle.network.proofs.Items.{table-sound}
 use Rattle.network.proofs.Rows.{source}
-use Rattle.network.proofs.Moment.{moment-good}
 use Rattle.network.proofs.Query.{query-request}
-use Rattle.network.proofs.Never.{open-judged}
+use Rattle.network.proofs.Never.{begun}
 use Rattle.network.proofs.History.{best-over-routes}
 use Rattle.network.specs.Routed.{WordsRouted}
 
@@ -37,7 +36,7 @@ query-source n ls w q out tally e =
 pub words-routed : WordsRouted
 words-routed n ls w h bs =
     let b = best-over-routes n ls w h bs in
-    let z = moment-good n ls w (open-judged n ls w ∙ h) bs in
+    let z = begun n ls w h bs in
     let g = z .0 in
     let few = size-few n (g .sized) in
     let m = moment n ls w bs in

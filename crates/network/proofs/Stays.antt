@@ -1,5 +1,5 @@
 -- The claims of specs/Steady.antt on what an accepted call leaves past what it writes. Assumes nothing.
-use Rattle.property.proofs.Basics.{_≡_, sym, ap, _∙_, subst, List, map, _++_, append-assoc, ℕ, _-_, _*_, _≤_, length, take, drop, replicate, length-map, length-replicate, take-at, drop-at}
+use Rattle.property.proofs.Basics.{_≡_, sym, ap, _∙_, subst, List, map, _++_, append-assoc, ℕ, _-_, _*_, _≤_, length, drop, replicate, length-map, length-replicate, take-at, drop-at}
 use Rattle.graph.specs.Limits.{maxEdges}
 use Rattle.graph.specs.Refusal.{over}
 use Rattle.graph.specs.Edge.{Edge, reverse}
@@ -35,18 +35,13 @@ open-stays n ls w h =
     )
 
 column-zeroed : (f : Edge → ℕ) (fs : List Edge) (xs : List ℕ) → length fs ≤ maxEdges → Zeroed (length fs) xs (over (column f fs) xs)
-column-zeroed f fs xs few = record {
-  zeros = ap (λ l. take k (drop (length fs) l)) (append-assoc (map f fs) (replicate k 0) rest)
-      ∙ ap (λ l. take k l) (drop-at (map f fs) (replicate k 0 ++ rest) (length fs) (length-map fs f))
-      ∙ take-at (replicate k 0) rest k (length-replicate k 0);
-  rest = over-rest maxEdges (column f fs) xs (length-column fs few f);
-}
-  where
-    k : ℕ
-    k = maxEdges - length fs
-
-    rest : List ℕ
-    rest = drop (length (column f fs)) xs
+column-zeroed f fs xs few =
+    let k = maxEdges - length fs in
+    let rest = drop (length (column f fs)) xs in
+    record {
+      zeros = rw (append-assoc (map f fs) (replicate k 0) rest, drop-at (map f fs) (replicate k 0 ++ rest) (length fs) (length-map fs f)) (take-at (replicate k 0) rest k (length-replicate k 0));
+      rest = over-rest maxEdges (column f fs) xs (length-column fs few f);
+    }
 
 -- An accepted batch has passed numbers 1 to 4 and its items, so that its new edges are at most 2,048; its lists are those of the definition.
 pub batch-stays : BatchStays

@@ -35,8 +35,8 @@ use Rattle.network.specs.History.{moment}
 use Rattle.network.specs.Steady.{EmptyBatch, OwnWeight, SettledAfter}
 use Rattle.network.proofs.Items.{table-sound, table-count, rewritten-edges}
 use Rattle.network.proofs.Rows.{RowsBest, long-rows, unsettled-map}
-use Rattle.network.proofs.Moment.{good-within, faults-parts, good-faults, moment-good}
-use Rattle.network.proofs.Never.{open-judged}
+use Rattle.network.proofs.Moment.{good-within, faults-parts, good-faults}
+use Rattle.network.proofs.Never.{begun}
 
 -- ---- nothing is removed, and nothing added
 
@@ -241,7 +241,7 @@ pub settled-after : SettledAfter
 unfolding settledCall replied
 settled-after n ls w h bs =
     let m = moment n ls w bs in
-    let g = (moment-good n ls w (open-judged n ls w ∙ h) bs) .0 in
+    let g = (begun n ls w h bs) .0 in
     let i = good-within n ls m g in
     ap (λ v. replied v (check n ls m)) (good-faults n ls m g)
     ∙ ap accepted (best-rows-settled n ls (edgesIn m) (m .memory .rows .forward) 0 _ i (g .forward)

@@ -16,8 +16,8 @@ use Rattle.network.specs.Caller.{openedNetwork}
 use Rattle.network.specs.History.{moment, edgesNow}
 use Rattle.network.proofs.Items.{accept-table, length-over}
 use Rattle.network.proofs.Rows.{RowsBest, long-rows}
-use Rattle.network.proofs.Moment.{Good, good-count, opens, moment-good}
-use Rattle.network.proofs.Never.{open-judged}
+use Rattle.network.proofs.Moment.{Good, good-count, opens}
+use Rattle.network.proofs.Never.{open-judged, begun}
 use Rattle.network.proofs.Steady.{row-long}
 use Rattle.dimacs.specs.Network as net
 use Rattle.dimacs.specs.Call.{filled}
@@ -117,5 +117,5 @@ saved n ls w es g e = record {
 -- words, as those of the network that was saved do; and a best value is one only.
 pub restart : Restart
 restart n ls w h bs =
-    let z = moment-good n ls w (open-judged n ls w ∙ h) bs in
+    let z = begun n ls w h bs in
     saved n ls (moment n ls w bs) (edgesNow n w bs) (z .0) (z .1)

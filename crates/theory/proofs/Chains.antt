@@ -199,18 +199,22 @@ module _ {P : Property} (L : Laws P) (es : List Edge) (n : ℕ) (inside : Within
 
   -- every vertex is a chain of one
   start-deep : (st : State) → FitWords n st → Deep 0 0 st
-  start-deep st g = record { sized = g; each = λ v w. inr (omega arith, alone v (waits-below st g v w)) }
-    where
-      alone : (v : ℕ) → v < n → Caused P es n (st .words) 0 v
-      alone v h =
-          let l : v < length (replicate n false) = rw length-replicate h in
+  start-deep st g = record {
+    sized = g;
+    each = λ v w.
+        let h = waits-below st g v w in
+        let l : v < length (replicate n false) = rw length-replicate h in
+        inr (
+          omega arith,
           record {
             marks = set (replicate n false) v true;
             chain = first h;
             behind = λ x q. ⊎-elim (λ z. rw (z .0) (L .irreflexive _)) (λ z. absurd (false≢true (sym (replicate-at n x false) ∙ sym (z .1) ∙ q)))
                 (at-set (replicate n false) v true x false l);
             long = omega (arith, count-insert (replicate n false) v l (replicate-at n v false));
-          }
+          },
+        );
+  }
 
   -- rounds that did not come to rest were all run
   settle-deep : (j k : ℕ) (st : State) → Deep k 0 st → anyOf ((settle P es n j st) .waiting) ≡ true → Deep (k + j) 0 (settle P es n j st)

@@ -114,10 +114,7 @@ module _ {P : Property} (L : Laws P) {d k : ℕ} (S : Steady P d k) where
         let (w, q′, j) = way-near (along x (m .new .weight)) (S .weight-near x _ _ (m .near)) q in
         let (p, o) = pair-ends (m .old) (m .new) (m .pair) in
         (w, way-join L (step-for p o (m .come) (route-map later a)) (route-map later q′), rw good j))
-        (once L (m .old) rest weights′ s start (L .start-fits) (route-map parted r))
-      where
-        weights′ : Weighed (m .old ∷ rest)
-        weights′ e k = ⊎-elim (λ p. rw p (weights (m .old) (m .gone))) (λ j. weights e (first e j)) (List·Memᴰ·cases-cons k)
+        (once L (m .old) rest (λ e k. ⊎-elim (λ p. rw p (weights (m .old) (m .gone))) (λ j. weights e (first e j)) (List·Memᴰ·cases-cons k)) s start (L .start-fits) (route-map parted r))
 
   pub moved-near : {es fs : List Edge} {s t v w : ℕ} → Weighed es → Weighed fs → Moved d es fs → Best P es s t v → Best P fs s t w → Near k v w
   moved-near f g m a b = near-best k (S .near-meets) a b (moved-route f m a) (moved-route g (moved-back m) b)

@@ -54,13 +54,10 @@ module _ {P : Property} (L : Laws P) where
     once-more e w (inl r) (inr m) = inl (step r m)
     once-more e w (inl r) (inl p) = inr (w, rw (ap (λ z. z .tail) p) at r, along w (o .weight), rw p here, rw p (L .irreflexive _))
     once-more e w (inr (x, r, y, q, h)) (inr m) = inr (x, r, along y (e .weight), step q m, L .along-monotone _ _ _ h)
-    once-more e w (inr (x, r, y, q, h)) (inl p) = inr (x, r, along x (o .weight), rw p here, rw p (L .along-monotone _ _ _ (L .transitive _ _ _ back h)))
-      where
-        x-fits : x ≤ M
-        x-fits = way-fits L weights′ fits r
-
-        back : better y x ≡ false
-        back = L .transitive _ _ _ (L .along-no-better x (o .weight) x-fits) (way-after L weights′ (L .along-fits _ _ x-fits weight) q)
+    once-more e w (inr (x, r, y, q, h)) (inl p) =
+        let f = way-fits L weights′ fits r in
+        let back = L .transitive _ _ _ (L .along-no-better x (o .weight) f) (way-after L weights′ (L .along-fits _ _ f weight) q) in
+        inr (x, r, along x (o .weight), rw p here, rw p (L .along-monotone _ _ _ (L .transitive _ _ _ back h)))
 
     pub once : {t u : ℕ} → Way P (o ∷ es) s v t u → Once t u
     once here = inl here
@@ -75,16 +72,14 @@ module _ {P : Property} (L : Laws P) where
     -- the best that goes through o: come to its tail with the best value, and go on from its head in the best way
     via : (t : ℕ) → Top P es s v (o .tail) → ((y : ℕ) → y ≤ M → Top P es (o .head) y t) → Via t
     via t (inr d) below = inr (λ u z. d (z .0) (z .1))
-    via t (inl (x, r, first)) below = pick (below (along x (o .weight)) (L .along-fits _ _ (way-fits L weights′ fits r) weight))
+    via t (inl (x, r, first)) below = ⊎-elim
+        (λ (y, q, last). inl (y, way-join (step (up r) (List·Memᴰ·head refl)) (up q), λ u z. let (w, q′, k) = moved u z in L .transitive _ _ _ (last w q′) k))
+        (λ d. inr (λ u z. let (w, q, k) = moved u z in d w q)) (below (along x (o .weight)) (L .along-fits _ _ (way-fits L weights′ fits r) weight))
       where
         moved : (u : ℕ) → Through P o es s v t u → (w : ℕ) × Way P es (o .head) (along x (o .weight)) t w × (better u w ≡ false)
         moved u (x′, r′, y, q, h) =
             let (w, q′, k) = way-better (along x (o .weight)) (L .along-monotone _ _ _ (first x′ r′)) q in
             (w, q′, L .transitive _ _ _ k h)
-
-        pick : Top P es (o .head) (along x (o .weight)) t → Via t
-        pick (inr d) = inr (λ u z. let (w, q, k) = moved u z in d w q)
-        pick (inl (y, q, last)) = inl (y, way-join (step (up r) (List·Memᴰ·head refl)) (up q), λ u z. let (w, q′, k) = moved u z in L .transitive _ _ _ (last w q′) k)
 
     -- the better of the best along es alone and the best through o
     finer : (t : ℕ) → Top P es s v t → Via t → Top P (o ∷ es) s v t

@@ -70,17 +70,17 @@ module _ {P : Property} (L : Laws P) {m w : ℕ} (lasting : Lasting P m w) (es :
   -- Where there is a route, the best number of edges is below n, so some route of so few edges is better than the no-route word; and the
   -- best value is no worse than that route's. Where there is none, the best value is the no-route word by what a best value is.
   pub value-routed : {t v : ℕ} → Best P es s t v → Routed P es s t v
-  value-routed {t} {v} b = (λ z u r. never z r, λ d. ⊎-elim (λ r. absurd (d v r)) (λ c. c .1) (b .attained))
-    where
-      never : {u : ℕ} → v ≡ none → Route P es s t u → ⊥
-      never z r =
-          let hops = values-best bfs-laws es s n inside h in
-          let fewer = hops-few es s n inside h (valuesFrom bfs es n s) hops (walk-of r) in
-          ⊎-elim
-          (λ q. let (x, k, f) = route-floor q (omega arith) in
-          let y : better (lasting .floor (word bfs (valuesFrom bfs es n s) t)) v ≡ false = L .transitive _ _ _ (b .unbettered x k) f in
-          true≢false (sym (lasting .floor-holds _ (omega arith)) ∙ (rw z at y)))
-          (λ c. let y = c .1 in omega arith) ((hops t) .attained)
+  value-routed {t} {v} b = (
+    λ z u r.
+        let hops = values-best bfs-laws es s n inside h in
+        let fewer = hops-few es s n inside h (valuesFrom bfs es n s) hops (walk-of r) in
+        ⊎-elim
+        (λ q. let (x, k, f) = route-floor q (omega arith) in
+        let y : better (lasting .floor (word bfs (valuesFrom bfs es n s) t)) v ≡ false = L .transitive _ _ _ (b .unbettered x k) f in
+        true≢false (sym (lasting .floor-holds _ (omega arith)) ∙ (rw z at y)))
+        (λ c. let y = c .1 in omega arith) ((hops t) .attained),
+    λ d. ⊎-elim (λ r. absurd (d v r)) (λ c. c .1) (b .attained),
+  )
 
 -- The five properties by number, on a table that keeps its rules: there weights are 1 to 65,535.
 pub best-routed : BestRouted

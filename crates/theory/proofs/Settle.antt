@@ -170,11 +170,10 @@ module _ {P : Property} (L : Laws P) where
     -- a store keeps words sound: the route that backs the tail goes on along the edge, and no route leads on to no route
     store-sound : (es : List Edge) (s : ℕ) → List·Memᴰ o es → o .weight ≤ M → Sound P es s ws → Sound P es s stored
     store-sound es s m w sound t =
-        ⊎-elim (λ c. rw (c .1, c .0) (head (sound (o .tail)))) (λ c. rw (c .1) (sound t)) (at-set ws (o .head) fresh t none inside)
-      where
-        head : Backed P es s (o .tail) (word P ws (o .tail)) → Backed P es s (o .head) fresh
-        head (inl (u, r, h, f)) = inl (along u (o .weight), step r m, L .along-monotone _ _ _ h, L .along-fits _ _ f w)
-        head (inr e) = inr (ap (λ x. along x (o .weight)) e ∙ L .along-none (o .weight) w)
+        ⊎-elim (λ c. rw (c .1, c .0) (⊎-elim
+        (λ (u, r, h, f). inl (along u (o .weight), step r m, L .along-monotone _ _ _ h, L .along-fits _ _ f w))
+        (λ e. inr (ap (λ x. along x (o .weight)) e ∙ L .along-none (o .weight) w)) (sound (o .tail))))
+        (λ c. rw (c .1) (sound t)) (at-set ws (o .head) fresh t none inside)
 
     module _ (c : relaxable P ws o ≡ true) where
       pub store-betters : (t : ℕ) → better (word P ws t) (word P stored t) ≡ false
