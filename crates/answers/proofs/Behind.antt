@@ -1,5 +1,5 @@
 -- The route behind a query's word has that word for its value: the claim, proved. Assumes nothing.
-use Rattle.property.proofs.Basics.{_∙_, ⊎-elim}
+use Rattle.property.proofs.Basics.{⊎-elim}
 use Rattle.property.specs.Property.{property}
 use Rattle.property.proofs.Instances.{property-laws}
 use Rattle.graph.specs.Route.{here}

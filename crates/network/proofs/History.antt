@@ -1,5 +1,5 @@
 -- The claim over histories, proved. Assumes nothing.
-use Rattle.property.proofs.Basics.{refl, sym, _∙_, List, [], append-nil, ℕ, suc, _%_}
+use Rattle.property.proofs.Basics.{refl, sym, List, [], append-nil, ℕ, suc, _%_}
 use Rattle.property.specs.Property.{properties}
 use Rattle.property.proofs.Instances.{property-joins}
 use Rattle.theory.proofs.Reverse.{reversed-best}

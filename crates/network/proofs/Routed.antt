@@ -1,5 +1,5 @@
 -- The no-route word stands exactly where there is no route: the claim, proved. Assumes nothing.
-use Rattle.property.proofs.Basics.{_≡_, _∙_, List, ℕ, suc, _%_, _≤_, _<_, length, ltb, eqb, ltb-false}
+use Rattle.property.proofs.Basics.{_≡_, List, ℕ, suc, _%_, _≤_, _<_, length, ltb, eqb, ltb-false}
 use Rattle.property.specs.Property.{properties}
 use Rattle.frontier.specs.Waiting.{anyOf}
 use Rattle.graph.specs.Limits.{maxVertices}
