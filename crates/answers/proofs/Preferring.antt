@@ -59,7 +59,7 @@ pub record Asked (n : ℕ) (es : List Edge) (p s t : ℕ) : Type 0 where
   pub source : s < n
   pub target : t < n
 
-module _ (n : ℕ) (es : List Edge) (p s t : ℕ) (g : Asked n es p s t) where
+module _ {n : ℕ} {es : List Edge} {p s t : ℕ} (g : Asked n es p s t) where
   abbrev P : Property
   P = property p
 
@@ -131,6 +131,6 @@ module _ (n : ℕ) (cs : Columns) (m : ℕ) (q : Request) (g : Asked n (edgesOf 
   pub preferred-holds : bestWord n cs m q ≢ property (q .property) .none
       → Preferred (property (q .property)) (edgesOf cs m) (q .source) (q .target) (preferred n cs m q) × (length (preferred n cs m q) < n)
   preferred-holds d =
-      let h = few-hops ((eligible-leads n (edgesOf cs m) (q .property) (q .source) (q .target) g d) .1) in
+      let h = few-hops ((eligible-leads g d) .1) in
       let (z, y) = followed-least n (candidates n cs m q) kept (q .target) (hops n cs m q) (λ u. reversed-best bfs-joins (hops-back u)) (q .source) (omega (arith, g .few)) in
-      (least-preferred n (edgesOf cs m) (q .property) (q .source) (q .target) g d z, omega arith)
+      (least-preferred g d z, omega arith)

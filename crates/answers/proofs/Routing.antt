@@ -97,7 +97,7 @@ module _ (n : ℕ) (cs : Columns) (m : ℕ) (q : Request) where
     served : faults ≡ accept → (ps : List Edge) → Leads es (q .source) ps (q .target) → (k : ℕ) × ((routeCall n cs m q out) .reply ≡ accepted k)
     unfolding routeCall
     served h ps l =
-        let d : bestWord n cs m q ≢ P .none = λ z. unrouted n es (q .property) (q .source) (q .target) (faults-asked _ _ h) .0 z ps l in (
+        let d : bestWord n cs m q ≢ P .none = λ z. unrouted (faults-asked _ _ h) .0 z ps l in (
           suc (length (preferred n cs m q)),
           ap (λ o. o .reply) (outcome-accepted (faults ▷ none) _ (withRoute n cs m q out) out (accept-then h ∙ accept-if 15 0 (ne-eqb _ _ d))),
         )
@@ -108,7 +108,7 @@ module _ (n : ℕ) (cs : Columns) (m : ℕ) (q : Request) where
     barred : faults ≡ accept → ((routeCall n cs m q out) .reply ≡ refused 15 0) ↔ ((ps : List Edge) → Leads es (q .source) ps (q .target) → ⊥)
     unfolding routeCall replied
     barred h =
-        let u = unrouted n es (q .property) (q .source) (q .target) (faults-asked _ _ h) in (
+        let u = unrouted (faults-asked _ _ h) in (
           λ e. u .0 (eqb-true _ _ (if-refused _ 15 0 (sym (accept-then h) ∙ reply-refused (faults ▷ none) (suc (length (preferred n cs m q))) e))),
           λ d. ap (λ v. replied v (suc (length (preferred n cs m q)))) (accept-then h ∙ refuses (u .1 d)),
         )
@@ -147,7 +147,7 @@ module _ (n : ℕ) (cs : Columns) (m : ℕ) (q : Request) (out : Answer) (h : ot
   ends = rw (← z) stop
 
   routed : bestWord n cs m q ≢ P n cs m q .none
-  routed y = unrouted n (es n cs m q) (q .property) (q .source) (q .target) able .0 y [] ends
+  routed y = unrouted able .0 y [] ends
 
   -- no route's value is better than the source's
   at-once : BestLeads (P n cs m q) (es n cs m q) (q .source) (q .target) []

@@ -85,7 +85,7 @@ module _ (n : ℕ) (cs : Columns) (m : ℕ) (q : Request) where
     lacks-route h = elim (ℕ-discrete (bestWord n cs m q) (P .none)) [
       | yes z ↦ z
       | no d ↦
-          let (qs, l) = eligible-leads n es (q .property) (q .source) (q .target) g d in
+          let (qs, l) = eligible-leads g d in
           absurd (search-lacks isSought es n (q .source) (g .sound) (g .few) (g .source) (q .target) (told-not r _ e ∙ h) qs (leads-map (λ e k.
           let (a, b) = keep-in isCandidate es e k in
           in-keep isSought a (or-right (eqb (q .property) 2) (or-right (ltb 4 (q .property)) b))) l))
@@ -103,7 +103,7 @@ module _ (n : ℕ) (cs : Columns) (m : ℕ) (q : Request) where
       leads = leads-map (λ e k. (keep-in isSought es e k) .0) (found .1 .0)
 
       pub some-route : bestWord n cs m q ≢ P .none
-      some-route z = unrouted n es (q .property) (q .source) (q .target) g .0 z ps leads
+      some-route z = unrouted g .0 z ps leads
 
       -- For handovers and reach every edge is searched, and what comes first of all routes is preferred. For the others the eligible edges are
       -- searched, and what comes first of their routes is.
@@ -112,7 +112,7 @@ module _ (n : ℕ) (cs : Columns) (m : ℕ) (q : Request) where
           (λ z. fewest-preferred (q .property) (inl (eqb-true _ _ z)) (leads, λ qs l. found .1 .1 qs (leads-map (λ e k. in-keep isSought k (rw z)) l)))
           (λ z. by-test (ltb 4 (q .property))
           (λ y. fewest-preferred (q .property) (inr (ltb-true _ _ y)) (leads, λ qs l. found .1 .1 qs (leads-map (λ e k. in-keep isSought k (rw (z, y))) l)))
-          (λ y. least-preferred n es (q .property) (q .source) (q .target) g some-route (
+          (λ y. least-preferred g some-route (
             leads-map (λ e k. let (a, b) = keep-in isSought es e k in in-keep isCandidate a (rw (z, y) at b)) (found .1 .0),
             λ qs l. found .1 .1 qs (leads-map (λ e k. let (a, b) = keep-in isCandidate es e k in in-keep isSought a (rw (z, y) b)) l),
           )))

@@ -43,7 +43,7 @@ module _ (f : Edge → Bool) (es : List Edge) (n s : ℕ) (sound : Sound n es) (
 
   -- no arc of an edge is the word of a vertex that is not found
   arc-found : (e : Edge) → List·Memᴰ e (keep f es) → arc (e .tail) (e .weight) ≢ unfound
-  arc-found e m q = let z = kept-fit e m in let a = z .tail-below in let b = z .weight-most in omega (arith, small)
+  arc-found e m q = let z = kept-fit e m in omega (arith, small)
 
   pub record Entered (vs : List ℕ) (j : ℕ) (g : Entry) : Type 0 where
     pub leads : Leads (keep f es) s (g .route) (g .vertex)
@@ -76,7 +76,7 @@ module _ (f : Edge → Bool) (es : List Edge) (n s : ℕ) (sound : Sound n es) (
 
   -- An edge from entry i whose head is not found yet. Its entry is put last: the route goes on along the edge, and its number is at least b, so it comes
   -- after all others. Words that the invariant speaks of stay, for the word that is stored over is `unfound`, which no arc is.
-  module _ (gs : List Entry) (st : Search) (i b : ℕ) (u : Under gs st i b) (l : i < length gs) (e : Edge) (m : List·Memᴰ e (keep f es)) (p : e .tail ≡ (entry gs i) .vertex)
+  module _ {gs : List Entry} {st : Search} {i b : ℕ} (u : Under gs st i b) (l : i < length gs) (e : Edge) (m : List·Memᴰ e (keep f es)) (p : e .tail ≡ (entry gs i) .vertex)
       (c : b ≤ key (entry gs i) * maxVertices + e .head) (o : getD (st .via) (e .head) 0 ≡ unfound) where
     abbrev next : Entry
     next = record { vertex = e .head; route = (entry gs i) .route ++ e ∷ [] }
@@ -168,7 +168,7 @@ module _ (f : Edge → Bool) (es : List Edge) (n s : ℕ) (sound : Sound n es) (
   unfolding look finds
   look-gone gs st i k c l q u e m p a = by-test (f e)
       (λ t. by-test (isUnfound st (e .head))
-      (λ o. rw (t, o, ← q) (gone-finds gs st i _ u l e (in-keep f m t) p (omega (arith, q, a)) (eqb-true (getD (st .via) (e .head) 0) unfound o)))
+      (λ o. rw (t, o, ← q) (gone-finds u l e (in-keep f m t) p (omega (arith, q, a)) (eqb-true (getD (st .via) (e .head) 0) unfound o)))
       (λ o. rw (t, o) (
         gs,
         grows-none gs,
@@ -284,7 +284,7 @@ module _ (f : Edge → Bool) (es : List Edge) (n s : ℕ) (sound : Sound n es) (
 
   -- ---- what routes come to at the end
 
-  module _ (gs : List Entry) (st : Search) (i b : ℕ) (u : Under gs st i b) (r : Ready gs i b) where
+  module _ {gs : List Entry} {st : Search} {i b : ℕ} (u : Under gs st i b) (r : Ready gs i b) where
     -- entry 0 has at most 0 edges, so it is the source's
     start-reached : Reached gs 1 s
     start-reached =
@@ -379,13 +379,13 @@ module _ (f : Edge → Bool) (es : List Edge) (n s : ℕ) (sound : Sound n es) (
   search-finds t h q =
       let d = searched-done t in
       let (j, l, p) = d .under .held .known t h (eqb-false _ _ q) in
-      rw p at (entry-found (d .entries) _ (d .index) (d .bound) (d .under) (d .ready) j l)
+      rw p at (entry-found (d .under) (d .ready) j l)
 
   -- Where t is not found the search has gone on until all was expanded: each entry is another vertex, so there are at most n, and n turns are enough. Then
   -- the head of each edge from a vertex found is found, so each vertex that a route leads to is, and t is none of them.
   pub search-lacks : (t : ℕ) → isUnfound (search f es t n 0 (begun n s)) t ≡ true → (qs : List Edge) → Leads (keep f es) s qs t → ⊥
   search-lacks t q qs l =
       let d = searched-done t in
-      let (j, g, p, _) = start-reached (d .entries) _ (d .index) (d .bound) (d .under) (d .ready) in
-      let (k, c, r) = leads-known (d .entries) _ (d .index) (d .bound) (d .under) (d .ready) (d .spent q) l (j, g, p) in
+      let (j, g, p, _) = start-reached (d .under) (d .ready) in
+      let (k, c, r) = leads-known (d .under) (d .ready) (d .spent q) l (j, g, p) in
       (d .under .held .entered k c) .found (rw r (eqb-true _ _ q))
