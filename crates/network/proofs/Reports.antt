@@ -54,6 +54,7 @@ module _ (P : Property) (es fs : List Edge) (s : ℕ) (ws : List ℕ) (n : ℕ) 
   abbrev Woken : ℕ → Type 0
   Woken t = (e : Edge) × List·Memᴰ e fs × (e .tail ≡ t) × (Affected P es fs s ws (e .head) ⊎ (added P es e ≡ true))
 
+  -- the word of a vertex t as its run starts
   abbrev wiped : ℕ → ℕ
   wiped t = cond (marked marks t) (P .none) (word P ws t)
 

@@ -101,6 +101,7 @@ front-over m xs h = ap (λ j. take m xs ++ drop j xs) (length-take-le m xs h) �
 pub row-long : (n k r : ℕ) (xs : List ℕ) → k * n ≤ length xs → r < k → length (row n r xs) ≡ n
 row-long n k r xs h q = length-take-le n (drop (r * n) xs) (let z = length-drop (r * n) xs in let a = suc-mul r n in let b = mul-le-mul-right n q in omega arith)
 
+-- what a batch without changes leaves of the rows xs of one side
 record Still (n : ℕ) (ls : List ℕ) (es : List Edge) (xs : List ℕ) : Type 0 where
   rests : unsettled (batchRows n ls es es xs) ≡ false
   kept : over (flat (batchRows n ls es es xs)) xs ≡ xs
