@@ -1,5 +1,5 @@
 -- The last edge that set headroom or worst stretch has the route's value for its weight, and there is one: the claim, proved. Assumes nothing.
-use Rattle.property.proofs.Basics.{_≡_, refl, sym, ap, _∙_, subst, _⊎_, inl, inr, _≢_, true, List, ℕ, _≤_, _<_, ℕ-discrete, arith, length, eqb}
+use Rattle.property.proofs.Basics.{_≡_, refl, ap, _∙_, _⊎_, inl, inr, ⊎-elim, _≢_, true, List, ℕ, _≤_, _<_, ℕ-discrete, arith, length, eqb}
 use Rattle.property.specs.Property.{Property, property, sswp, ssnp}
 use Rattle.property.proofs.Tests.{tests}
 use Rattle.graph.specs.Limits.{maxWeight}
@@ -14,53 +14,30 @@ use Rattle.answers.specs.Deciding.{decided, MarksDecide}
 -- what holds of the two holds by number
 by-kind : (Q : Property → Type 0) → Q sswp → Q ssnp → (p : ℕ) → (p ≡ 3) ⊎ (p ≡ 4) → Q (property p)
 unfolding property
-by-kind Q a b p (inl z) = subst (λ k. Q (property k)) (sym z) a
-by-kind Q a b p (inr z) = subst (λ k. Q (property k)) (sym z) b
+by-kind Q a b p (inl z) = rw z a
+by-kind Q a b p (inr z) = rw z b
 
 -- a lesser or a greater of two that is not the first is the second
 abbrev Moves : Property → Type 0
 Moves P = (v w : ℕ) → P .along v w ≢ v → P .along v w ≡ w
 
-least-moves : Moves sswp
-least-moves = omega tests
-
-most-moves : Moves ssnp
-most-moves = omega tests
-
 -- a weight is neither of the values at the source, M and 0
 abbrev Begins : Property → Type 0
 Begins P = (w : ℕ) → 0 < w → w ≤ maxWeight → P .along (P .start) w ≢ P .start
-
-least-begins : Begins sswp
-least-begins = omega tests
-
-most-begins : Begins ssnp
-most-begins = omega tests
 
 -- ---- marks
 
 module _ (p : ℕ) (kind : (p ≡ 3) ⊎ (p ≡ 4)) where
   -- the running value after an edge that set it is that edge's weight ..
   sets-weight : (v : ℕ) (e : Edge) → SetsValue p v e → property p .along v (e .weight) ≡ e .weight
-  sets-weight v e z = pick z
+  sets-weight v e z = ⊎-elim (λ a. absurd (⊎-elim (never a 3 (omega arith)) (never a 4 (omega arith)) kind)) (λ a. by-kind Moves (omega tests) (omega tests) p kind v (e .weight) (a .1)) z
     where
-      never : (p ≡ 3) ⊎ (p ≡ 4) → (p ≡ 1) ⊎ (p ≡ 2) → ⊥
-      never (inl a) (inl b) = omega tests
-      never (inl a) (inr b) = omega tests
-      never (inr a) (inl b) = omega tests
-      never (inr a) (inr b) = omega tests
-
-      pick : SetsValue p v e → property p .along v (e .weight) ≡ e .weight
-      pick (inl a) = absurd (never kind a)
-      pick (inr a) = by-kind Moves least-moves most-moves p kind v (e .weight) (a .1)
+      never : (p ≡ 1) ⊎ (p ≡ 2) → (k : ℕ) → 2 < k → p ≡ k → ⊥
+      never a k h b = ⊎-elim (λ c. omega arith) (λ c. omega arith) a
 
   -- .. and after one that passed it on it is what it was
   passes-same : (v : ℕ) (e : Edge) → (SetsValue p v e → ⊥) → property p .along v (e .weight) ≡ v
-  passes-same v e d = pick (ℕ-discrete (property p .along v (e .weight)) v)
-    where
-      pick : Dec (property p .along v (e .weight) ≡ v) → property p .along v (e .weight) ≡ v
-      pick (yes z) = z
-      pick (no k) = absurd (d (inr (kind, k)))
+  passes-same v e d = elim (ℕ-discrete (property p .along v (e .weight)) v) [ yes z ↦ z | no k ↦ absurd (d (inr (kind, k))) ]
 
   decides : (v : ℕ) (ps : List Edge) (ms : List ℕ) → MarksFor p v ps ms → valueAlong (property p) v ps ≡ decided v ps ms
   unfolding valueAlong decided
@@ -76,7 +53,7 @@ module _ (p : ℕ) (kind : (p ≡ 3) ⊎ (p ≡ 4)) where
   some-marked n es h s t ps ms (on m r) (sets z k) l = refl
   some-marked n es h s t ps ms (on {e = e} m r) (passes d k) l =
       let f = sound-fit n es h e m in
-      absurd (d (inr (kind, by-kind Begins least-begins most-begins p kind (e .weight) (f .some-weight) (f .weight-most))))
+      absurd (d (inr (kind, by-kind Begins (omega tests) (omega tests) p kind (e .weight) (f .some-weight) (f .weight-most))))
 
 -- The running value goes from edge to edge. An edge that sets it leaves its own weight, since the lesser or greater of two that is not the first is
 -- the second; one that passes it on leaves it as it is. So at the end it is the weight of the last edge that set it. The first edge of a route

@@ -4,7 +4,7 @@
 --   Headed ks t u k rs   == the list rs, which leads from u to t in k + 1 edges of ks, taken apart after its first edge
 --   heads ps             == the heads of the edges ps
 --   Lowest k u qs        == qs leads from u to t in k edges, and no such list of k edges is lower
-use Rattle.property.proofs.Basics.{_≡_, refl, sym, ap, _∙_, subst, _⊎_, inl, inr, ⊎-elim, Bool, true, false, _&&_, cond, true≢false, some, List, [], _∷_, map, List·Memᴰ, List·Memᴰ·head, List·Memᴰ·tail, List·Memᴰ·cases-cons, List·Memᴰ·not-nil, ℕ, zero, suc, _≤_, _<_, ℕ-discrete, arith, length, eqb, eqb-true, eq-eqb, ne-eqb, le-ltb}
+use Rattle.property.proofs.Basics.{_≡_, refl, sym, ap, _∙_, subst, _⊎_, inl, inr, ⊎-elim, Bool, true, false, true≢false, some, List, [], _∷_, map, List·Memᴰ, List·Memᴰ·head, List·Memᴰ·tail, List·Memᴰ·cases-cons, List·Memᴰ·not-nil, ℕ, zero, suc, _≤_, _<_, ℕ-discrete, arith, length, eqb, eqb-true, eq-eqb, ne-eqb, le-ltb}
 use Rattle.property.specs.Property.{M, bfs}
 use Rattle.property.proofs.Tests.{by-test}
 use Rattle.graph.specs.Edge.{Edge, precedes}
@@ -12,7 +12,7 @@ use Rattle.graph.specs.Table.{isEdge}
 use Rattle.graph.specs.Route.{Best}
 use Rattle.graph.specs.Leads.{Leads, stop, on, lower}
 use Rattle.graph.proofs.Tests.{both, and-true}
-use Rattle.graph.proofs.Order.{table-ordered, Sound, Less, less-of}
+use Rattle.graph.proofs.Order.{table-ordered, Sound, less-of}
 use Rattle.graph.proofs.Keeps.{ahead-mem}
 use Rattle.run.specs.Run.{word}
 use Rattle.theory.proofs.Leads.{Least, leads-none}
@@ -24,28 +24,21 @@ use Rattle.answers.specs.Routing.{firstOf, leadsOn, followed}
 abbrev Foremost : (Edge → Bool) → List Edge → Edge → Type 0
 Foremost f es e = List·Memᴰ e es × (f e ≡ true) × ((x : Edge) → List·Memᴰ x es → f x ≡ true → (x ≡ e) ⊎ (precedes e x ≡ true))
 
-firstOf-here : (f : Edge → Bool) (e : Edge) (es : List Edge) → f e ≡ true → firstOf f (e ∷ es) ≡ some e
-unfolding firstOf
-firstOf-here f e es z = ap (λ b. cond b (some e) (firstOf f es)) z
-
-firstOf-past : (f : Edge → Bool) (e : Edge) (es : List Edge) → f e ≡ false → firstOf f (e ∷ es) ≡ firstOf f es
-unfolding firstOf
-firstOf-past f e es z = ap (λ b. cond b (some e) (firstOf f es)) z
-
 firstOf-foremost : (f : Edge → Bool) (n : ℕ) (es : List Edge) → Sound n es → (x : Edge) → List·Memᴰ x es → f x ≡ true
     → (e : Edge) × (firstOf f es ≡ some e) × Foremost f es e
+unfolding firstOf
 firstOf-foremost f n [] h x m q = absurd (List·Memᴰ·not-nil m)
 firstOf-foremost f n (o ∷ es) h x m q = by-test (f o)
     (λ z. (
       o,
-      firstOf-here f o es z,
+      rw z,
       (List·Memᴰ·head refl, z, λ y k g. ⊎-elim inl (λ j. inr (ahead-mem table-ordered (isEdge n) o es (h .1) (h .2) y j)) (List·Memᴰ·cases-cons k)),
     ))
     (λ z.
     let other : (y : Edge) → List·Memᴰ y (o ∷ es) → f y ≡ true → List·Memᴰ y es = λ y k g.
     ⊎-elim (λ p. absurd (true≢false (sym g ∙ ap f p ∙ z))) (λ j. j) (List·Memᴰ·cases-cons k) in
     let (e, y, (me, fe, low)) = firstOf-foremost f n es (h .2) x (other x m q) q in
-    (e, firstOf-past f o es z ∙ y, (List·Memᴰ·tail me, fe, λ u j g. low u (other u j g) g)))
+    (e, rw z y, (List·Memᴰ·tail me, fe, λ u j g. low u (other u j g) g)))
 
 -- ---- the first edge of a route
 
@@ -65,11 +58,7 @@ lower-nil (u ∷ us) = refl
 
 lower-cons : (u v : ℕ) (us vs : List ℕ) → v ≤ u → (u ≡ v → lower us vs ≡ false) → lower (u ∷ us) (v ∷ vs) ≡ false
 unfolding lower
-lower-cons u v us vs h k = rw (le-ltb u v h) (pick (ℕ-discrete u v))
-  where
-    pick : Dec (u ≡ v) → (eqb u v && lower us vs) ≡ false
-    pick (yes p) = rw (eq-eqb u v p) (k p)
-    pick (no d) = rw (ne-eqb u v d)
+lower-cons u v us vs h k = rw (le-ltb u v h) (elim (ℕ-discrete u v) [ yes p ↦ rw (eq-eqb u v p) (k p) | no d ↦ rw (ne-eqb u v d) ])
 
 -- ---- the route that is followed
 
@@ -93,17 +82,10 @@ module _ (n : ℕ) (ks : List Edge) (sound : Sound n ks) (t : ℕ) (hs : List �
   -- of the edges that pass the test the first has the lowest head, since all have one tail
   lowest-head : (k u : ℕ) (e x : Edge) → leadsOn hs k u e ≡ true → leadsOn hs k u x ≡ true → (x ≡ e) ⊎ (precedes e x ≡ true) → e .head ≤ x .head
   lowest-head k u e x a b (inl p) = let z = ap (λ y. y .head) p in omega arith
-  lowest-head k u e x a b (inr c) = pick (less-of e x c)
-    where
-      p : e .tail ≡ u
-      p = eqb-true _ _ ((both (eqb (e .tail) u) (eqb (word bfs hs (e .head)) k) a) .0)
-
-      q : x .tail ≡ u
-      q = eqb-true _ _ ((both (eqb (x .tail) u) (eqb (word bfs hs (x .head)) k) b) .0)
-
-      pick : Less e x → e .head ≤ x .head
-      pick (inl l) = absurd (omega (arith, p, q))
-      pick (inr l) = let z = l .1 in omega arith
+  lowest-head k u e x a b (inr c) =
+      let p = eqb-true (e .tail) u ((both _ (eqb (word bfs hs (e .head)) k) a) .0) in
+      let q = eqb-true (x .tail) u ((both _ (eqb (word bfs hs (x .head)) k) b) .0) in
+      ⊎-elim (λ l. absurd (omega arith)) (λ l. let z = l .1 in omega arith) (less-of e x c)
 
   -- By induction on the edges still to go. With none, the route ends here. With k + 1, some route of k + 1 edges leads on; its first edge
   -- comes to a vertex with k to go, so there is a first edge e of the table that does. Any other such route starts with an edge that does
@@ -112,7 +94,7 @@ module _ (n : ℕ) (ks : List Edge) (sound : Sound n ks) (t : ℕ) (hs : List �
   unfolding followed
   followed-lowest zero u h q =
       let (rs, l, z) = hops-attained ks t hs best u (omega arith) in
-      (subst (λ x. Leads ks u [] x) ((leads-none l (omega arith)) .1) stop, refl, λ qs k y. lower-nil (heads qs))
+      (rw (← ((leads-none l (omega arith)) .1)) stop, refl, λ qs k y. lower-nil (heads qs))
   followed-lowest (suc k) u h q =
       let (rs, l, z) = hops-attained ks t hs best u (omega arith) in
       let (o, os, y, po, mo, lo, zo) = headed l (z ∙ q) in
@@ -123,10 +105,10 @@ module _ (n : ℕ) (ks : List Edge) (sound : Sound n ks) (t : ℕ) (hs : List �
         subst (λ x. Leads ks x (e ∷ followed ks hs k (e .head)) t) (eqb-true (e .tail) u (c .0)) (on me ls),
         ap suc lz,
         λ xs lx zx. let (x, ps, w, px, mx, rx, nx) = headed lx zx in
-            subst (λ js. lower (heads js) (heads (e ∷ followed ks hs k (e .head))) ≡ false) (sym w)
+            rw w
             (lower-cons (x .head) (e .head) (heads ps) (heads (followed ks hs k (e .head)))
             (lowest-head k u e x fe (goes k u x ps (omega arith) q px mx rx nx) (low x mx (goes k u x ps (omega arith) q px mx rx nx)))
-            (λ p. ll ps (subst (λ j. Leads ks j ps t) p rx) nx)),
+            (λ p. ll ps (rw p at rx) nx)),
       )
 
   pub followed-least : (s : ℕ) → word bfs hs s < M → Least ks s t (followed ks hs (word bfs hs s) s) × (length (followed ks hs (word bfs hs s) s) ≡ word bfs hs s)

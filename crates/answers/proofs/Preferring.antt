@@ -4,7 +4,7 @@
 --   Unbettered P ps qs == the value of qs is no better than that of ps
 --   Asked n es p s t   == what an accepted request has: few vertices, sound edges, a property, source and target
 --   by b               == the eligible edges of a property that is strict, or that selects
-use Rattle.property.proofs.Basics.{_≡_, refl, sym, ap, subst, _⊎_, inl, inr, ⊎-elim, _↔_, _≢_, Bool, false, cond, List, map, ℕ, _≤_, _<_, arith, length, leb, le-ltb, leb-true, leb-false}
+use Rattle.property.proofs.Basics.{_≡_, sym, ap, subst, _⊎_, inl, inr, ⊎-elim, _↔_, _≢_, Bool, false, cond, List, map, ℕ, _≤_, _<_, arith, length, leb, le-ltb, leb-true, leb-false}
 use Rattle.property.specs.Property.{Property, bfs, property, properties}
 use Rattle.property.proofs.Instances.{bfs-laws, bfs-joins, property-laws, property-rest}
 use Rattle.property.proofs.Tests.{by-test}
@@ -12,7 +12,7 @@ use Rattle.property.proofs.RouteLaws.{property-strict, property-selects}
 use Rattle.graph.specs.Limits.{maxVertices}
 use Rattle.graph.specs.Edge.{Edge, reverse, keep}
 use Rattle.graph.specs.Table.{Columns, edgesOf}
-use Rattle.graph.specs.Route.{Route, here, Best}
+use Rattle.graph.specs.Route.{here, Best}
 use Rattle.graph.specs.Leads.{Leads, valueAlong, BestLeads, Preferred}
 use Rattle.graph.proofs.Order.{Sound, Within, within, accept-rules}
 use Rattle.graph.proofs.Keeps.{keep-sound}
@@ -36,11 +36,10 @@ Unbettered P ps qs = P .better (valueAlong P (P .start) qs) (valueAlong P (P .st
 shorter-unbettered : (p : ℕ) → (p ≡ 2) ⊎ (4 < p) → (ps qs : List Edge) → length ps ≤ length qs
     → Unbettered (property p) ps qs
 unfolding property
-shorter-unbettered p (inl z) ps qs h = subst (λ k. Unbettered (property k) ps qs) (sym z)
+shorter-unbettered p (inl z) ps qs h = rw z
     (le-ltb (valueAlong bfs 0 qs) (valueAlong bfs 0 ps) (omega (arith, count-along 0 ps (omega arith), count-along 0 qs (omega arith))))
-shorter-unbettered p (inr l) ps qs h = subst (λ P. Unbettered P ps qs)
-    (sym (property-rest p ((((tt, λ z. omega arith), λ z. omega arith), λ z. omega arith), λ z. omega arith)))
-    (rw (reach-along 1 ps, reach-along 1 qs) refl)
+shorter-unbettered p (inr l) ps qs h =
+    rw (property-rest p ((((tt, λ z. omega arith), λ z. omega arith), λ z. omega arith), λ z. omega arith), reach-along 1 ps, reach-along 1 qs)
 
 -- so one with the fewest edges is best, whichever edges the best routes keep to
 pub fewest-preferred : (p : ℕ) → (p ≡ 2) ⊎ (4 < p) → {es : List Edge} {s t : ℕ} {ps : List Edge} → Least es s t ps → Preferred (property p) es s t ps
@@ -60,7 +59,7 @@ pub record Asked (n : ℕ) (es : List Edge) (p s t : ℕ) : Type 0 where
   pub source : s < n
   pub target : t < n
 
-module _ (n : ℕ) (es : List Edge) (p s t : ℕ) (g : Asked n es p s t) where
+module _ {n : ℕ} {es : List Edge} {p s t : ℕ} (g : Asked n es p s t) where
   abbrev P : Property
   P = property p
 
@@ -104,10 +103,7 @@ module _ (n : ℕ) (es : List Edge) (p s t : ℕ) (g : Asked n es p s t) where
   -- ---- whether there is a route
 
   pub eligible-leads : v ≢ P .none → (qs : List Edge) × Leads ks s qs t
-  eligible-leads d = ⊎-elim found (λ c. absurd (d (c .1))) ((bests t) .attained)
-    where
-      found : Route P es s t v → (qs : List Edge) × Leads ks s qs t
-      found r = let (qs, l, z) = route-leads r in (qs, eligible-best d .0 (leads-best .1 (l, rw z (bests t))))
+  eligible-leads d = ⊎-elim (λ r. let (qs, l, z) = route-leads r in (qs, eligible-best d .0 (leads-best .1 (l, rw z (bests t))))) (λ c. absurd (d (c .1))) ((bests t) .attained)
 
   pub unrouted : (v ≡ P .none) ↔ ((ps : List Edge) → Leads es s ps t → ⊥)
   unrouted =
@@ -135,6 +131,6 @@ module _ (n : ℕ) (cs : Columns) (m : ℕ) (q : Request) (g : Asked n (edgesOf 
   pub preferred-holds : bestWord n cs m q ≢ property (q .property) .none
       → Preferred (property (q .property)) (edgesOf cs m) (q .source) (q .target) (preferred n cs m q) × (length (preferred n cs m q) < n)
   preferred-holds d =
-      let h = few-hops ((eligible-leads n (edgesOf cs m) (q .property) (q .source) (q .target) g d) .1) in
+      let h = few-hops ((eligible-leads g d) .1) in
       let (z, y) = followed-least n (candidates n cs m q) kept (q .target) (hops n cs m q) (λ u. reversed-best bfs-joins (hops-back u)) (q .source) (omega (arith, g .few)) in
-      (least-preferred n (edgesOf cs m) (q .property) (q .source) (q .target) g d z, omega arith)
+      (least-preferred g d z, omega arith)

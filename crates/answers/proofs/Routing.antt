@@ -1,5 +1,5 @@
 -- The route that is written is the preferred one, and 15 comes exactly where there is none: the claim, proved. Assumes nothing.
-use Rattle.property.proofs.Basics.{_≡_, sym, ap, _∙_, subst, _≢_, _↔_, Bool, true, not, _&&_, List, [], _∷_, ℕ, suc, _≤_, _<_, arith, length, ltb, leb, eqb-true, eq-eqb, ne-eqb, ltb-true, leb-true, not-false}
+use Rattle.property.proofs.Basics.{_≡_, sym, ap, _∙_, _≢_, _↔_, Bool, true, not, _&&_, List, [], _∷_, ℕ, suc, _≤_, _<_, arith, length, ltb, leb, eqb-true, eq-eqb, ne-eqb, ltb-true, leb-true, not-false}
 use Rattle.property.specs.Property.{Property, property, properties, isProperty}
 use Rattle.property.proofs.Tests.{is-true}
 use Rattle.property.proofs.Instances.{property-laws}
@@ -97,7 +97,7 @@ module _ (n : ℕ) (cs : Columns) (m : ℕ) (q : Request) where
     served : faults ≡ accept → (ps : List Edge) → Leads es (q .source) ps (q .target) → (k : ℕ) × ((routeCall n cs m q out) .reply ≡ accepted k)
     unfolding routeCall
     served h ps l =
-        let d : bestWord n cs m q ≢ P .none = λ z. unrouted n es (q .property) (q .source) (q .target) (faults-asked _ _ h) .0 z ps l in (
+        let d : bestWord n cs m q ≢ P .none = λ z. unrouted (faults-asked _ _ h) .0 z ps l in (
           suc (length (preferred n cs m q)),
           ap (λ o. o .reply) (outcome-accepted (faults ▷ none) _ (withRoute n cs m q out) out (accept-then h ∙ accept-if 15 0 (ne-eqb _ _ d))),
         )
@@ -108,7 +108,7 @@ module _ (n : ℕ) (cs : Columns) (m : ℕ) (q : Request) where
     barred : faults ≡ accept → ((routeCall n cs m q out) .reply ≡ refused 15 0) ↔ ((ps : List Edge) → Leads es (q .source) ps (q .target) → ⊥)
     unfolding routeCall replied
     barred h =
-        let u = unrouted n es (q .property) (q .source) (q .target) (faults-asked _ _ h) in (
+        let u = unrouted (faults-asked _ _ h) in (
           λ e. u .0 (eqb-true _ _ (if-refused _ 15 0 (sym (accept-then h) ∙ reply-refused (faults ▷ none) (suc (length (preferred n cs m q))) e))),
           λ d. ap (λ v. replied v (suc (length (preferred n cs m q)))) (accept-then h ∙ refuses (u .1 d)),
         )
@@ -144,10 +144,10 @@ module _ (n : ℕ) (cs : Columns) (m : ℕ) (q : Request) (out : Answer) (h : ot
 
   -- the route without an edge
   ends : Leads (es n cs m q) (q .source) [] (q .target)
-  ends = subst (λ t. Leads (es n cs m q) (q .source) [] t) z stop
+  ends = rw (← z) stop
 
   routed : bestWord n cs m q ≢ P n cs m q .none
-  routed y = unrouted n (es n cs m q) (q .property) (q .source) (q .target) able .0 y [] ends
+  routed y = unrouted able .0 y [] ends
 
   -- no route's value is better than the source's
   at-once : BestLeads (P n cs m q) (es n cs m q) (q .source) (q .target) []

@@ -1,8 +1,8 @@
 -- The claims of specs/Drift.antt. Assumes nothing.
-use Rattle.property.proofs.Basics.{_≡_, refl, sym, ap, subst, _∙_, Bool, true, false, not, _&&_, _||_, cond, false≢true, List, [], _∷_, _++_, foldl, ℕ, suc, _%_, ℕ-discrete, length, eqb, eqb-true, eq-eqb, ne-eqb, not-false}
+use Rattle.property.proofs.Basics.{_≡_, refl, sym, ap, subst, _∙_, Bool, true, false, not, _&&_, _||_, cond, false≢true, List, [], _∷_, _++_, ℕ, suc, _%_, ℕ-discrete, length, eqb, eqb-true, eq-eqb, ne-eqb, not-false}
+use mathlib.Core.List.{foldl-append}
 use Rattle.property.specs.Property.{property, properties}
 use Rattle.property.specs.Drift.{Near, slack}
-use Rattle.property.proofs.Tests.{by-test}
 use Rattle.property.proofs.Instances.{property-laws}
 use Rattle.property.proofs.Drift.{property-steady, property-even, slack-adds}
 use Rattle.graph.specs.Refusal.{accept, refuseIf}
@@ -12,7 +12,7 @@ use Rattle.graph.specs.Sorted as order
 use Rattle.graph.specs.Route.{Best}
 use Rattle.graph.specs.Moved.{Moved}
 use Rattle.graph.proofs.Verdicts.{then-accept, if-accept, choose-accept}
-use Rattle.graph.proofs.Order.{Within, rules-accept, within}
+use Rattle.graph.proofs.Order.{rules-accept, within}
 use Rattle.theory.specs.Best.{Weighed}
 use Rattle.theory.proofs.Drift.{pair-back, moved-retuned, answered-route, moved-near, moves-near, retuned-near, moved-cons, moved-head, zone-moves, zone-retuned}
 use Rattle.affected.specs.Net.{counterpart}
@@ -21,9 +21,9 @@ use Rattle.network.specs.Change.{Change, named, inserts, updates, edit, 
 use Rattle.network.specs.Batch.{longBatch}
 use Rattle.network.specs.Current.{turnedBack, after}
 use Rattle.network.specs.History.{moment, edgesNow}
-use Rattle.network.specs.Drift.{DriftLimit, RoutesStay, NearRows, NearAnswers, RetuneLimit, zoneSlack, ZoneLimit}
-use Rattle.network.proofs.Moment.{good-within, moment-good}
-use Rattle.network.proofs.Never.{open-judged}
+use Rattle.network.specs.Drift.{DriftLimit, RoutesStay, NearRows, NearAnswers, RetuneLimit, ZoneLimit}
+use Rattle.network.proofs.Moment.{good-within}
+use Rattle.network.proofs.Never.{begun}
 use Rattle.network.proofs.History.{best-over-routes}
 
 -- ---- one weight
@@ -42,21 +42,18 @@ routes-stay P d es fs m s t = let z = moved-retuned m in (λ (u, r). answered-ro
 -- time by its moves one after the other, any other property by all moves at once
 pub zone-limit : ZoneLimit
 unfolding slack
-zone-limit p k d n es fs h j z s t v w a b = pick (ℕ-discrete p 1)
-  where
-    summed : Near (slack p k) v w
-    summed = moves-near (property-laws p) (slack p) (property-steady p) (slack-adds p) (rules-weighed n es h) (zone-moves (rules-weighed n fs j) z) a b
-
-    pick : Dec (p ≡ 1) → Near (zoneSlack p k d) v w
-    pick (yes q) = rw (eq-eqb p 1 q) (subst (λ l. Near l v w) (ap (λ x. slack x k) q) summed)
-    pick (no q) = rw (ne-eqb p 1 q) (retuned-near (property-even p d q) (zone-retuned z) a b)
+zone-limit p k d n es fs h j z s t v w a b = elim (ℕ-discrete p 1) [
+  | yes q ↦ rw (eq-eqb p 1 q) (subst (λ l. Near l v w) (ap (λ x. slack x k) q)
+      (moves-near (property-laws p) (slack p) (property-steady p) (slack-adds p) (rules-weighed n es h) (zone-moves (rules-weighed n fs j) z) a b))
+  | no q ↦ rw (ne-eqb p 1 q) (retuned-near (property-even p d q) (zone-retuned z) a b)
+]
 
 -- ---- standing words and answers
 
 -- the network at a moment keeps the rules
 weighed : (n : ℕ) (ls : List ℕ) (w : Network) → faults n ls w ≡ accept → (bs : List (List Change)) → Weighed (edgesNow n w bs)
 weighed n ls w g bs =
-    let z = moment-good n ls w (open-judged n ls w ∙ g) bs in subst Weighed (z .1) ((good-within n ls (moment n ls w bs) (z .0)) .weights)
+    let z = begun n ls w g bs in subst Weighed (z .1) ((good-within n ls (moment n ls w bs) (z .0)) .weights)
 
 -- The rows at a moment hold best values of the network as it is then, and so do the answers. So the limit for best values is one for words.
 words-near : (d n : ℕ) (ls : List ℕ) (w : Network) → faults n ls w ≡ accept → (bs cs : List (List Change)) → Moved d (edgesNow n w bs) (edgesNow n w cs)
@@ -102,13 +99,9 @@ update-after : (n : ℕ) (es : List Edge) (c : Change) → updates c ≡ true �
 unfolding after edit
 update-after n es c h a = choose-accept (edit es c) es a ∙ rw (update-kind c h, h)
 
-fold-last : {A B : Type 0} (f : A → B → A) (a : A) (bs : List B) (b : B) → foldl f a (bs ++ b ∷ []) ≡ f (foldl f a bs) b
-fold-last f a [] b = refl
-fold-last f a (x ∷ bs) b = fold-last f (f a x) bs b
-
 -- The network after the update is the one before it with one weight moved.
 pub retune-limit : RetuneLimit
 retune-limit d n ls w g bs c h a near =
     words-near d n ls w g bs (bs ++ (c ∷ []) ∷ [])
-    (subst (Moved d (edgesNow n w bs)) (sym (fold-last (after n) _ bs (c ∷ []) ∙ update-after n (edgesNow n w bs) c h a))
+    (subst (Moved d (edgesNow n w bs)) (sym (foldl-append (after n) _ bs ((c ∷ []) ∷ []) ∙ update-after n (edgesNow n w bs) c h a))
     (update-moved d (named c) (edgesNow n w bs) (update-present n (edgesNow n w bs) c h a) near))

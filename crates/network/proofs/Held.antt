@@ -1,16 +1,16 @@
 -- A network of an edge table and landmarks: its opening is accepted, and so is every good query on it, with best values. Assumes nothing.
-use Rattle.property.proofs.Basics.{_≡_, refl, _∙_, List, [], ℕ, _*_, _<_, _≤_, arith, length, replicate, length-replicate, le-ltb}
+use Rattle.property.proofs.Basics.{_≡_, refl, _∙_, List, [], ℕ, _*_, _<_, _≤_, arith, false, length, replicate, length-replicate, ltb, le-ltb}
 use Rattle.property.specs.Property.{property}
 use Rattle.graph.specs.Limits.{maxEdges}
 use Rattle.graph.specs.Refusal.{accept, Reply, accepted, refused, verdictOf}
 use Rattle.graph.specs.Edge.{Edge}
-use Rattle.graph.specs.Table.{rules, size, shortTable, table}
+use Rattle.graph.specs.Table.{rules, size}
 use Rattle.graph.specs.Route.{Best}
 use Rattle.graph.proofs.Tests.{or-false}
 use Rattle.graph.proofs.Records.{edges-back}
 use Rattle.graph.proofs.Verdicts.{not-accept, accept-then, accept-if}
 use Rattle.run.specs.Run.{word}
-use Rattle.network.specs.Network.{Network, edgesIn, rowCount, shortRows, landmarks, faults}
+use Rattle.network.specs.Network.{Network, edgesIn, rowCount, landmarks, faults}
 use Rattle.network.specs.Open.{openCall}
 use Rattle.network.specs.Query.{Query, Words, queryCall}
 use Rattle.network.specs.Batch.{column}
@@ -28,22 +28,14 @@ module _ (es : List Edge) (ls : List ℕ) (n : ℕ) where
 
   -- the lists are as long as they must be, and the records read from them are the edges, which keep the table's rules
   pub holding-faults : size n ≡ accept → length es ≤ maxEdges → rules n es ≡ accept → landmarks n ls ≡ accept → faults n ls (holding es ls n) ≡ accept
-  holding-faults s l r c = accept-then s ∙ accept-then roomy ∙ accept-then long ∙ accept-then c ∙ kept
+  holding-faults s l r c = accept-then s ∙ accept-then (accept-if 2 0 (or-false (wide (λ e. e .tail)) (or-false (wide (λ e. e .head)) (wide (λ e. e .weight)))))
+      ∙ accept-then (accept-if 2 0 (or-false row-list row-list)) ∙ accept-then c ∙ accept-then (accept-if 4 0 (le-ltb maxEdges (length es) l)) ∙ rw holding-edges r
     where
-      wide : (f : Edge → ℕ) → maxEdges ≤ length (column f es)
-      wide f = omega (arith, length-column es l f)
+      wide : (f : Edge → ℕ) → ltb (length (column f es)) maxEdges ≡ false
+      wide f = le-ltb (length (column f es)) maxEdges (omega (arith, length-column es l f))
 
-      roomy : shortTable (holding es ls n .memory .table) ≡ accept
-      roomy = accept-if 2 0 (or-false (le-ltb _ maxEdges (wide (λ e. e .tail))) (or-false (le-ltb _ maxEdges (wide (λ e. e .head))) (le-ltb _ maxEdges (wide (λ e. e .weight)))))
-
-      row-list : rowCount ls * n ≤ length (replicate {A = ℕ} (rowCount ls * n) 0)
-      row-list = omega (arith, length-replicate {A = ℕ} (rowCount ls * n) 0)
-
-      long : shortRows n ls (holding es ls n .memory .rows) ≡ accept
-      long = accept-if 2 0 (or-false (le-ltb _ (rowCount ls * n) row-list) (le-ltb _ (rowCount ls * n) row-list))
-
-      kept : table n (holding es ls n .memory .table) (length es) ≡ accept
-      kept = accept-then (accept-if 4 0 (le-ltb maxEdges (length es) l)) ∙ rw holding-edges r
+      row-list : ltb (length (replicate {A = ℕ} (rowCount ls * n) 0)) (rowCount ls * n) ≡ false
+      row-list = rw (length-replicate {A = ℕ} (rowCount ls * n) 0) (le-ltb (rowCount ls * n) (rowCount ls * n) (omega arith))
 
 -- ---- its opening, and queries on it
 

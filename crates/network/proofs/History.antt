@@ -1,13 +1,13 @@
 -- The claim over histories, proved. Assumes nothing.
-use Rattle.property.proofs.Basics.{refl, sym, subst, _∙_, List, [], append-nil, ℕ, suc, _%_}
+use Rattle.property.proofs.Basics.{refl, sym, List, [], append-nil, ℕ, suc, _%_}
 use Rattle.property.specs.Property.{properties}
 use Rattle.property.proofs.Instances.{property-joins}
 use Rattle.theory.proofs.Reverse.{reversed-best}
 use Rattle.network.specs.Network.{Network, edgesIn}
-use Rattle.network.specs.History.{Holds, BatchHolds, moment, History, BestOverRoutes}
-use Rattle.network.proofs.Moment.{Good, good-count, steps, moment-good}
+use Rattle.network.specs.History.{Holds, moment, History, BestOverRoutes}
+use Rattle.network.proofs.Moment.{Good, good-count, steps}
 use Rattle.network.proofs.Query.{query-good}
-use Rattle.network.proofs.Never.{open-judged, query-judged}
+use Rattle.network.proofs.Never.{open-judged, query-judged, begun}
 
 -- backward rows hold best values of the reversed edges, which are best values the other way round
 pub good-holds : (n : ℕ) (ls : List ℕ) (w : Network) → Good n ls w → Holds n ls (edgesIn w) w
@@ -30,10 +30,8 @@ pub history : History
 history n ls w = record {
   judged = open-judged n ls w;
   later = λ h bs. record {
-    holds = λ past rest e. let z = moment-good n ls w (open-judged n ls w ∙ h) past in
-        subst (λ es. Holds n ls es (moment n ls w past)) (z .1) (good-holds n ls (moment n ls w past) (z .0));
-    applied = λ past rest b e. let z = moment-good n ls w (open-judged n ls w ∙ h) past in
-        subst (λ es. BatchHolds n ls es (moment n ls w past) b) (z .1) ((steps n ls (moment n ls w past) b (z .0)) .applied);
+    holds = λ past rest e. let z = begun n ls w h past in rw (z .1) at (good-holds n ls (moment n ls w past) (z .0));
+    applied = λ past rest b e. let z = begun n ls w h past in rw (z .1) at ((steps n ls (moment n ls w past) b (z .0)) .applied);
   };
 }
 

@@ -1,10 +1,11 @@
 -- The table through a batch: accepted changes keep its rules and the limit of 2,048 edges, and what a batch writes into its lists is read
 -- back as the new edges. Assumes nothing.
-use Rattle.property.proofs.Basics.{_≡_, refl, ap, _∙_, Bool, true, false, not, _&&_, _||_, cond, List, [], _∷_, map, append-assoc, ℕ, suc, _-_, _≤_, _<_, arith, length, drop, replicate, length-append, length-drop, length-map, length-replicate, ltb, eqb, ltb-true, le-ltb, eqb-true, not-false}
+use Rattle.property.proofs.Basics.{_≡_, refl, ap, _∙_, true, false, not, _&&_, _||_, cond, List, [], _∷_, map, append-assoc, ℕ, suc, _-_, _≤_, _<_, arith, length, drop, replicate, length-append, length-drop, length-map, length-replicate, ltb, eqb, ltb-true, le-ltb, eqb-true, not-false}
+use Rattle.property.proofs.Tests.{by-test}
 use Rattle.graph.specs.Limits.{maxEdges}
 use Rattle.graph.specs.Refusal.{accept, refuseIf, over}
 use Rattle.graph.specs.Edge.{Edge, present}
-use Rattle.graph.specs.Table.{Columns, edgesOf, isWeight, isEdge, tableOrder, shortTable, table, insert, delete, update}
+use Rattle.graph.specs.Table.{Columns, edgesOf, isWeight, isEdge, tableOrder, shortTable, table}
 use Rattle.graph.proofs.Tests.{both, and-true}
 use Rattle.graph.proofs.Records.{room-less, edges-length, edges-back}
 use Rattle.graph.proofs.Judging.{lengths-accept, table-accept}
@@ -29,29 +30,22 @@ item-good n i es c h s l =
     let b = then-accept (refuseIf (not (inserts c || (deletes c || updates c))) 7 i) _ (a .1) in
     let d = then-accept (refuseIf (eqb (c .tail) (c .head)) 8 i) (refuseIf (not (cond (deletes c) (eqb (c .weight) 0) (isWeight (c .weight)))) 9 i) (b .1) in
     let f = then-accept (refuseIf (inserts c && present es (named c)) 10 i) _ (o .1) in
-    let g = then-accept (refuseIf (not (inserts c) && not (present es (named c))) 11 i) (refuseIf (inserts c && full) 12 i) (f .1) in
+    let g = then-accept (refuseIf (not (inserts c) && not (present es (named c))) 11 i) (refuseIf (inserts c && not (ltb (length es) maxEdges)) 12 i) (f .1) in
     let z = both (ltb (c .tail) n) (ltb (c .head) n) (not-false _ (if-accept _ _ _ (a .0))) in
-    pick (inserts c) refl (updates c) refl z (if-accept _ _ _ (d .0)) (not-false _ (if-accept _ _ _ (d .1))) (if-accept _ _ _ (f .0)) (if-accept _ _ _ (g .1))
+    let x = not-false _ (if-accept _ _ _ (d .1)) in
+    let fits : isWeight (c .weight) ≡ true → isEdge n (named c) ≡ true = λ v. and-true (z .0) (and-true (z .1) (and-true (ap not (if-accept _ _ _ (d .0))) v)) in
+    by-test (inserts c)
+    (λ p. let q : length es < maxEdges = ltb-true _ _ (not-false _ (rw p at (if-accept _ _ _ (g .1)))) in
+    let r = length-insert tableOrder (named c) es in
+    rw p (insert-sorted table-ordered (isEdge n) (named c) es s (fits (weighed 1 (eqb-true _ _ p) refl x)) (rw p at (if-accept _ _ _ (f .0))), omega arith))
+    (λ p. by-test (updates c)
+    (λ q. let r = length-update tableOrder (named c) es in
+    rw (p, q) (update-sorted table-ordered (isEdge n) (named c) es s (fits (weighed 3 (eqb-true _ _ q) refl x)), omega arith))
+    (λ q. let r = length-delete tableOrder (named c) es in rw (p, q) (delete-sorted table-ordered (isEdge n) (named c) es s, omega arith)))
   where
-    full : Bool
-    full = not (ltb (length es) maxEdges)
-
     -- a change that is not a delete has a weight
     weighed : (k : ℕ) → c .kind ≡ k → eqb k 2 ≡ false → cond (deletes c) (eqb (c .weight) 0) (isWeight (c .weight)) ≡ true → isWeight (c .weight) ≡ true
     weighed k p q x = rw (p, q) at x
-
-    pick : (k : Bool) → inserts c ≡ k → (u : Bool) → updates c ≡ u → (ltb (c .tail) n ≡ true) × (ltb (c .head) n ≡ true) → eqb (c .tail) (c .head) ≡ false
-        → cond (deletes c) (eqb (c .weight) 0) (isWeight (c .weight)) ≡ true → (k && present es (named c)) ≡ false → (k && full) ≡ false
-        → Sound n (cond k (insert (named c) es) (cond u (update (named c) es) (delete (named c) es)))
-        × (length (cond k (insert (named c) es) (cond u (update (named c) es) (delete (named c) es))) ≤ maxEdges)
-    pick true i u j v w x y z =
-        let q : length es < maxEdges = ltb-true _ _ (not-false _ z) in
-        let r = length-insert tableOrder (named c) es in
-        (insert-sorted table-ordered (isEdge n) (named c) es s (and-true (v .0) (and-true (v .1) (and-true (ap not w) (weighed 1 (eqb-true _ _ i) refl x)))) y, omega arith)
-    pick false i true j v w x y z =
-        let r = length-update tableOrder (named c) es in
-        (update-sorted table-ordered (isEdge n) (named c) es s (and-true (v .0) (and-true (v .1) (and-true (ap not w) (weighed 3 (eqb-true _ _ j) refl x)))), omega arith)
-    pick false i false j v w x y z = let r = length-delete tableOrder (named c) es in (delete-sorted table-ordered (isEdge n) (named c) es s, omega arith)
 
 -- item after item
 pub items-good : (n i : ℕ) (es : List Edge) (cs : List Change) → items n i es cs ≡ accept → Sound n es → length es ≤ maxEdges

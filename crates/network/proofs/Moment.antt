@@ -2,18 +2,18 @@
 --
 --   Good n ls w      == the invariant: no call refuses w for its size, lists, landmarks or table, and its rows hold best words
 --   Step n ls w b    == what the batch b does to w: the invariant stays, the edges are those after b, and what demand 3 says of it
-use Rattle.property.proofs.Basics.{_≡_, refl, sym, ap, _∙_, subst, _||_, false, List, [], _∷_, map, ℕ, suc, _%_, _≤_, arith, length}
+use Rattle.property.proofs.Basics.{_≡_, refl, sym, ap, _∙_, _||_, false, List, [], _∷_, map, ℕ, suc, _%_, _≤_, arith, length}
 use Rattle.property.specs.Property.{properties}
 use Rattle.property.proofs.Instances.{property-laws}
 use Rattle.graph.specs.Limits.{maxEdges}
-use Rattle.graph.specs.Refusal.{Verdict, accept, refuse, accepted, refused, _▷_, refuseIf, replied, verdictOf, choose, Outcome, outcome, over}
+use Rattle.graph.specs.Refusal.{Verdict, accept, refuse, accepted, refused, _▷_, refuseIf, replied, verdictOf, choose, Outcome, outcome}
 use Rattle.graph.specs.Edge.{Edge, reverse}
 use Rattle.graph.specs.Table.{size, shortTable, table}
 use Rattle.graph.proofs.Tests.{or-false}
 use Rattle.graph.proofs.Verdicts.{then-accept, accept-then, refuse-then, accept-if, then-same, then-assoc, not-accept, verdict-replied, reply-accepted, choose-accept}
 use Rattle.graph.proofs.Order.{Sound, Within, within}
 use Rattle.theory.proofs.Reverse.{within-reverse}
-use Rattle.network.specs.Network.{Memory, Network, edgesIn, shortRows, landmarks, faults, rowsOf, flat, unsettled, storesOf}
+use Rattle.network.specs.Network.{Memory, Network, edgesIn, shortRows, landmarks, faults, rowsOf, unsettled, storesOf}
 use Rattle.network.specs.Open.{openRow, openRows, openVerdict, openMemory, openCall}
 use Rattle.network.specs.Change.{Change, items}
 use Rattle.network.specs.Batch.{batchRow, affectedOf, Report, newEdges, newForward, newBackward, stillWaiting, longBatch, batchFaults, batchVerdict, batchMemory, report, batchCall}
@@ -54,6 +54,10 @@ faults-parts n ls w h =
     let d = then-accept (landmarks n ls) (table n (w .memory .table) (w .count)) (c .1) in
     (a .0, b .0, c .0, d .0, d .1)
 
+-- .. and back
+pub good-faults : (n : ℕ) (ls : List ℕ) (w : Network) → Good n ls w → faults n ls w ≡ accept
+good-faults n ls w g = accept-then (g .sized) ∙ accept-then (g .roomy) ∙ accept-then (g .long) ∙ accept-then (g .chosen) ∙ g .sound
+
 module _ (n : ℕ) (ls : List ℕ) (w : Network) where
   abbrev begun : Memory → Network
   begun m = record { memory = m; count = w .count }
@@ -80,7 +84,7 @@ module _ (n : ℕ) (ls : List ℕ) (w : Network) where
   opens h =
       let v : openVerdict n ls w ≡ accept = sym (verdict-replied (openVerdict n ls w) tt) ∙ h in
       let e = choose-accept (openMemory n ls w) (w .memory) v in
-      (subst (λ m. Good n ls (begun m)) (sym e) (open-good v), ap (λ m. edgesIn (begun m)) e)
+      (rw e (open-good v), ap (λ m. edgesIn (begun m)) e)
 
 -- ---- a batch
 
@@ -107,22 +111,11 @@ module _ (n : ℕ) (ls : List ℕ) (w : Network) (b : List Change) (g : Good n l
   abbrev out : Verdict → Outcome Report Memory
   out v = outcome v (report n ls w fs) (batchMemory n ls w fs) (w .memory)
 
-  called : (v : Verdict) → batchVerdict n ls w b ≡ v → batchCall n ls w b ≡ out v
-  unfolding batchCall
-  called v e = ap out e
-
-  afterwards : (v : Verdict) → turnedBack n es b ≡ v → after n es b ≡ choose v fs es
-  unfolding after
-  afterwards v e = ap (λ x. choose x fs es) e
-
   -- of the call's refusals those are left that document 01 has for a batch, and 13
   judged : batchVerdict n ls w b ≡ (turnedBack n es b ▷ stillWaiting n ls w fs)
   unfolding turnedBack batchFaults
-  judged = then-assoc (longBatch (length b)) _ _ ∙ then-same (longBatch (length b)) (λ _. accept-then whole)
+  judged = then-assoc (longBatch (length b)) _ _ ∙ then-same (longBatch (length b)) (λ _. accept-then (good-faults n ls w g))
       ∙ sym (then-assoc (longBatch (length b)) (items n 0 es b) _)
-    where
-      whole : faults n ls w ≡ accept
-      whole = accept-then (g .sized) ∙ accept-then (g .roomy) ∙ accept-then (g .long) ∙ accept-then (g .chosen) ∙ g .sound
 
   refused-kept : (v : Verdict) (k i : ℕ) → (out v) .reply ≡ refused k i → handOn w (out v) ≡ w
   unfolding replied choose reported
@@ -136,20 +129,17 @@ module _ (n : ℕ) (ls : List ℕ) (w : Network) (b : List Change) (g : Good n l
       → Unworse n ls (map reverse es) (map reverse (choose v fs es)) back ((out v) .memory .rows .backward)
       → ((r : Report) → (out v) .reply ≡ accepted r → Reported n ls es (choose v fs es) w r)
       → Step n ls w b
+  unfolding batchCall after
   stepped v e c good moved forward backward reports =
-      let d = called v c in
-      let f = afterwards v e in
       record {
-        kept = subst (λ o. Good n ls (handOn w o)) (sym d) good;
-        moved = ap (λ o. edgesIn (handOn w o)) d ∙ moved ∙ sym f;
+        kept = rw c good;
+        moved = rw (c, e) moved;
         applied = record {
-          judged = ap (λ o. verdictOf (o .reply)) d ∙ verdict-replied v (report n ls w fs) ∙ sym e;
-          kept = λ k i r. ap (handOn w) d ∙ refused-kept v k i (ap (λ o. o .reply) (sym d) ∙ r);
-          forward = subst (λ o. Unworse n ls es (after n es b) ahead (o .memory .rows .forward)) (sym d)
-              (subst (λ x. Unworse n ls es x ahead ((out v) .memory .rows .forward)) (sym f) forward);
-          backward = subst (λ o. Unworse n ls (map reverse es) (map reverse (after n es b)) back (o .memory .rows .backward)) (sym d)
-              (subst (λ x. Unworse n ls (map reverse es) (map reverse x) back ((out v) .memory .rows .backward)) (sym f) backward);
-          reported = λ r q. subst (λ x. Reported n ls es x w r) (sym f) (reports r (ap (λ o. o .reply) (sym d) ∙ q));
+          judged = rw (c, e) (verdict-replied v (report n ls w fs));
+          kept = λ k i r. rw c (refused-kept v k i (rw c at r));
+          forward = rw (c, e) forward;
+          backward = rw (c, e) backward;
+          reported = λ r q. rw e (reports r (rw c at q));
         };
       }
 
@@ -204,11 +194,9 @@ module _ (n : ℕ) (ls : List ℕ) (w : Network) (b : List Change) (g : Good n l
       long = rows-long n ls (batchRow n ls es fs ahead) (batchRow n ls (map reverse es) (map reverse fs) back) (batch-sized n ls es fs ahead)
           (batch-sized n ls (map reverse es) (map reverse fs) back) (w .memory .rows) (g .long);
       chosen = g .chosen;
-      sound = accept-table n (next .memory .table) (length fs) (new-good .1) (subst (Sound n) (sym read) (new-good .0));
-      forward = subst (λ x. RowsBest n ls x (over (flat (newForward n ls w fs)) ahead)) (sym read)
-          (batch-best n ls (g .chosen) es fs old-in new-in ahead (g .forward));
-      backward = subst (λ x. RowsBest n ls (map reverse x) (over (flat (newBackward n ls w fs)) back)) (sym read)
-          (batch-best n ls (g .chosen) (map reverse es) (map reverse fs) old-back new-back back (g .backward));
+      sound = accept-table n (next .memory .table) (length fs) (new-good .1) (rw read (new-good .0));
+      forward = rw read (batch-best n ls (g .chosen) es fs old-in new-in ahead (g .forward));
+      backward = rw read (batch-best n ls (g .chosen) (map reverse es) (map reverse fs) old-back new-back back (g .backward));
     }
 
     reports : Reported n ls es fs w (report n ls w fs)
@@ -231,18 +219,18 @@ module _ (n : ℕ) (ls : List ℕ) (w : Network) (b : List Change) (g : Good n l
     accepted-step = stepped accept e (judged ∙ accept-then e ∙ accept-if 13 0 (or-false rests-ahead rests-back)) next-good read
         (batch-unworse n ls (g .chosen) es fs old-in new-in ahead (g .forward))
         (batch-unworse n ls (g .chosen) (map reverse es) (map reverse fs) old-back new-back back (g .backward))
-        (λ r q. subst (Reported n ls es fs w) ((reply-accepted accept (report n ls w fs) r q) .1) reports)
+        (λ r q. rw ((reply-accepted accept (report n ls w fs) r q) .1) at reports)
+
+  under : (v : Verdict) → turnedBack n es b ≡ v → Step n ls w b
+  under accept e = accepted-step e
+  under (refuse k i) e = refused-step k i e
 
   -- A batch keeps the invariant. As it holds before, the call refuses for nothing but what document 01 has for a batch on these edges, or
   -- for 13. Refused, all stays as it was. Accepted, the new edges keep the table's rules, and they are read back from the lists that were
   -- written. In no row anything waits after n rounds, so 13 does not come. From best words of the old edges come best words of the new,
   -- and none is worse that is not affected.
   pub steps : Step n ls w b
-  steps = pick (turnedBack n es b) refl
-    where
-      pick : (v : Verdict) → turnedBack n es b ≡ v → Step n ls w b
-      pick accept e = accepted-step e
-      pick (refuse k i) e = refused-step k i e
+  steps = under (turnedBack n es b) refl
 
 -- ---- a list of batches
 

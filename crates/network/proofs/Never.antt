@@ -4,11 +4,10 @@
 --   openNumber k          == k is 1 to 4
 --   batchNumber k         == k is 1, or 6 to 12
 --   queryNumber k         == k is 1, 2, 5 or 6
-use Rattle.property.proofs.Basics.{_≡_, refl, sym, _∙_, Bool, true, false, _&&_, _||_, true≢false, subst, List, [], _∷_, map, List·Memᴰ, ℕ, zero, suc, _*_, _≤_, length, getD, take, drop, getD-drop, leb, eqb}
+use Rattle.property.proofs.Basics.{_≡_, refl, sym, _∙_, Bool, true, false, _&&_, _||_, true≢false, List, [], _∷_, map, ℕ, zero, suc, _*_, _≤_, length, getD, take, drop, getD-drop, leb, eqb}
 use mathlib.Core.List.{Memᴰ·of-map}
 use Rattle.property.specs.Property.{M, property}
 use Rattle.property.proofs.Instances.{property-laws}
-use Rattle.frontier.specs.Waiting.{anyOf}
 use Rattle.graph.specs.Refusal.{Verdict, accept, refuse, _▷_, refuseIf, Reply, verdictOf}
 use Rattle.graph.specs.Edge.{Edge, reverse, range}
 use Rattle.graph.specs.Table.{follow, rules}
@@ -17,16 +16,14 @@ use Rattle.graph.proofs.Tests.{or-false}
 use Rattle.graph.proofs.Verdicts.{accept-then, accept-if, then-same, then-last, verdict-replied}
 use Rattle.graph.proofs.Order.{within}
 use Rattle.run.specs.Run.{word}
-use Rattle.run.specs.Start.{Landmark}
-use Rattle.theory.proofs.Fits.{Told}
 use Rattle.theory.proofs.Reverse.{within-reverse}
 use Rattle.network.specs.Network.{Network, edgesIn, faults, row}
 use Rattle.network.specs.Open.{openVerdict, openCall}
-use Rattle.network.specs.Query.{Query, Words, known, scheduled, longSchedule, shortWords, atEnd, queryFaults, queryVerdict, queryCall}
+use Rattle.network.specs.Query.{Query, Words, scheduled, longSchedule, shortWords, queryFaults, queryVerdict, queryCall}
 use Rattle.network.specs.Change.{Change, edit, words, against, item, items}
 use Rattle.network.specs.Batch.{batchCall}
 use Rattle.network.specs.Current.{turnedBack, queryBack}
-use Rattle.network.specs.History.{moment}
+use Rattle.network.specs.History.{moment, edgesNow}
 use Rattle.network.specs.Never.{Never, OpenNever, BatchNever, QueryNever}
 use Rattle.network.proofs.Items.{table-sound}
 use Rattle.network.proofs.Rows.{open-rests}
@@ -72,12 +69,9 @@ pub query-verdict : (n : ℕ) (ls : List ℕ) (w : Network) (q : Query) (out : W
     → queryVerdict n ls w q out ≡ queryFaults n ls w q (length (out .starts)) (length (out .settled))
 query-verdict n ls w q out f b = then-last _ (λ h.
     let i = within n (edgesIn w) ((table-sound n (w .memory .table) (w .count) (query-parts n ls w q _ _ h .6)) .1) in
-    accept-if 13 0 (query-ends n ls w q i told))
-  where
-    told : (l : Landmark) → List·Memᴰ l (known n ls w q) → Told (property (q .property)) l
-    told l m =
-        let (i, k, e) = Memᴰ·of-map _ (range 0 (length ls)) m in
-        subst (Told (property (q .property))) e (record { into = row-fits (q .property) n _ _ b (q .source); row = row-fits (q .property) n _ _ f })
+    accept-if 13 0 (query-ends n ls w q i (λ l m.
+    let (i, k, e) = Memᴰ·of-map _ (range 0 (length ls)) m in
+    rw (← e) (record { into = row-fits (q .property) n _ _ b (q .source); row = row-fits (q .property) n _ _ f }))))
 
 -- A query on a network that keeps the invariant is turned back by its own numbers alone. The network's size, lists, landmarks and table
 -- are as they must be. Where property and source are too, its start words are words, and so are those that the schedule leaves: nothing
@@ -86,15 +80,11 @@ pub query-judged : (n : ℕ) (ls : List ℕ) (w : Network) (q : Query) (out : Wo
     → verdictOf ((queryCall n ls w q out) .reply) ≡ queryBack n q out
 unfolding queryCall queryFaults
 query-judged n ls w q out g = verdict-replied (queryVerdict n ls w q out) _
-    ∙ then-last (queryFaults n ls w q (length (out .starts)) (length (out .settled))) last
+    ∙ then-last (queryFaults n ls w q (length (out .starts)) (length (out .settled)))
+    (λ h. let r = query-request n ls w q (length (out .starts)) (length (out .settled)) h in accept-if 13 0 (query-rests n ls w g q (r .0) (r .1) (r .2)))
     ∙ accept-then (g .sized)
     ∙ then-same (longSchedule (length (q .schedule))) (λ _. accept-then (g .roomy) ∙ accept-then (g .long)
     ∙ then-same (shortWords n (length (out .starts)) (length (out .settled))) (λ _. accept-then (g .chosen) ∙ accept-then (g .sound)))
-  where
-    last : queryFaults n ls w q (length (out .starts)) (length (out .settled)) ≡ accept → refuseIf (anyOf ((atEnd n ls w q) .waiting)) 13 0 ≡ accept
-    last h =
-        let r = query-request n ls w q (length (out .starts)) (length (out .settled)) h in
-        accept-if 13 0 (query-rests n ls w g q (r .0) (r .1) (r .2))
 
 -- ---- which numbers come
 
@@ -173,12 +163,13 @@ others {Q = Q} r d h i e = pick (rw e at h)
 pub open-never : OpenNever
 open-never n ls w = others _ refl (open-numbers n ls w)
 
--- at any moment after an accepted opening the invariant holds
-begun : (n : ℕ) (ls : List ℕ) (w : Network) → faults n ls w ≡ accept → (bs : List (List Change)) → Good n ls (moment n ls w bs)
-begun n ls w h bs = (moment-good n ls w (open-judged n ls w ∙ h) bs) .0
+-- at any moment after an opening that numbers 1 to 4 let pass the invariant holds, and the edges are the network as it is now
+pub begun : (n : ℕ) (ls : List ℕ) (w : Network) → faults n ls w ≡ accept → (bs : List (List Change))
+    → Good n ls (moment n ls w bs) × (edgesIn (moment n ls w bs) ≡ edgesNow n w bs)
+begun n ls w h = moment-good n ls w (open-judged n ls w ∙ h)
 
 pub batch-never : BatchNever
-batch-never n ls w h bs b = others _ refl (batch-numbers n ls (moment n ls w bs) b (begun n ls w h bs))
+batch-never n ls w h bs b = others _ refl (batch-numbers n ls (moment n ls w bs) b (begun n ls w h bs .0))
 
 pub query-never : QueryNever
-query-never n ls w h bs q out = others _ refl (query-numbers n ls (moment n ls w bs) q out (begun n ls w h bs))
+query-never n ls w h bs q out = others _ refl (query-numbers n ls (moment n ls w bs) q out (begun n ls w h bs .0))

@@ -19,13 +19,12 @@ use Rattle.run.specs.Run.{Tally, noTally, word, relaxable, pass}
 use Rattle.run.specs.Rounds.{Rounds}
 use Rattle.run.specs.Start.{Landmark, bound, asked}
 use Rattle.theory.proofs.Settle.{Inv, pass-good, pass-rounds, settle-good, settle-rounds, settled}
-use Rattle.theory.proofs.Value.{value-before, settled-best}
+use Rattle.theory.proofs.Value.{value-before, best-fits, settled-best}
 use Rattle.theory.proofs.Rounds.{settle-all}
 use Rattle.theory.proofs.Exists.{best-same}
 use Rattle.theory.proofs.Reverse.{reversed-best}
 use Rattle.theory.proofs.Query.{by, Bounded, bound-under, bound-is, via, asked-source, asked-other, asked-good}
-use Rattle.theory.proofs.Fits.{best-fits}
-use Rattle.network.specs.Network.{Network, edgesIn, rowCount, shortRows, landmarks, row, propertyOf, landmarkOf}
+use Rattle.network.specs.Network.{Network, edgesIn, shortRows, landmarks, row, propertyOf, landmarkOf}
 use Rattle.network.specs.Query.{Query, Words, rowAt, scheduled, known, atStart, atRounds, atEnd, longSchedule, shortWords, requested, queryFaults, queryVerdict, answered, queryCall}
 use Rattle.network.specs.History.{Triangle, QueryRun, QueryHolds}
 use Rattle.network.proofs.Ends.{query-ends}
@@ -41,7 +40,7 @@ row-at ls p i h k Q q =
     let z : (p - 1) / properties ≡ 0 = div-eq-of-lt (omega arith) in
     let b : rowAt i p / properties ≡ i = mul-add-div-right {m = properties} (omega arith) i (p - 1) ∙ omega arith in
     let c : suc (rowAt i p % properties) ≡ p = omega arith in
-    subst (λ x. Q (property p) (getD ls x 0)) b (subst (λ x. Q (property x) (landmarkOf ls (rowAt i p))) c q)
+    rw (c, b) at q
 
 -- numbers 1 to 6 of a query, one by one
 pub query-parts : (n : ℕ) (ls : List ℕ) (w : Network) (q : Query) (x y : ℕ) → queryFaults n ls w q x y ≡ accept
@@ -100,15 +99,12 @@ module _ (n : ℕ) (ls : List ℕ) (w : Network) (g : Good n ls w) (q : Query) w
   module _ (low : 0 < q .property) (high : q .property ≤ properties) (source : s < n) where
     -- ---- what the rows tell is best
 
-    index : (i : ℕ) → i < length ls → rowAt i (q .property) < rowCount ls
-    index i h = omega arith
-
     ahead : (i : ℕ) → i < length ls → (t : ℕ) → Best P es ((know i) .vertex) t (word P ((know i) .row) t)
-    ahead i h t = row-at ls (q .property) i low high (λ R l. Best R es l t (word R ((know i) .row) t)) (g .forward _ (index i h) t)
+    ahead i h t = row-at ls (q .property) i low high (λ R l. Best R es l t (word R ((know i) .row) t)) (g .forward _ (omega arith) t)
 
     back : (i : ℕ) → i < length ls → Best P es s ((know i) .vertex) ((know i) .into)
     back i h = reversed-best J (row-at ls (q .property) i low high
-        (λ R l. Best R (map reverse es) l s (word R (row n (rowAt i (q .property)) (w .memory .rows .backward)) s)) (g .backward _ (index i h) s))
+        (λ R l. Best R (map reverse es) l s (word R (row n (rowAt i (q .property)) (w .memory .rows .backward)) s)) (g .backward _ (omega arith) s))
 
     known-at : (l : Landmark) → List·Memᴰ l knowns → (i : ℕ) × (i < length ls) × (know i ≡ l)
     known-at l m = let (i, k, e) = Memᴰ·of-map know (range 0 (length ls)) m in let z = range-below 0 (length ls) i k in (i, omega arith, e)
@@ -117,10 +113,10 @@ module _ (n : ℕ) (ls : List ℕ) (w : Network) (g : Good n ls w) (q : Query) w
     known-in i h = Memᴰ·map know (mem-range-0 (length ls) i h)
 
     ways : (l : Landmark) → List·Memᴰ l knowns → Best P es s (l .vertex) (l .into)
-    ways l m = let (i, h, e) = known-at l m in subst (λ x. Best P es s (x .vertex) (x .into)) e (back i h)
+    ways l m = let (i, h, e) = known-at l m in rw (← e) (back i h)
 
     rows : (l : Landmark) → List·Memᴰ l knowns → (t : ℕ) → Best P es (l .vertex) t (word P (l .row) t)
-    rows l m t = let (i, h, e) = known-at l m in subst (λ x. Best P es (x .vertex) t (word P (x .row) t)) e (ahead i h t)
+    rows l m t = let (i, h, e) = known-at l m in rw (← e) (ahead i h t)
 
     -- ---- start words are triangle bounds
 
@@ -153,9 +149,7 @@ module _ (n : ℕ) (ls : List ℕ) (w : Network) (g : Good n ls w) (q : Query) w
     triangle t = record {
       unbettered = λ l a b m x y.
           let (i, h, e) = mem-index 0 m in
-          let x′ = subst (λ z. Best P es s z ((know i) .into)) e (back i h) in
-          let y′ = subst (λ z. Best P es z t (word P ((know i) .row) t)) e (ahead i h t) in
-          rw (best-same L x x′, best-same L y y′) (bound-under L knowns t (know i) (known-in i h));
+          rw (best-same L x (rw e at (back i h)), best-same L y (rw e at (ahead i h t))) (bound-under L knowns t (know i) (known-in i h));
       attained = attained t (bound-is P knowns t) (via L J es s n inside source knowns ways rows (know 0) (known-in 0 some) t)
           (bound-under L knowns t (know 0) (known-in 0 some));
     }
@@ -165,16 +159,13 @@ module _ (n : ℕ) (ls : List ℕ) (w : Network) (g : Good n ls w) (q : Query) w
     start-good : Inv P es s n (atStart n ls w q)
     start-good = asked-good L J es s n inside source knowns ways rows
 
-    rounds-good : Inv P es s n (atRounds n ls w q)
-    rounds-good = pass-good L es s n inside (q .schedule) (atStart n ls w q) start-good
-
     -- what the rows tell are words, and from any words nothing waits after a schedule and n rounds
     pub query-rests : anyOf ((atEnd n ls w q) .waiting) ≡ false
     query-rests = query-ends n ls w q inside
         (λ l m. record { into = best-fits L es s n inside (ways l m); row = λ t. best-fits L es (l .vertex) n inside (rows l m t) })
 
     end-good : Inv P es s n (atEnd n ls w q)
-    end-good = settle-good L es s n inside n (atRounds n ls w q) rounds-good
+    end-good = settle-good L es s n inside n (atRounds n ls w q) (pass-good L es s n inside (q .schedule) (atStart n ls w q) start-good)
 
     quick : (atEnd n ls w q) .tally .rounds ≤ n
     unfolding asked
@@ -183,9 +174,6 @@ module _ (n : ℕ) (ls : List ℕ) (w : Network) (g : Good n ls w) (q : Query) w
     -- the words that are written
     read : (ws xs : List ℕ) (t : ℕ) → length ws ≡ n → t < n → word P (over ws xs) t ≡ word P ws t
     read ws xs t e h = List·getD-append ws (drop (length ws) xs) (P .none) t (omega arith)
-
-    start-word : (xs : List ℕ) (t : ℕ) → t < n → t ≢ s → word P (over ((atStart n ls w q) .words) xs) t ≡ top t
-    start-word xs t h d = read ((atStart n ls w q) .words) xs t (start-good .words-n) h ∙ asked-other L J es s n inside source knowns ways rows t h d
 
     end-word : (xs : List ℕ) (t : ℕ) → t < n → word P (over ((atEnd n ls w q) .words) xs) t ≡ word P ((atEnd n ls w q) .words) t
     end-word xs t h = read ((atEnd n ls w q) .words) xs t (end-good .words-n) h
@@ -207,7 +195,7 @@ module _ (n : ℕ) (ls : List ℕ) (w : Network) (g : Good n ls w) (q : Query) w
 
     well : (out : Words) → anyOf ((atEnd n ls w q) .waiting) ≡ false → QueryHolds P n ls es s (q .schedule) ((atEnd n ls w q) .tally) (answered n ls w q out)
     well out rests = record {
-      bounds = λ t h d. subst (Triangle P es ls s t) (sym (start-word (out .starts) t h d)) (triangle t);
+      bounds = λ t h d. rw (read ((atStart n ls w q) .words) (out .starts) t (start-good .words-n) h, asked-other L J es s n inside source knowns ways rows t h d) (triangle t);
       source = read ((atStart n ls w q) .words) (out .starts) s (start-good .words-n) source ∙ asked-source L J es s n inside source knowns ways rows s source refl;
       quick = quick;
       ran = ran out rests;
@@ -227,5 +215,4 @@ module _ (n : ℕ) (ls : List ℕ) (w : Network) (g : Good n ls w) (q : Query) w
       let a = then-accept (queryFaults n ls w q (length (out .starts)) (length (out .settled))) (refuseIf (anyOf ((atEnd n ls w q) .waiting)) 13 0) (z .0) in
       let r = query-request n ls w q (length (out .starts)) (length (out .settled)) (a .0) in
       let y = well (r .0) (r .1) (r .2) out (if-accept _ _ _ (a .1)) in
-      subst (QueryHolds P n ls es s (q .schedule) tally) (sym (choose-accept (answered n ls w q out) out (z .0)))
-      (subst (λ x. QueryHolds P n ls es s (q .schedule) x (answered n ls w q out)) (z .1) y)
+      rw (choose-accept (answered n ls w q out) out (z .0), ← (z .1)) y

@@ -1,9 +1,10 @@
 -- What a batch reports as affected is how many vertices the closure names, and what it reports as stores is what its runs store, row by row.
 -- Assumes nothing.
-use Rattle.property.proofs.Basics.{_≡_, refl, sym, _∙_, subst, _↔_, _⊎_, inl, inr, Bool, true, false, _&&_, _||_, cond, false≢true, List, [], _∷_, map, List·Memᴰ, ℕ, suc, _+_, _<_, add-zero, zero-add, arith, length, getD, eqb, eqb-true, eq-eqb}
+use Rattle.property.proofs.Basics.{_≡_, refl, sym, _∙_, _↔_, _⊎_, inl, inr, ⊎-elim, Bool, true, false, _&&_, _||_, cond, false≢true, List, [], _∷_, map, List·Memᴰ, ℕ, suc, _+_, _<_, add-zero, zero-add, arith, length, eqb, eqb-true, eq-eqb}
 use Rattle.property.specs.Property.{Property}
+use Rattle.property.proofs.Tests.{by-test}
 use Rattle.frontier.specs.Waiting.{anyOf, countOf}
-use Rattle.graph.specs.Edge.{Edge, exists, range}
+use Rattle.graph.specs.Edge.{Edge, exists}
 use Rattle.graph.proofs.Tests.{and-true, both, neither, or-right}
 use Rattle.graph.proofs.Lists.{length-table, table-at}
 use Rattle.graph.proofs.Edges.{true-exists, exists-true}
@@ -23,17 +24,11 @@ use Rattle.network.specs.History.{Counted, TotalAffected, RowStart, Tota
 counted-marks : (A : ℕ → Type 0) (ms : List Bool) (i : ℕ) → ((t : ℕ) → (marked ms t ≡ true) ↔ A (i + t)) → Counted A i (length ms) (countOf ms)
 unfolding countOf
 counted-marks A [] i f = claim.none
-counted-marks A (b ∷ ms) i f = pick b (f 0) (counted-marks A ms (suc i) (λ t. (later t (f (suc t)))))
+counted-marks A (b ∷ ms) i f = first b (f 0) (counted-marks A ms (suc i) (λ t. let e : i + suc t ≡ suc i + t = omega arith in rw e at (f (suc t))))
   where
-    next : (t : ℕ) → i + suc t ≡ suc i + t
-    next t = omega arith
-
-    later : (t : ℕ) → (marked ms t ≡ true) ↔ A (i + suc t) → (marked ms t ≡ true) ↔ A (suc i + t)
-    later t h = (λ q. subst A (next t) (h .0 q), λ a. h .1 (subst A (sym (next t)) a))
-
-    pick : (c : Bool) → (c ≡ true) ↔ A (i + 0) → Counted A (suc i) (length ms) (countOf ms) → Counted A i (suc (length ms)) (countOf (c ∷ ms))
-    pick true h k = claim.one (subst A (add-zero i) (h .0 refl)) k
-    pick false h k = claim.other (λ a. false≢true (h .1 (subst A (sym (add-zero i)) a))) k
+    first : (c : Bool) → (c ≡ true) ↔ A (i + 0) → Counted A (suc i) (length ms) (countOf ms) → Counted A i (suc (length ms)) (countOf (c ∷ ms))
+    first true h k = claim.one (rw add-zero at (h .0 refl)) k
+    first false h k = claim.other (λ a. false≢true (h .1 (rw add-zero a))) k
 
 module _ (n : ℕ) (ls : List ℕ) (es fs : List Edge) (xs : List ℕ) (inside : Within n es) where
   row-counted : (r : ℕ) → Counted (Affected (propertyOf r) es fs (landmarkOf ls r) (row n r xs)) 0 n (countOf (affectedIn n ls es fs xs r))
@@ -41,8 +36,7 @@ module _ (n : ℕ) (ls : List ℕ) (es fs : List Edge) (xs : List ℕ) (inside :
       let A = Affected (propertyOf r) es fs (landmarkOf ls r) (row n r xs) in
       let e = affected-length (propertyOf r) es fs (landmarkOf ls r) (row n r xs) n in
       let f = affected-exact (propertyOf r) es fs (landmarkOf ls r) (row n r xs) n (inside .heads) in
-      subst (λ m. Counted A 0 m (countOf (affectedIn n ls es fs xs r))) e
-      (counted-marks A (affectedIn n ls es fs xs r) 0 (λ t. (λ q. subst A (sym (zero-add t)) (f t .0 q), λ a. f t .1 (subst A (zero-add t) a))))
+      rw e at (counted-marks A (affectedIn n ls es fs xs r) 0 (λ t. rw zero-add (f t)))
 
   -- The marks of a row are the closure (`affected-exact`), and the call sums how many they are over the rows.
   pub rows-affected : (rs : List ℕ) → TotalAffected n ls es fs xs rs (affectedOver n ls es fs xs rs)
@@ -60,6 +54,10 @@ module _ (P : Property) (es fs : List Edge) (s : ℕ) (ws : List ℕ) (n : ℕ) 
   abbrev Woken : ℕ → Type 0
   Woken t = (e : Edge) × List·Memᴰ e fs × (e .tail ≡ t) × (Affected P es fs s ws (e .head) ⊎ (added P es e ≡ true))
 
+  -- the word of a vertex t as its run starts
+  abbrev wiped : ℕ → ℕ
+  wiped t = cond (marked marks t) (P .none) (word P ws t)
+
   abbrev wakes : ℕ → Edge → Bool
   wakes t e = eqb (e .tail) t && (marked marks (e .head) || added P es e)
 
@@ -68,18 +66,11 @@ module _ (P : Property) (es fs : List Edge) (s : ℕ) (ws : List ℕ) (n : ℕ) 
   woken t h =
       let (e, m, q) = exists-true (wakes t) fs h in
       let z = both (eqb (e .tail) t) (marked marks (e .head) || added P es e) q in
-      (e, m, eqb-true _ _ (z .0), which e (marked marks (e .head)) refl (z .1))
-    where
-      which : (e : Edge) (b : Bool) → marked marks (e .head) ≡ b → (b || added P es e) ≡ true → Affected P es fs s ws (e .head) ⊎ (added P es e ≡ true)
-      which e true p h = inl (affected-exact P es fs s ws n heads (e .head) .0 p)
-      which e false p h = inr h
+      (e, m, eqb-true _ _ (z .0), by-test (marked marks (e .head)) (λ p. inl (affected-exact P es fs s ws n heads (e .head) .0 p)) (λ p. inr (rw p at (z .1))))
 
   waking : (t : ℕ) → Woken t → exists (wakes t) fs ≡ true
-  waking t (e, m, q, w) = true-exists (wakes t) m (and-true (eq-eqb (e .tail) t q) (either w))
-    where
-      either : Affected P es fs s ws (e .head) ⊎ (added P es e ≡ true) → (marked marks (e .head) || added P es e) ≡ true
-      either (inl a) = rw (affected-exact P es fs s ws n heads (e .head) .1 a)
-      either (inr d) = or-right (marked marks (e .head)) d
+  waking t (e, m, q, w) = true-exists (wakes t) m (and-true (eq-eqb (e .tail) t q)
+      (⊎-elim (λ a. rw (affected-exact P es fs s ws n heads (e .head) .1 a)) (λ d. or-right (marked marks (e .head)) d) w))
 
   -- The marks are the closure: so the prepared state is the one that document 01 names, word by word and bit by bit.
   prepared-start : RowStart P es fs s ws n (prepared P es fs s ws n)
@@ -87,17 +78,11 @@ module _ (P : Property) (es fs : List Edge) (s : ℕ) (ws : List ℕ) (n : ℕ) 
   prepared-start = record {
     words = length-table _ 0 n;
     waiting = length-table _ 0 n;
-    cleared = λ t h a. at t h ∙ rw (affected-exact P es fs s ws n heads t .1 a);
-    kept = λ t h d. at t h ∙ rw (unaffected-unmarked P es fs s ws n t d);
-    wakes = λ t h. (λ q. woken t (sym (bit t h) ∙ q), λ w. bit t h ∙ waking t w);
+    cleared = λ t h a. table-at wiped n t (P .none) h ∙ rw (affected-exact P es fs s ws n heads t .1 a);
+    kept = λ t h d. table-at wiped n t (P .none) h ∙ rw (unaffected-unmarked P es fs s ws n t d);
+    wakes = λ t h. let bit = table-at (λ k. exists (wakes k) fs) n t false h in (λ q. woken t (sym bit ∙ q), λ w. bit ∙ waking t w);
     untallied = refl;
   }
-    where
-      at : (t : ℕ) → t < n → word P (map (λ k. cond (marked marks k) (P .none) (word P ws k)) (range 0 n)) t ≡ cond (marked marks t) (P .none) (word P ws t)
-      at t h = table-at (λ k. cond (marked marks k) (P .none) (word P ws k)) n t (P .none) h
-
-      bit : (t : ℕ) → t < n → getD (map (λ k. exists (wakes k) fs) (range 0 n)) t false ≡ exists (wakes t) fs
-      bit t h = table-at (λ k. exists (wakes k) fs) n t false h
 
 -- Nothing waits in any row at the end, so the rounds of each are all its rounds; and the call sums their stores.
 pub rows-stores : (n : ℕ) (ls : List ℕ) (es fs : List Edge) (xs rs : List ℕ) → Within n es → unsettled (map (batchRow n ls es fs xs) rs) ≡ false

@@ -1,23 +1,22 @@
 -- The no-route word stands exactly where there is no route: the claim, proved. Assumes nothing.
-use Rattle.property.proofs.Basics.{_≡_, subst, _∙_, List, ℕ, suc, _%_, _≤_, _<_, length, ltb, eqb, ltb-false}
+use Rattle.property.proofs.Basics.{_≡_, List, ℕ, suc, _%_, _≤_, _<_, length, ltb, eqb, ltb-false}
 use Rattle.property.specs.Property.{properties}
 use Rattle.frontier.specs.Waiting.{anyOf}
 use Rattle.graph.specs.Limits.{maxVertices}
 use Rattle.graph.specs.Refusal.{accept, accepted, refuseIf}
-use Rattle.graph.specs.Table.{size, rules}
+use Rattle.graph.specs.Table.{size}
 use Rattle.graph.proofs.Tests.{neither}
 use Rattle.graph.proofs.Verdicts.{then-accept, if-accept, reply-accepted}
 use Rattle.graph.proofs.Order.{accept-rules}
 use Rattle.theory.proofs.Routed.{best-routed}
 use Rattle.run.specs.Run.{Tally}
-use Rattle.network.specs.Network.{Network}
+use Rattle.network.specs.Network.{Network, edgesIn}
 use Rattle.network.specs.Query.{Query, Words, atEnd, queryFaults, queryVerdict, queryCall}
 use Rattle.network.specs.History.{moment}
 use Rattle.network.proofs.Items.{table-sound}
 use Rattle.network.proofs.Rows.{source}
-use Rattle.network.proofs.Moment.{moment-good}
 use Rattle.network.proofs.Query.{query-request}
-use Rattle.network.proofs.Never.{open-judged}
+use Rattle.network.proofs.Never.{begun}
 use Rattle.network.proofs.History.{best-over-routes}
 use Rattle.network.specs.Routed.{WordsRouted}
 
@@ -37,11 +36,11 @@ query-source n ls w q out tally e =
 pub words-routed : WordsRouted
 words-routed n ls w h bs =
     let b = best-over-routes n ls w h bs in
-    let z = moment-good n ls w (open-judged n ls w ∙ h) bs in
+    let z = begun n ls w h bs in
     let g = z .0 in
     let few = size-few n (g .sized) in
     let m = moment n ls w bs in
-    let sound = subst (λ es. rules n es ≡ accept) (z .1) (accept-rules n _ ((table-sound n (m .memory .table) (m .count) (g .sound)) .1)) in
+    let sound = rw (z .1) at (accept-rules n (edgesIn m) ((table-sound n (m .memory .table) (m .count) (g .sound)) .1)) in
     record {
       rows = record {
         forward = λ r t k l. best-routed (suc (r % properties)) n _ few sound _ t _ (source n ls (g .chosen) r k) (b .rows .forward r t k l);

@@ -19,9 +19,8 @@ use Rattle.run.specs.Run.{State, word}
 use Rattle.run.specs.Start.{opened}
 use Rattle.affected.specs.Prepared.{cleared, prepared}
 use Rattle.theory.proofs.Settle.{settle-sized}
-use Rattle.theory.proofs.Value.{opened-best}
+use Rattle.theory.proofs.Value.{best-fits, opened-best}
 use Rattle.affected.proofs.Batch.{batch-best as row-best, unaffected}
-use Rattle.theory.proofs.Fits.{best-fits}
 use Rattle.network.specs.Network.{Rows, rowCount, shortRows, isIn, areLandmarks, landmarks, row, propertyOf, landmarkOf, rowsOf, flat, unsettled}
 use Rattle.network.specs.Open.{openRow, openRows}
 use Rattle.network.specs.Batch.{batchRow, batchRows}
@@ -60,13 +59,19 @@ module _ (n : ℕ) (f : ℕ → State) (sized : (r : ℕ) → length ((f r) .wor
   pub length-rows : (k : ℕ) (xs : List ℕ) → k * n ≤ length xs → length (over (flat (map f (range 0 k))) xs) ≡ length xs
   length-rows k xs h = length-over (flat (map f (range 0 k))) xs (rw (length-flat (range 0 k), length-range 0 k) h)
 
+-- row lists that number 2 lets pass
+pub long-rows : (n : ℕ) (ls : List ℕ) (xs : Rows) → shortRows n ls xs ≡ accept → (rowCount ls * n ≤ length (xs .forward)) × (rowCount ls * n ≤ length (xs .backward))
+long-rows n ls xs h =
+    let z = neither (ltb (length (xs .forward)) (rowCount ls * n)) (ltb (length (xs .backward)) (rowCount ls * n)) (if-accept _ 2 0 h) in
+    (ltb-false _ _ (z .0), ltb-false _ _ (z .1))
+
 -- both row lists are as long as before
 pub rows-long : (n : ℕ) (ls : List ℕ) (f g : ℕ → State) → ((r : ℕ) → length ((f r) .words) ≡ n) → ((r : ℕ) → length ((g r) .words) ≡ n)
     → (xs : Rows) → shortRows n ls xs ≡ accept
     → shortRows n ls (record { forward = over (flat (map f (rowsOf ls))) (xs .forward); backward = over (flat (map g (rowsOf ls))) (xs .backward) }) ≡ accept
 rows-long n ls f g a b xs h =
-    let z = neither (ltb (length (xs .forward)) (rowCount ls * n)) (ltb (length (xs .backward)) (rowCount ls * n)) (if-accept _ _ _ h) in
-    rw (length-rows n f a (rowCount ls) (xs .forward) (ltb-false _ _ (z .0)), length-rows n g b (rowCount ls) (xs .backward) (ltb-false _ _ (z .1))) h
+    let z = long-rows n ls xs h in
+    rw (length-rows n f a (rowCount ls) (xs .forward) (z .0), length-rows n g b (rowCount ls) (xs .backward) (z .1)) h
 
 pub unsettled-map : (f : ℕ → State) (rs : List ℕ) → ((r : ℕ) → List·Memᴰ r rs → anyOf ((f r) .waiting) ≡ false) → unsettled (map f rs) ≡ false
 unfolding unsettled
@@ -117,20 +122,15 @@ module _ (n : ℕ) (ls : List ℕ) (ok : landmarks n ls ≡ accept) where
   -- ---- an opening
 
   module _ (es : List Edge) (inside : Within n es) where
+    pub open-rests : unsettled (openRows n ls es) ≡ false
+    open-rests = unsettled-map (openRow n ls es) (rowsOf ls) (λ r m. open-row-ends n ls es inside r)
+
     -- The run of row r starts where only the row's landmark has a route. From any words nothing waits after n rounds: so its words are best
     -- for the row's property and landmark.
-    open-row : (r : ℕ) → r < rowCount ls
-        → ((t : ℕ) → Best (propertyOf r) es (landmarkOf ls r) t (word (propertyOf r) ((openRow n ls es r) .words) t)) × (anyOf ((openRow n ls es r) .waiting) ≡ false)
-    open-row r h =
-        let rests = open-row-ends n ls es inside r in
-        (opened-best (L r) es (landmarkOf ls r) n inside (source r h) n rests, rests)
-
-    pub open-rests : unsettled (openRows n ls es) ≡ false
-    open-rests = unsettled-map (openRow n ls es) (rowsOf ls) (λ r m. (open-row r (below r m)) .1)
-
-    -- row r of what an opening writes is the words in which the run of row r ends
+    -- Row r of what an opening writes is the words in which that run ends.
     pub open-best : (xs : List ℕ) → RowsBest n ls es (over (flat (openRows n ls es)) xs)
-    open-best xs r h t = rw (row-over n (openRow n ls es) (open-sized n ls es) (rowCount ls) r xs h) ((open-row r h) .0 t)
+    open-best xs r h t = rw (row-over n (openRow n ls es) (open-sized n ls es) (rowCount ls) r xs h)
+        (opened-best (L r) es (landmarkOf ls r) n inside (source r h) n (open-row-ends n ls es inside r) t)
 
   -- ---- a batch
 

@@ -1,5 +1,5 @@
 -- The claims of specs/Steady.antt on what an accepted call leaves past what it writes. Assumes nothing.
-use Rattle.property.proofs.Basics.{_≡_, sym, ap, _∙_, subst, List, map, _++_, append-assoc, ℕ, _-_, _*_, _≤_, length, take, drop, replicate, length-map, length-replicate, take-at, drop-at}
+use Rattle.property.proofs.Basics.{_≡_, sym, ap, _∙_, subst, List, map, _++_, append-assoc, ℕ, _-_, _*_, _≤_, length, drop, replicate, length-map, length-replicate, take-at, drop-at}
 use Rattle.graph.specs.Limits.{maxEdges}
 use Rattle.graph.specs.Refusal.{over}
 use Rattle.graph.specs.Edge.{Edge, reverse}
@@ -35,18 +35,13 @@ open-stays n ls w h =
     )
 
 column-zeroed : (f : Edge → ℕ) (fs : List Edge) (xs : List ℕ) → length fs ≤ maxEdges → Zeroed (length fs) xs (over (column f fs) xs)
-column-zeroed f fs xs few = record {
-  zeros = ap (λ l. take k (drop (length fs) l)) (append-assoc (map f fs) (replicate k 0) rest)
-      ∙ ap (λ l. take k l) (drop-at (map f fs) (replicate k 0 ++ rest) (length fs) (length-map fs f))
-      ∙ take-at (replicate k 0) rest k (length-replicate k 0);
-  rest = over-rest maxEdges (column f fs) xs (length-column fs few f);
-}
-  where
-    k : ℕ
-    k = maxEdges - length fs
-
-    rest : List ℕ
-    rest = drop (length (column f fs)) xs
+column-zeroed f fs xs few =
+    let k = maxEdges - length fs in
+    let rest = drop (length (column f fs)) xs in
+    record {
+      zeros = rw (append-assoc (map f fs) (replicate k 0) rest, drop-at (map f fs) (replicate k 0 ++ rest) (length fs) (length-map fs f)) (take-at (replicate k 0) rest k (length-replicate k 0));
+      rest = over-rest maxEdges (column f fs) xs (length-column fs few f);
+    }
 
 -- An accepted batch has passed numbers 1 to 4 and its items, so that its new edges are at most 2,048; its lists are those of the definition.
 pub batch-stays : BatchStays
@@ -61,10 +56,7 @@ batch-stays n ls w b r h =
     let y = table-sound n (w .memory .table) (w .count) (d .4) in
     let few = (items-good n 0 (edgesIn w) b ((then-accept (items n 0 (edgesIn w) b) _ (a .1)) .0) (y .1)
     (rw (table-count (w .memory .table) (w .count) (d .1) (y .0)) (y .0))) .1 in
-    subst (λ m. Zeroed m (w .memory .table .tails) ((batchCall n ls w b) .memory .table .tails) × Zeroed m (w .memory .table .heads) ((batchCall n ls w b) .memory .table .heads)
-    × Zeroed m (w .memory .table .weights) ((batchCall n ls w b) .memory .table .weights) × RowsStay n ls (w .memory) ((batchCall n ls w b) .memory)) c
-    (subst (λ x. Zeroed (length fs) (w .memory .table .tails) (x .table .tails) × Zeroed (length fs) (w .memory .table .heads) (x .table .heads)
-    × Zeroed (length fs) (w .memory .table .weights) (x .table .weights) × RowsStay n ls (w .memory) x) (sym e) (
+    rw (e, ← c) (
       column-zeroed (λ x. x .tail) fs (w .memory .table .tails) few,
       column-zeroed (λ x. x .head) fs (w .memory .table .heads) few,
       column-zeroed (λ x. x .weight) fs (w .memory .table .weights) few,
@@ -73,4 +65,4 @@ batch-stays n ls w b r h =
         backward = rows-stay n ls (batchRow n ls (map reverse (edgesIn w)) (map reverse fs) (w .memory .rows .backward))
             (batch-sized n ls (map reverse (edgesIn w)) (map reverse fs) (w .memory .rows .backward)) (w .memory .rows .backward);
       },
-    ))
+    )

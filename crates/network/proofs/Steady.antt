@@ -1,5 +1,5 @@
 -- The claims of specs/Steady.antt. Assumes nothing.
-use Rattle.property.proofs.Basics.{_≡_, refl, sym, ap, _∙_, Bool, true, false, _&&_, _||_, cond, true≢false, false≢true, List, [], _∷_, _++_, map, List·Memᴰ, List·Memᴰ·head, List·Memᴰ·tail, ℕ, zero, suc, _+_, _*_, _%_, _≤_, _<_, zero-mul, suc-mul, mul-le-mul-right, arith, length, getD, take, drop, length-drop, take-append-drop, length-take-le, take-add, drop-drop, ext-getD, ltb, eqb, ltb-false, lt-ltb, le-leb, eqb-true, ne-eqb}
+use Rattle.property.proofs.Basics.{_≡_, refl, sym, ap, _∙_, Bool, true, false, _&&_, _||_, cond, true≢false, false≢true, List, [], _∷_, _++_, map, List·Memᴰ, List·Memᴰ·head, List·Memᴰ·tail, ℕ, zero, suc, _+_, _*_, _%_, _≤_, _<_, zero-mul, suc-mul, mul-le-mul-right, arith, length, getD, take, drop, length-drop, List·getD-map, take-append-drop, length-take-le, take-add, drop-drop, ext-getD, eqb, lt-ltb, le-leb, eqb-true, ne-eqb}
 use Rattle.property.specs.Property.{Property, properties}
 use Rattle.property.specs.Laws.{Laws}
 use Rattle.property.proofs.Tests.{is-false}
@@ -10,10 +10,10 @@ use Rattle.graph.specs.Refusal.{accept, _▷_, refuseIf, accepted, replied, ove
 use Rattle.graph.specs.Limits.{maxWeight}
 use Rattle.graph.specs.Edge.{Edge, reverse, alike, range, exists}
 use Rattle.graph.specs.Table.{isEdge, rules, size, shortTable, table}
-use Rattle.graph.proofs.Tests.{both, neither, or-false}
+use Rattle.graph.proofs.Tests.{both, or-false}
 use Rattle.graph.proofs.Lists.{length-table, table-at, range-below}
 use Rattle.graph.proofs.Edges.{exists-true, true-exists}
-use Rattle.graph.proofs.Verdicts.{accept-then, if-accept, accept-if, outcome-accepted}
+use Rattle.graph.proofs.Verdicts.{accept-if, outcome-accepted}
 use Rattle.graph.proofs.Judging.{table-accept}
 use Rattle.graph.proofs.Sorted.{sorted-distinct}
 use Rattle.graph.proofs.Order.{Within, table-ordered, pair-alike, rules-accept, sound-fit, update-own}
@@ -26,17 +26,17 @@ use Rattle.affected.specs.Affected.{Affected, at-removed, onward, marked, affec
 use Rattle.affected.specs.Prepared.{cleared, reopened, prepared}
 use Rattle.affected.proofs.Net.{Single, rules-single, single-reverse, kept-stays}
 use Rattle.affected.proofs.Sweeps.{unaffected-unmarked}
-use Rattle.network.specs.Network.{Rows, Network, edgesIn, rowCount, shortRows, landmarks, faults, row, propertyOf, landmarkOf, rowsOf, flat, unsettled, storesOf}
+use Rattle.network.specs.Network.{Network, edgesIn, rowCount, shortRows, landmarks, faults, row, propertyOf, landmarkOf, rowsOf, flat, unsettled, storesOf}
 use Rattle.network.specs.Change.{Change, named, updates, edit, words, against, item, items}
 use Rattle.network.specs.Batch.{batchRow, batchRows, affectedOver, rewritten, newForward, newBackward, batchFaults, batchVerdict, batchMemory, report, batchCall}
-use Rattle.network.specs.Settled.{settled, found, Check, inRecords, inRows, check, settledCall}
+use Rattle.network.specs.Settled.{settled, Check, inRecords, inRows, check, settledCall}
 use Rattle.network.specs.Caller.{reported, handOn}
 use Rattle.network.specs.History.{moment}
 use Rattle.network.specs.Steady.{EmptyBatch, OwnWeight, SettledAfter}
 use Rattle.network.proofs.Items.{table-sound, table-count, rewritten-edges}
-use Rattle.network.proofs.Rows.{RowsBest, unsettled-map}
-use Rattle.network.proofs.Moment.{Good, good-within, faults-parts, moment-good}
-use Rattle.network.proofs.Never.{open-judged}
+use Rattle.network.proofs.Rows.{RowsBest, long-rows, unsettled-map}
+use Rattle.network.proofs.Moment.{good-within, faults-parts, good-faults}
+use Rattle.network.proofs.Never.{begun}
 
 -- ---- nothing is removed, and nothing added
 
@@ -65,16 +65,7 @@ module _ {P : Property} (L : Laws P) (es : List Edge) (single : Single es) (s : 
       false≢true (sym (or-false (unmarked (e .head)) (kept-stays es single P L e m)) ∙ z))
 
   asleep-at : (t : ℕ) → getD (map wakes (range 0 n)) t false ≡ false
-  asleep-at t = is-false _ (λ h. false≢true (sym (asleep-in (map wakes (range 0 n)) (λ b m. all (range 0 n) b m) t) ∙ h))
-    where
-      all : (l : List ℕ) (b : Bool) → List·Memᴰ b (map wakes l) → b ≡ false
-      all (x ∷ l) b (List·Memᴰ·head p) = p ∙ asleep x
-      all (x ∷ l) b (List·Memᴰ·tail m) = all l b m
-
-      asleep-in : (l : List Bool) → ((b : Bool) → List·Memᴰ b l → b ≡ false) → (t : ℕ) → getD l t false ≡ false
-      asleep-in [] f t = refl
-      asleep-in (b ∷ l) f zero = f b (List·Memᴰ·head refl)
-      asleep-in (b ∷ l) f (suc t) = asleep-in l (λ c m. f c (List·Memᴰ·tail m)) t
+  asleep-at t = ap (getD (map wakes (range 0 n)) t) (sym (asleep 0)) ∙ List·getD-map wakes (range 0 n) t 0 ∙ asleep _
 
   none-waits : anyOf ((prepared P es es s ws n) .waiting) ≡ false
   unfolding prepared reopened
@@ -102,21 +93,20 @@ flat-rows n f xs i (suc k) h =
     let b = suc-mul i n in
     let e : suc k * n ≡ n + k * n = omega arith in
     let d : suc i * n ≡ i * n + n = omega arith in
-    ap (λ l. l ++ flat (map f (range (suc i) k))) (h i (omega arith))
-    ∙ ap (λ l. row n i xs ++ l) (flat-rows n f xs (suc i) k (λ r q. h r (omega arith)) ∙ ap (λ j. take (k * n) (drop j xs)) d ∙ ap (λ l. take (k * n) l) (sym (drop-drop n (i * n) xs)))
-    ∙ sym (take-add n (k * n) (drop (i * n) xs)) ∙ ap (λ j. take j (drop (i * n) xs)) (sym e)
+    rw (h i (omega arith), flat-rows n f xs (suc i) k (λ r q. h r (omega arith)), e, d, take-add n (k * n) (drop (i * n) xs), drop-drop n (i * n) xs)
 
 front-over : (m : ℕ) (xs : List ℕ) → m ≤ length xs → over (take m xs) xs ≡ xs
 front-over m xs h = ap (λ j. take m xs ++ drop j xs) (length-take-le m xs h) ∙ take-append-drop m xs
 
--- row lists that number 2 lets pass
-pub long-rows : (n : ℕ) (ls : List ℕ) (xs : Rows) → shortRows n ls xs ≡ accept → (rowCount ls * n ≤ length (xs .forward)) × (rowCount ls * n ≤ length (xs .backward))
-long-rows n ls xs h =
-    let z = neither (ltb (length (xs .forward)) (rowCount ls * n)) (ltb (length (xs .backward)) (rowCount ls * n)) (if-accept _ 2 0 h) in
-    (ltb-false _ _ (z .0), ltb-false _ _ (z .1))
-
 pub row-long : (n k r : ℕ) (xs : List ℕ) → k * n ≤ length xs → r < k → length (row n r xs) ≡ n
 row-long n k r xs h q = length-take-le n (drop (r * n) xs) (let z = length-drop (r * n) xs in let a = suc-mul r n in let b = mul-le-mul-right n q in omega arith)
+
+-- what a batch without changes leaves of the rows xs of one side
+record Still (n : ℕ) (ls : List ℕ) (es : List Edge) (xs : List ℕ) : Type 0 where
+  rests : unsettled (batchRows n ls es es xs) ≡ false
+  kept : over (flat (batchRows n ls es es xs)) xs ≡ xs
+  affected : affectedOver n ls es es xs (rowsOf ls) ≡ 0
+  stores : storesOf (batchRows n ls es es xs) ≡ 0
 
 -- nothing is removed and nothing added, so the runs start, and end, with the words that are there
 module _ (n : ℕ) (ls : List ℕ) (es : List Edge) (single : Single es) (xs : List ℕ) (long : rowCount ls * n ≤ length xs) where
@@ -129,17 +119,8 @@ module _ (n : ℕ) (ls : List ℕ) (es : List Edge) (single : Single es) (xs : L
   row-still : (r : ℕ) → batchRow n ls es es xs r ≡ ready r
   row-still r = still (laws r) es single (landmarkOf ls r) (row n r xs) n n
 
-  rows-rest : unsettled (batchRows n ls es es xs) ≡ false
-  rows-rest = unsettled-map (batchRow n ls es es xs) (rowsOf ls)
-      (λ r m. ap (λ st. anyOf (st .waiting)) (row-still r) ∙ none-waits (laws r) es single (landmarkOf ls r) (row n r xs) n)
-
-  rows-kept : over (flat (batchRows n ls es es xs)) xs ≡ xs
-  rows-kept = ap (λ l. over l xs) (flat-rows n (batchRow n ls es es xs) xs 0 (rowCount ls) words) ∙ ap (λ j. over (take (rowCount ls * n) (drop j xs)) xs) (zero-mul n)
-      ∙ front-over (rowCount ls * n) xs long
-    where
-      words : (r : ℕ) → r < 0 + rowCount ls → (batchRow n ls es es xs r) .words ≡ row n r xs
-      words r h = ap (λ st. st .words) (row-still r)
-          ∙ none-cleared (laws r) es single (landmarkOf ls r) (row n r xs) n (row-long n (rowCount ls) r xs long (omega arith))
+  row-words : (r : ℕ) → r < 0 + rowCount ls → (batchRow n ls es es xs r) .words ≡ row n r xs
+  row-words r h = ap (λ st. st .words) (row-still r) ∙ none-cleared (laws r) es single (landmarkOf ls r) (row n r xs) n (row-long n (rowCount ls) r xs long (omega arith))
 
   no-stores : (rs : List ℕ) → storesOf (map (batchRow n ls es es xs) rs) ≡ 0
   unfolding storesOf prepared
@@ -151,61 +132,67 @@ module _ (n : ℕ) (ls : List ℕ) (es : List Edge) (single : Single es) (xs : L
   no-affected [] = refl
   no-affected (r ∷ rs) = let a = none-counted (laws r) es single (landmarkOf ls r) (row n r xs) n in let b = no-affected rs in omega arith
 
+  rows-still : Still n ls es xs
+  rows-still = record {
+    rests = unsettled-map (batchRow n ls es es xs) (rowsOf ls)
+        (λ r m. ap (λ st. anyOf (st .waiting)) (row-still r) ∙ none-waits (laws r) es single (landmarkOf ls r) (row n r xs) n);
+    kept = ap (λ l. over l xs) (flat-rows n (batchRow n ls es es xs) xs 0 (rowCount ls) row-words)
+        ∙ ap (λ j. over (take (rowCount ls * n) (drop j xs)) xs) (zero-mul n) ∙ front-over (rowCount ls * n) xs long;
+    affected = no-affected (rowsOf ls);
+    stores = no-stores (rowsOf ls);
+  }
+
 -- ---- the empty batch
+
+module _ (n : ℕ) (ls : List ℕ) (w : Network) (h : faults n ls w ≡ accept) where
+  abbrev es : List Edge
+  es = edgesIn w
+
+  parts : (size n ≡ accept) × (shortTable (w .memory .table) ≡ accept) × (shortRows n ls (w .memory .rows) ≡ accept) × (landmarks n ls ≡ accept)
+      × (table n (w .memory .table) (w .count) ≡ accept)
+  parts = faults-parts n ls w h
+
+  single : Single es
+  single = rules-single n es (table-accept n (w .memory .table) (w .count) (parts .4) .1)
+
+  ahead : Still n ls es (w .memory .rows .forward)
+  ahead = rows-still n ls es single (w .memory .rows .forward) (long-rows n ls (w .memory .rows) (parts .2) .0)
+
+  back : Still n ls (map reverse es) (w .memory .rows .backward)
+  back = rows-still n ls (map reverse es) (single-reverse es single) (w .memory .rows .backward) (long-rows n ls (w .memory .rows) (parts .2) .1)
+
+  count : length es ≡ w .count
+  count = table-count (w .memory .table) (w .count) (parts .1) ((table-sound n (w .memory .table) (w .count) (parts .4)) .0)
+
+  -- the network whose table is written anew
+  abbrev anew : ℕ → Network
+  anew k = record { memory = record { table = rewritten es (w .memory .table); rows = w .memory .rows }; count = k }
+
+  whole : batchCall n ls w [] ≡ record { reply = accepted (record { count = w .count; affected = 0; stores = 0 }); memory = (anew 0) .memory }
+  unfolding batchCall batchFaults items _▷_ refuseIf
+  whole =
+      let x = ahead .affected in
+      let y = back .affected in
+      let a : report n ls w es .affected ≡ 0 = omega arith in
+      let u = ahead .stores in
+      let v = back .stores in
+      let s : report n ls w es .stores ≡ 0 = omega arith in
+      outcome-accepted (batchVerdict n ls w []) (report n ls w es) (batchMemory n ls w es) (w .memory)
+      (ap (λ v. v ▷ refuseIf (unsettled (newForward n ls w es) || unsettled (newBackward n ls w es)) 13 0) h ∙ accept-if 13 0 (or-false (ahead .rests) (back .rests)))
+      ∙ (λ i. record {
+        reply = accepted (record { count = count i; affected = a i; stores = s i });
+        memory = record { table = rewritten es (w .memory .table); rows = record { forward = ahead .kept i; backward = back .kept i } };
+      })
 
 -- Without changes the edges are the same before and after, on either side. So in no row is an edge removed or added: no vertex is affected, none
 -- waits, the run ends as it starts, with the row's own words and nothing stored. Nothing waits, so 13 does not come; and 1 to 4 let it pass.
 pub empty-batch : EmptyBatch
-unfolding batchCall batchFaults items _▷_ refuseIf reported
-empty-batch n ls w h = (ap (λ o. o .reply) whole, ap (λ o. o .memory .rows) whole, ap (λ o. edgesIn (handOn w o)) whole ∙ records)
-  where
-    parts : (size n ≡ accept) × (shortTable (w .memory .table) ≡ accept) × (shortRows n ls (w .memory .rows) ≡ accept) × (landmarks n ls ≡ accept)
-        × (table n (w .memory .table) (w .count) ≡ accept)
-    parts = faults-parts n ls w h
-
-    longs : (rowCount ls * n ≤ length (w .memory .rows .forward)) × (rowCount ls * n ≤ length (w .memory .rows .backward))
-    longs = long-rows n ls (w .memory .rows) (parts .2)
-
-    ahead : Single (edgesIn w)
-    ahead = rules-single n (edgesIn w) (table-accept n (w .memory .table) (w .count) (parts .4) .1)
-
-    back : Single (map reverse (edgesIn w))
-    back = single-reverse (edgesIn w) ahead
-
-    count : length (edgesIn w) ≡ w .count
-    count = table-count (w .memory .table) (w .count) (parts .1) ((table-sound n (w .memory .table) (w .count) (parts .4)) .0)
-
-    verdict : batchVerdict n ls w [] ≡ accept
-    verdict = ap (λ v. v ▷ refuseIf (unsettled (newForward n ls w (edgesIn w)) || unsettled (newBackward n ls w (edgesIn w))) 13 0) h
-        ∙ accept-if 13 0 (or-false (rows-rest n ls (edgesIn w) ahead (w .memory .rows .forward) (longs .0)) (rows-rest n ls (map reverse (edgesIn w)) back (w .memory .rows .backward) (longs .1)))
-
-    told : report n ls w (edgesIn w) ≡ record { count = w .count; affected = 0; stores = 0 }
-    told = λ i. record { count = count i; affected = a i; stores = s i }
-      where
-        a : report n ls w (edgesIn w) .affected ≡ 0
-        a = let x = no-affected n ls (edgesIn w) ahead (w .memory .rows .forward) (longs .0) (rowsOf ls) in let y = no-affected n ls (map reverse (edgesIn w)) back (w .memory .rows .backward) (longs .1) (rowsOf ls) in omega arith
-
-        s : report n ls w (edgesIn w) .stores ≡ 0
-        s = let x = no-stores n ls (edgesIn w) ahead (w .memory .rows .forward) (longs .0) (rowsOf ls) in let y = no-stores n ls (map reverse (edgesIn w)) back (w .memory .rows .backward) (longs .1) (rowsOf ls) in omega arith
-
-    lists : batchMemory n ls w (edgesIn w) ≡ record { table = rewritten (edgesIn w) (w .memory .table); rows = w .memory .rows }
-    lists = λ i. record {
-      table = rewritten (edgesIn w) (w .memory .table);
-      rows = record {
-        forward = rows-kept n ls (edgesIn w) ahead (w .memory .rows .forward) (longs .0) i;
-        backward = rows-kept n ls (map reverse (edgesIn w)) back (w .memory .rows .backward) (longs .1) i;
-      };
-    }
-
-    whole : batchCall n ls w [] ≡ record {
-      reply = accepted (record { count = w .count; affected = 0; stores = 0 });
-      memory = record { table = rewritten (edgesIn w) (w .memory .table); rows = w .memory .rows };
-    }
-    whole = outcome-accepted (batchVerdict n ls w []) (report n ls w (edgesIn w)) (batchMemory n ls w (edgesIn w)) (w .memory) verdict
-        ∙ (λ i. record { reply = accepted (told i); memory = lists i })
-
-    records : edgesIn (record { memory = record { table = rewritten (edgesIn w) (w .memory .table); rows = w .memory .rows }; count = w .count }) ≡ edgesIn w
-    records = ap (λ k. edgesIn (record { memory = record { table = rewritten (edgesIn w) (w .memory .table); rows = w .memory .rows }; count = k })) (sym count) ∙ rewritten-edges (edgesIn w) (w .memory .table)
+unfolding reported
+empty-batch n ls w h = (
+  ap (λ o. o .reply) (whole n ls w h),
+  ap (λ o. o .memory .rows) (whole n ls w h),
+  ap (λ o. edgesIn (handOn w o)) (whole n ls w h) ∙ ap (λ k. edgesIn (anew n ls w h k)) (sym (count n ls w h)) ∙ rewritten-edges (edgesIn w) (w .memory .table),
+)
 
 -- ---- an update by the weight that is there
 
@@ -235,7 +222,7 @@ records-settled : (P : Property) (ws : List ℕ) (side r j : ℕ) (es : List Edg
 unfolding inRecords
 records-settled P ws side r j [] later h = refl
 records-settled P ws side r j (e ∷ es) later h =
-    ap (λ b. cond b (found side r j) (inRecords P ws side r (suc j) es later)) (h e (List·Memᴰ·head refl)) ∙ records-settled P ws side r (suc j) es later (λ x m. h x (List·Memᴰ·tail m))
+    rw (h e (List·Memᴰ·head refl)) (records-settled P ws side r (suc j) es later (λ x m. h x (List·Memᴰ·tail m)))
 
 rows-settled : (n : ℕ) (es : List Edge) (xs : List ℕ) (side : ℕ) (rs : List ℕ) (later : Check)
     → ((r : ℕ) → List·Memᴰ r rs → Settled (propertyOf r) es (row n r xs)) → inRows n es xs side rs later ≡ later
@@ -250,16 +237,12 @@ best-rows-settled : (n : ℕ) (ls : List ℕ) (es : List Edge) (xs : List ℕ) (
 best-rows-settled n ls es xs side later inside best = rows-settled n es xs side (rowsOf ls) later (λ r m.
     best-settled (property-laws (suc (r % properties))) es (landmarkOf ls r) n inside (row n r xs) (best r (let z = range-below 0 (rowCount ls) r m in omega arith)))
 
--- numbers 1 to 4 let a network pass that keeps the invariant
-pub good-faults : (n : ℕ) (ls : List ℕ) (w : Network) → Good n ls w → faults n ls w ≡ accept
-good-faults n ls w g = accept-then (g .sized) ∙ accept-then (g .roomy) ∙ accept-then (g .long) ∙ accept-then (g .chosen) ∙ g .sound
-
 -- At any moment the rows hold best words, of the edges ahead and of the reversed ones; no edge could better a best word.
 pub settled-after : SettledAfter
 unfolding settledCall replied
 settled-after n ls w h bs =
     let m = moment n ls w bs in
-    let g = (moment-good n ls w (open-judged n ls w ∙ h) bs) .0 in
+    let g = (begun n ls w h bs) .0 in
     let i = good-within n ls m g in
     ap (λ v. replied v (check n ls m)) (good-faults n ls m g)
     ∙ ap accepted (best-rows-settled n ls (edgesIn m) (m .memory .rows .forward) 0 _ i (g .forward)

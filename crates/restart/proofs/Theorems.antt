@@ -1,5 +1,5 @@
 -- The claim of specs/Claims.antt. Assumes nothing.
-use Rattle.property.proofs.Basics.{_≡_, refl, sym, ap, subst, _∙_, List, map, ℕ, suc, _*_, _%_, _≤_, _<_, arith, length, length-map, ext-getD}
+use Rattle.property.proofs.Basics.{_≡_, refl, sym, ap, _∙_, List, map, ℕ, suc, _*_, _%_, _≤_, _<_, arith, length, length-map, ext-getD}
 use Rattle.property.specs.Property.{properties}
 use Rattle.property.proofs.Instances.{property-laws}
 use Rattle.graph.specs.Limits.{maxEdges}
@@ -7,7 +7,7 @@ use Rattle.graph.specs.Refusal.{accept, accepted, verdictOf, over}
 use Rattle.graph.specs.Edge.{Edge, reverse}
 use Rattle.graph.specs.Table.{Columns, rules, shortTable, table}
 use Rattle.graph.proofs.Verdicts.{accept-then}
-use Rattle.graph.proofs.Order.{Sound, rules-accept}
+use Rattle.graph.proofs.Order.{rules-accept}
 use Rattle.graph.proofs.Judging.{lengths-accept, table-accept}
 use Rattle.theory.proofs.Exists.{best-same}
 use Rattle.network.specs.Network.{Rows, Network, edgesIn, rowCount, shortRows, landmarks, faults, row, propertyOf}
@@ -15,10 +15,10 @@ use Rattle.network.specs.Open.{openCall}
 use Rattle.network.specs.Caller.{openedNetwork}
 use Rattle.network.specs.History.{moment, edgesNow}
 use Rattle.network.proofs.Items.{accept-table, length-over}
-use Rattle.network.proofs.Rows.{RowsBest}
-use Rattle.network.proofs.Moment.{Good, good-count, opens, moment-good}
-use Rattle.network.proofs.Never.{open-judged}
-use Rattle.network.proofs.Steady.{long-rows, row-long}
+use Rattle.network.proofs.Rows.{RowsBest, long-rows}
+use Rattle.network.proofs.Moment.{Good, good-count, opens}
+use Rattle.network.proofs.Never.{open-judged, begun}
+use Rattle.network.proofs.Steady.{row-long}
 use Rattle.dimacs.specs.Network as net
 use Rattle.dimacs.specs.Call.{filled}
 use Rattle.dimacs.specs.Claims.{Table}
@@ -43,9 +43,9 @@ good-same n ls v w g h e = record {
   records = e;
   count = sym (good-count n ls v g) ∙ ap (λ (fs : List Edge). length fs) e ∙ good-count n ls w h;
   forward = rows-same n ls (edgesIn w) (v .memory .rows .forward) (w .memory .rows .forward) (long-rows n ls (v .memory .rows) (g .long) .0) (long-rows n ls (w .memory .rows) (h .long) .0)
-      (subst (λ (fs : List Edge). RowsBest n ls fs (v .memory .rows .forward)) e (g .forward)) (h .forward);
+      (rw e at (g .forward)) (h .forward);
   backward = rows-same n ls (map reverse (edgesIn w)) (v .memory .rows .backward) (w .memory .rows .backward) (long-rows n ls (v .memory .rows) (g .long) .1) (long-rows n ls (w .memory .rows) (h .long) .1)
-      (subst (λ (fs : List Edge). RowsBest n ls (map reverse fs) (v .memory .rows .backward)) e (g .backward)) (h .backward);
+      (rw e at (g .backward)) (h .backward);
 }
 
 -- ---- a table that was read
@@ -53,10 +53,10 @@ good-same n ls v w g h e = record {
 filled-long : (es : List Edge) (ds : Columns) → length es ≤ maxEdges → shortTable ds ≡ accept → shortTable (filled es ds) ≡ accept
 filled-long es ds f s =
     let l = lengths-accept (ds .tails) (ds .heads) (ds .weights) s in
-    let a : length (map (λ e. e .tail) es) ≤ length (ds .tails) = omega (arith, length-map es (λ e. e .tail), l .tails) in
-    let b : length (map (λ e. e .head) es) ≤ length (ds .heads) = omega (arith, length-map es (λ e. e .head), l .heads) in
-    let c : length (map (λ e. e .weight) es) ≤ length (ds .weights) = omega (arith, length-map es (λ e. e .weight), l .weights) in
-    rw (length-over (map (λ e. e .tail) es) (ds .tails) a, length-over (map (λ e. e .head) es) (ds .heads) b, length-over (map (λ e. e .weight) es) (ds .weights) c) s
+    rw (kept (λ e. e .tail) (ds .tails) (l .tails), kept (λ e. e .head) (ds .heads) (l .heads), kept (λ e. e .weight) (ds .weights) (l .weights)) s
+  where
+    kept : (g : Edge → ℕ) (xs : List ℕ) → maxEdges ≤ length xs → length (over (map g es) xs) ≡ length xs
+    kept g xs h = length-over (map g es) xs (omega (arith, length-map es g))
 
 module _ (n : ℕ) (ls : List ℕ) (es : List Edge) (t : Table n es) (c : landmarks n ls ≡ accept) (ds : Columns) (xs : Rows)
     (s : shortTable ds ≡ accept) (l : shortRows n ls xs ≡ accept) where
@@ -65,7 +65,7 @@ module _ (n : ℕ) (ls : List ℕ) (es : List Edge) (t : Table n es) (c : landma
 
   restored-faults : faults n ls (restored es ds xs) ≡ accept
   restored-faults = accept-then (t .vertices) ∙ accept-then (filled-long es ds (t .few) s) ∙ accept-then l ∙ accept-then c
-      ∙ accept-table n (filled es ds) (length es) (t .few) (subst (Sound n) (sym restored-edges) (rules-accept n es (t .rules)))
+      ∙ accept-table n (filled es ds) (length es) (t .few) (rw restored-edges (rules-accept n es (t .rules)))
 
   restored-opens : verdictOf ((openCall n ls (restored es ds xs)) .reply) ≡ accept
   restored-opens = open-judged n ls (restored es ds xs) ∙ restored-faults
@@ -98,7 +98,7 @@ saved n ls w es g e = record {
     held = record { vertices = g .sized; few = omega (arith, few, good-count n ls w g); rules = table-accept n (w .memory .table) (w .count) (g .sound) .1 }
 
     good : Table n es
-    good = subst (λ (fs : List Edge). Table n fs) e held
+    good = rw e at held
 
     writes : (out : List ℕ) → length text ≤ length out → Writes n (w .memory .table) (w .count) out (length text)
     writes out r = record {
@@ -117,5 +117,5 @@ saved n ls w es g e = record {
 -- words, as those of the network that was saved do; and a best value is one only.
 pub restart : Restart
 restart n ls w h bs =
-    let z = moment-good n ls w (open-judged n ls w ∙ h) bs in
+    let z = begun n ls w h bs in
     saved n ls (moment n ls w bs) (edgesNow n w bs) (z .0) (z .1)

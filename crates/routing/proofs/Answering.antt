@@ -1,5 +1,5 @@
 -- What the search finds is the preferred route, and where it finds none there is none; and the outcomes of the call. Assumes nothing.
-use Rattle.property.proofs.Basics.{_≡_, refl, sym, ap, subst, _∙_, inl, inr, _≢_, Bool, true, false, true≢false, not, List, List·Memᴰ, ℕ, suc, ℕ-discrete, length, eqb, ltb, eqb-true, ltb-true, ltb-false, eq-eqb, ne-eqb}
+use Rattle.property.proofs.Basics.{_≡_, sym, ap, _∙_, inl, inr, _≢_, Bool, true, false, not, List, ℕ, suc, ℕ-discrete, length, eqb, ltb, eqb-true, ltb-true, ltb-false, eq-eqb, ne-eqb}
 use Rattle.property.specs.Property.{Property, property}
 use Rattle.property.proofs.Tests.{by-test}
 use Rattle.graph.specs.declared.Judged.{Judged}
@@ -56,13 +56,9 @@ routable-asked {n} g = record {
 }
 
 -- whether the target was found, by what the search told
-pub told-lacks : (r u : Bool) → r ≡ not u → not r ≡ true → u ≡ true
-told-lacks r true e h = refl
-told-lacks r false e h = absurd (true≢false (sym h ∙ ap not e))
-
-pub told-finds : (r u : Bool) → r ≡ not u → not r ≡ false → u ≡ false
-told-finds r true e h = absurd (true≢false (sym (ap not e) ∙ h))
-told-finds r false e h = refl
+told-not : (r u : Bool) → r ≡ not u → u ≡ not r
+told-not r true e = sym (ap not e)
+told-not r false e = sym (ap not e)
 
 module _ (n : ℕ) (cs : Columns) (m : ℕ) (q : Request) where
   abbrev es : List Edge
@@ -82,25 +78,22 @@ module _ (n : ℕ) (cs : Columns) (m : ℕ) (q : Request) where
 
   -- ---- the search and the preferred route
 
-  module _ (g : Asked n es (q .property) (q .source) (q .target)) where
+  -- r is what the search told: whether the target was found
+  module _ (g : Asked n es (q .property) (q .source) (q .target)) {r : Bool} (e : r ≡ not (isUnfound st (q .target))) where
     -- an eligible edge is searched, so where there is a best route the search does not lack its target
-    pub lacks-route : isUnfound st (q .target) ≡ true → bestWord n cs m q ≡ P .none
-    lacks-route h = pick (ℕ-discrete (bestWord n cs m q) (P .none))
-      where
-        searches : (e : Edge) → List·Memᴰ e (keep isCandidate es) → List·Memᴰ e (keep isSought es)
-        searches e k =
-            let (a, b) = keep-in isCandidate es e k in
-            in-keep isSought a (or-right (eqb (q .property) 2) (or-right (ltb 4 (q .property)) b))
+    pub lacks-route : not r ≡ true → bestWord n cs m q ≡ P .none
+    lacks-route h = elim (ℕ-discrete (bestWord n cs m q) (P .none)) [
+      | yes z ↦ z
+      | no d ↦
+          let (qs, l) = eligible-leads g d in
+          absurd (search-lacks isSought es n (q .source) (g .sound) (g .few) (g .source) (q .target) (told-not r _ e ∙ h) qs (leads-map (λ e k.
+          let (a, b) = keep-in isCandidate es e k in
+          in-keep isSought a (or-right (eqb (q .property) 2) (or-right (ltb 4 (q .property)) b))) l))
+    ]
 
-        pick : Dec (bestWord n cs m q ≡ P .none) → bestWord n cs m q ≡ P .none
-        pick (yes z) = z
-        pick (no d) =
-            let (qs, l) = eligible-leads n es (q .property) (q .source) (q .target) g d in
-            absurd (search-lacks isSought es n (q .source) (g .sound) (g .few) (g .source) (q .target) h qs (leads-map searches l))
-
-    module _ (h : isUnfound st (q .target) ≡ false) where
+    module _ (h : not r ≡ false) where
       found : Found (keep isSought es) (q .source) (q .target) (st .via)
-      found = search-finds isSought es n (q .source) (g .sound) (g .few) (g .source) (q .target) (g .target) h
+      found = search-finds isSought es n (q .source) (g .sound) (g .few) (g .source) (q .target) (g .target) (told-not r _ e ∙ h)
 
       abbrev ps : List Edge
       ps = found .0
@@ -110,7 +103,7 @@ module _ (n : ℕ) (cs : Columns) (m : ℕ) (q : Request) where
       leads = leads-map (λ e k. (keep-in isSought es e k) .0) (found .1 .0)
 
       pub some-route : bestWord n cs m q ≢ P .none
-      some-route z = unrouted n es (q .property) (q .source) (q .target) g .0 z ps leads
+      some-route z = unrouted g .0 z ps leads
 
       -- For handovers and reach every edge is searched, and what comes first of all routes is preferred. For the others the eligible edges are
       -- searched, and what comes first of their routes is.
@@ -119,16 +112,16 @@ module _ (n : ℕ) (cs : Columns) (m : ℕ) (q : Request) where
           (λ z. fewest-preferred (q .property) (inl (eqb-true _ _ z)) (leads, λ qs l. found .1 .1 qs (leads-map (λ e k. in-keep isSought k (rw z)) l)))
           (λ z. by-test (ltb 4 (q .property))
           (λ y. fewest-preferred (q .property) (inr (ltb-true _ _ y)) (leads, λ qs l. found .1 .1 qs (leads-map (λ e k. in-keep isSought k (rw (z, y))) l)))
-          (λ y. least-preferred n es (q .property) (q .source) (q .target) g some-route (
+          (λ y. least-preferred g some-route (
             leads-map (λ e k. let (a, b) = keep-in isSought es e k in in-keep isCandidate a (rw (z, y) at b)) (found .1 .0),
             λ qs l. found .1 .1 qs (leads-map (λ e k. let (a, b) = keep-in isCandidate es e k in in-keep isSought a (rw (z, y) b)) l),
           )))
 
       -- there is one preferred route, and in a table its vertices determine its edges
-      pub found-preferred : Trace (q .source) (q .target) (st .via) (preferred n cs m q)
-      found-preferred =
+      pub found-preferred : (vs : List ℕ) → vs ≡ st .via → Trace (q .source) (q .target) vs (preferred n cs m q)
+      found-preferred vs z =
           let (p, k) = preferred-holds n cs m q g some-route in
-          subst (Trace (q .source) (q .target) (st .via)) (visited-edges n es (g .sound) leads (p .best .leads) (preferred-unique is-preferred p)) (found .2)
+          rw (z, ← (visited-edges n es (g .sound) leads (p .best .leads) (preferred-unique is-preferred p))) (found .2)
 
   -- ---- the outcomes
 

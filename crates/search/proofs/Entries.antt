@@ -9,7 +9,7 @@
 --   Reached gs k v  == an entry of gs is of vertex v, and its route's number is at most k
 --   Grows gs gs′    == gs′ is gs with entries put after it
 --   Rising c os     == the heads of the edges os ascend, from c on
-use Rattle.property.proofs.Basics.{_≡_, refl, ap, subst, _∙_, ⊎-elim, _≢_, List, [], _∷_, _++_, List·Memᴰ, List·Memᴰ·head, List·Memᴰ·tail, ℕ, zero, suc, _≤_, _<_, arith, length, getD, length-append, List·getD-append, eqb, eqb-true}
+use Rattle.property.proofs.Basics.{_≡_, refl, ap, _∙_, ⊎-elim, _≢_, List, [], _∷_, _++_, List·Memᴰ, List·Memᴰ·head, List·Memᴰ·tail, ℕ, zero, suc, _≤_, _<_, arith, length, getD, length-append, List·getD-append, eqb, eqb-true}
 use Rattle.property.proofs.Tests.{by-test}
 use Rattle.graph.specs.Edge.{Edge, keepIf, keep, leaving}
 use Rattle.graph.specs.Table.{isEdge}
@@ -79,5 +79,5 @@ leaving-rising n u (x ∷ es) h c b = by-test (eqb (x .tail) u)
     after : x .tail ≡ u → (e : Edge) → List·Memᴰ e es → e .tail ≡ u → x .head < e .head
     after q e m p =
         let (k, l, r) = mem-index x m in
-        let z : Less x e = subst (λ (y : Edge). Less x y) r (less-of x (getD es k x) (sorted-before table-ordered (isEdge n) x (x ∷ es) h 0 (suc k) (omega arith) (omega arith))) in
+        let z : Less x e = rw r at (less-of x (getD es k x) (sorted-before table-ordered (isEdge n) x (x ∷ es) h 0 (suc k) (omega arith) (omega arith))) in
         ⊎-elim (λ a. absurd (omega arith)) (λ a. a .1) z

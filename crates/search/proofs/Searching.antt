@@ -13,7 +13,7 @@ use Rattle.property.proofs.Basics.{_≡_, refl, sym, ap, subst, _∙_, _⊎_, i
 use mathlib.Core.List.{map-append, List·Memᴰ·append-cases}
 use lib.ListN.{getD-replicate}
 use lib.Seq.{getD-append-seam}
-use Rattle.property.proofs.Tests.{by-test}
+use Rattle.property.proofs.Tests.{by-test, is-false}
 use Rattle.graph.specs.Limits.{maxVertices}
 use Rattle.graph.specs.Arc.{arc}
 use Rattle.graph.specs.Edge.{Edge, edge, keep, leaving}
@@ -43,7 +43,7 @@ module _ (f : Edge → Bool) (es : List Edge) (n s : ℕ) (sound : Sound n es) (
 
   -- no arc of an edge is the word of a vertex that is not found
   arc-found : (e : Edge) → List·Memᴰ e (keep f es) → arc (e .tail) (e .weight) ≢ unfound
-  arc-found e m q = let z = kept-fit e m in let a = z .tail-below in let b = z .weight-most in omega (arith, small)
+  arc-found e m q = let z = kept-fit e m in omega (arith, small)
 
   pub record Entered (vs : List ℕ) (j : ℕ) (g : Entry) : Type 0 where
     pub leads : Leads (keep f es) s (g .route) (g .vertex)
@@ -76,7 +76,7 @@ module _ (f : Edge → Bool) (es : List Edge) (n s : ℕ) (sound : Sound n es) (
 
   -- An edge from entry i whose head is not found yet. Its entry is put last: the route goes on along the edge, and its number is at least b, so it comes
   -- after all others. Words that the invariant speaks of stay, for the word that is stored over is `unfound`, which no arc is.
-  module _ (gs : List Entry) (st : Search) (i b : ℕ) (u : Under gs st i b) (l : i < length gs) (e : Edge) (m : List·Memᴰ e (keep f es)) (p : e .tail ≡ (entry gs i) .vertex)
+  module _ {gs : List Entry} {st : Search} {i b : ℕ} (u : Under gs st i b) (l : i < length gs) (e : Edge) (m : List·Memᴰ e (keep f es)) (p : e .tail ≡ (entry gs i) .vertex)
       (c : b ≤ key (entry gs i) * maxVertices + e .head) (o : getD (st .via) (e .head) 0 ≡ unfound) where
     abbrev next : Entry
     next = record { vertex = e .head; route = (entry gs i) .route ++ e ∷ [] }
@@ -168,8 +168,7 @@ module _ (f : Edge → Bool) (es : List Edge) (n s : ℕ) (sound : Sound n es) (
   unfolding look finds
   look-gone gs st i k c l q u e m p a = by-test (f e)
       (λ t. by-test (isUnfound st (e .head))
-      (λ o. rw (t, o) (subst (λ x. Gone gs (finds true st e) i x (suc (e .head)) (λ y. y ≡ e)) q
-      (gone-finds gs st i _ u l e (in-keep f m t) p (omega (arith, q, a)) (eqb-true (getD (st .via) (e .head) 0) unfound o))))
+      (λ o. rw (t, o, ← q) (gone-finds u l e (in-keep f m t) p (omega (arith, q, a)) (eqb-true (getD (st .via) (e .head) 0) unfound o)))
       (λ o. rw (t, o) (
         gs,
         grows-none gs,
@@ -237,12 +236,9 @@ module _ (f : Edge → Bool) (es : List Edge) (n s : ℕ) (sound : Sound n es) (
   queue-long : {gs : List Entry} {st : Search} {i b : ℕ} → Under gs st i b → length (st .queue) ≡ length gs
   queue-long {gs} u = ap length (u .held .queued) ∙ length-map gs (λ (g : Entry). g .vertex)
 
-  under-done : (t i : ℕ) (st : Search) (gs : List Entry) (b : ℕ) → Under gs st i b → Ready gs i b → (isUnfound st t ≡ true → length gs ≤ i) → Done t st
-  under-done t i st gs b u r h = record { entries = gs; index = i; bound = b; under = u; ready = r; spent = h }
-
   -- the queue has at most n entries, so as many turns are enough
   search-done : (t k i : ℕ) (st : Search) (gs : List Entry) (b : ℕ) → Under gs st i b → Ready gs i b → n ≤ k + i → Done t (search f es t k i st)
-  search-done t zero i st gs b u r h = subst (Done t) (sym (search-none f es t i st)) (under-done t i st gs b u r (λ _. let z = u .held .once in omega (arith, h)))
+  search-done t zero i st gs b u r h = subst (Done t) (sym (search-none f es t i st)) (record { entries = gs; index = i; bound = b; under = u; ready = r; spent = λ _. let z = u .held .once in omega (arith, h) })
   search-done t (suc k) i st gs b u r h = by-test (ltb i (length (st .queue)) && isUnfound st t)
       (λ q.
       let z = both (ltb i (length (st .queue))) (isUnfound st t) q in
@@ -251,10 +247,14 @@ module _ (f : Edge → Bool) (es : List Edge) (n s : ℕ) (sound : Sound n es) (
       subst (Done t) (sym (search-more f es t k i st q))
       (search-done t k (suc i) _ gs′ _ w (λ d. let a = (w .held .ascending i (suc i) (omega arith) d) .0 in let e = ap key (g .same i l) in omega arith) (omega (arith, h))))
       (λ q. subst (Done t) (sym (search-stops f es t k i st q))
-      (under-done t i st gs b u r (λ o. let y = ltb-false i (length (st .queue)) (unmet q o) in omega (arith, queue-long u))))
-    where
-      unmet : {x y : Bool} → (x && y) ≡ false → y ≡ true → x ≡ false
-      unmet {x} q o = by-test x (λ p. absurd (true≢false (sym (and-true p o) ∙ q))) (λ p. p)
+      (record {
+        entries = gs;
+        index = i;
+        bound = b;
+        under = u;
+        ready = r;
+        spent = λ o. let y = ltb-false i (length (st .queue)) (is-false _ (λ p. true≢false (sym (and-true p o) ∙ q))) in omega (arith, queue-long u);
+      }))
 
   -- before the first step the source is found, by no edge
   begun-held : Held (record { vertex = s; route = [] } ∷ []) (begun n s)
@@ -263,22 +263,18 @@ module _ (f : Edge → Bool) (es : List Edge) (n s : ℕ) (sound : Sound n es) (
     sized = length-set (replicate n unfound) s noArc ∙ length-replicate n unfound;
     source = getD-set-same (replicate n unfound) s noArc 0 inner;
     once = (let z = equal-set unfound (replicate n unfound) s noArc inner (getD-replicate n s unfound 0 home) (λ q. omega arith) in let y = equal-all unfound n in omega arith);
-    entered = first;
+    entered = each-on (Entered ((begun n s) .via)) [] _ (λ j h. absurd (omega arith)) (record {
+      leads = stop;
+      found = λ q. (let z = getD-set-same (replicate n unfound) s noArc 0 inner in omega arith);
+      traced = λ e m. absurd (List·Memᴰ·not-nil m);
+      few = (omega arith);
+    });
     known = λ u h q. ⊎-elim (λ a. (0, (omega arith), sym (a .0))) (λ a. absurd (q (a .1 ∙ getD-replicate n u unfound 0 h))) (at-set (replicate n unfound) s noArc u 0 inner);
     ascending = λ j k h l. absurd (omega arith);
   }
     where
       inner : s < length (replicate n unfound)
       inner = let z = length-replicate n unfound in omega (arith, home)
-
-      first : (j : ℕ) → j < 1 → Entered ((begun n s) .via) j (entry (record { vertex = s; route = [] } ∷ []) j)
-      first zero h = record {
-        leads = stop;
-        found = λ q. (let z = getD-set-same (replicate n unfound) s noArc 0 inner in omega arith);
-        traced = λ e m. absurd (List·Memᴰ·not-nil m);
-        few = (omega arith);
-      }
-      first (suc j) h = absurd (omega arith)
 
   begun-under : Under (record { vertex = s; route = [] } ∷ []) (begun n s) 0 maxVertices
   begun-under = record { held = begun-held; bounded = λ j h. (let z : j ≡ 0 = omega arith in rw z (omega arith)); closed = λ j h. absurd (omega arith) }
@@ -288,7 +284,7 @@ module _ (f : Edge → Bool) (es : List Edge) (n s : ℕ) (sound : Sound n es) (
 
   -- ---- what routes come to at the end
 
-  module _ (gs : List Entry) (st : Search) (i b : ℕ) (u : Under gs st i b) (r : Ready gs i b) where
+  module _ {gs : List Entry} {st : Search} {i b : ℕ} (u : Under gs st i b) (r : Ready gs i b) where
     -- entry 0 has at most 0 edges, so it is the source's
     start-reached : Reached gs 1 s
     start-reached =
@@ -305,11 +301,8 @@ module _ (f : Edge → Bool) (es : List Edge) (n s : ℕ) (sound : Sound n es) (
     -- the head of an edge from it is found by a route that is no later; and where it is not, all that is found comes before what would follow on it.
     leads-covered : {v x : ℕ} {qs : List Edge} (k : ℕ) → Leads (keep f es) v qs x → Covered k v → Covered (rank k qs) x
     leads-covered k stop c = c
-    leads-covered k (on {e = e} m l) c = leads-covered (k * maxVertices + e .head) l (⊎-elim found past c)
+    leads-covered k (on {e = e} m l) c = leads-covered (k * maxVertices + e .head) l (⊎-elim found (λ a. inr (λ j h. let z = a j h in omega arith)) c)
       where
-        past : ((j : ℕ) → j < length gs → key (entry gs j) ≤ k) → Covered (k * maxVertices + e .head) (e .head)
-        past a = inr (λ j h. let z = a j h in omega arith)
-
         found : Reached gs k (e .tail) → Covered (k * maxVertices + e .head) (e .head)
         found (j, h, p, q) = by-test (ltb j i)
             (λ t. let (d, g, y, z) = u .closed j (ltb-true _ _ t) h e m (sym p) in inl (d, g, y, omega (arith, q)))
@@ -386,13 +379,13 @@ module _ (f : Edge → Bool) (es : List Edge) (n s : ℕ) (sound : Sound n es) (
   search-finds t h q =
       let d = searched-done t in
       let (j, l, p) = d .under .held .known t h (eqb-false _ _ q) in
-      subst (λ x. Found (keep f es) s x ((search f es t n 0 (begun n s)) .via)) p (entry-found (d .entries) _ (d .index) (d .bound) (d .under) (d .ready) j l)
+      rw p at (entry-found (d .under) (d .ready) j l)
 
   -- Where t is not found the search has gone on until all was expanded: each entry is another vertex, so there are at most n, and n turns are enough. Then
   -- the head of each edge from a vertex found is found, so each vertex that a route leads to is, and t is none of them.
   pub search-lacks : (t : ℕ) → isUnfound (search f es t n 0 (begun n s)) t ≡ true → (qs : List Edge) → Leads (keep f es) s qs t → ⊥
   search-lacks t q qs l =
       let d = searched-done t in
-      let (j, g, p, _) = start-reached (d .entries) _ (d .index) (d .bound) (d .under) (d .ready) in
-      let (k, c, r) = leads-known (d .entries) _ (d .index) (d .bound) (d .under) (d .ready) (d .spent q) l (j, g, p) in
+      let (j, g, p, _) = start-reached (d .under) (d .ready) in
+      let (k, c, r) = leads-known (d .under) (d .ready) (d .spent q) l (j, g, p) in
       (d .under .held .entered k c) .found (rw r (eqb-true _ _ q))

@@ -3,7 +3,7 @@
 -- A vertex is put at the end of the queue when it is found, and then its word is an arc's, which is never `unfound`. So the words that are
 -- `unfound` fall by one whenever the queue grows by one: together they stay as many as there are vertices. Where one more is found, some word was
 -- `unfound`, so the queue has room for it; and the entry that is expanded is always below the number of vertices, so that number of steps suffices.
-use Rattle.property.proofs.Basics.{_≡_, sym, ap, ap₂, _∙_, _≢_, _⊎_, inl, inr, ⊎-elim, Bool, true, false, _&&_, _||_, List, foldl, not, ℕ, zero, suc, _+_, _-_, _≤_, _<_, add-one, arith, length, getD, set, take, replicate, eqb, ltb, length-set, length-replicate, length-take-le, take-suc-set, getD-take, sub-zero, getD-set-same, lt-ltb, le-ltb, eqb-true, le-leb, lt-leb}
+use Rattle.property.proofs.Basics.{_≡_, sym, ap, ap₂, _∙_, _≢_, _⊎_, inl, inr, ⊎-elim, Bool, true, false, _||_, List, foldl, not, ℕ, zero, suc, _+_, _-_, _≤_, _<_, add-one, arith, length, getD, set, take, replicate, eqb, ltb, length-set, length-replicate, length-take-le, take-suc-set, getD-take, sub-zero, getD-set-same, lt-ltb, le-ltb, eqb-true, le-leb, lt-leb}
 use Rattle.property.proofs.Tests.{by-test}
 use Rattle.property.specs.Property.{property}
 use Rattle.property.proofs.Instances.{property-rest}
@@ -36,9 +36,7 @@ module _ (p v x w y : ℕ) where
 pub eligible-word : (p v u h w a : ℕ) (ws : List ℕ) (r : Bool) → u < length ws → arcHead a < length ws → h ≡ arcHead a → w ≡ arcWeight a
     → r ≡ isEligible p v (getD ws u 0) w (getD ws h 0) → eligible p ws v (edge u (arcHead a) (arcWeight a)) ≡ r
 eligible-word p v u h w a ws r i j f g e =
-    let P = property p in
-    let k : getD ws (arcHead a) (P .none) ≡ getD ws h 0 = getD-within ws (arcHead a) (P .none) 0 j ∙ ap (λ (x : ℕ). getD ws x 0) (sym f) in
-    rw (e, getD-within ws u (P .none) 0 i, k, g)
+    rw (e, getD-within ws u (property p .none) 0 i, getD-within ws (arcHead a) (property p .none) 0 j, f, g)
 
 -- ---- a vertex is found
 
@@ -46,9 +44,7 @@ eligible-word p v u h w a ws r i j f g e =
 pub look-keeps : (h m : ℕ) (qs vs : List ℕ) (f : Edge → Bool) (e : Edge) (t : Bool) → f e ≡ t → e .head ≡ h → (t ≡ false) ⊎ (eqb (getD vs h 0) unfound ≡ false)
     → searchOf m qs vs ≡ look f (searchOf m qs vs) e
 unfolding look finds
-look-keeps h m qs vs f e t q p g =
-    let r : f e && isUnfound (searchOf m qs vs) (e .head) ≡ false = ap₂ _&&_ q (ap (λ (x : ℕ). eqb (getD vs x 0) unfound) p) ∙ and-false t _ g in
-    rw r
+look-keeps h m qs vs f e t q p g = rw (q, p, and-false t (eqb (getD vs h 0) unfound) g)
 
 module _ (h by m : ℕ) (qs vs : List ℕ) (l : h < length vs) (b : by ≢ unfound) (s : Searching m qs vs) (t : eqb (getD vs h 0) unfound ≡ true) where
   -- what is not found yet is counted, so the queue has room for one more
@@ -76,8 +72,7 @@ module _ (h by m : ℕ) (qs vs : List ℕ) (l : h < length vs) (b : by ≢ unfou
   unfolding look finds
   look-finds f e q p a =
       let z = queue-room in
-      let r : f e && isUnfound (searchOf m qs vs) (e .head) ≡ true = ap₂ _&&_ q (ap (λ (x : ℕ). eqb (getD vs x 0) unfound) p ∙ t) in
-      rw (r, add-one, take-suc-set qs m h (omega (arith, s .room)), p, a)
+      rw (q, p, t, add-one, take-suc-set qs m h (omega (arith, s .room)), a)
 
 -- ---- a vertex is expanded
 

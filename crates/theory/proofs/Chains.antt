@@ -5,9 +5,10 @@
 --   Deep k i st           == after k rounds and the visits below i of one more: each vertex that waits has such a chain, of more than k + 1
 --                            vertices, or of more than k where its visit is still to come
 --   Going k i st          == the same while i is handled, which has its chain of more than k
-use Rattle.property.proofs.Basics.{_≡_, refl, sym, _∙_, _⊎_, inl, inr, ⊎-elim, _≢_, Bool, true, false, true≢false, false≢true, List, [], _∷_, foldl, List·Memᴰ, List·Memᴰ·head, List·Memᴰ·tail, ℕ, zero, suc, _+_, _≤_, _<_, ℕ-discrete, decLt, arith, getD, set, length, replicate, List·getD-eq-default, length-set, length-replicate, getD-set-same, getD-set-other, set-out}
+use Rattle.property.proofs.Basics.{_≡_, refl, sym, _∙_, _⊎_, inl, inr, ⊎-elim, _≢_, Bool, true, false, true≢false, false≢true, List, foldl, List·Memᴰ, ℕ, zero, suc, _+_, _≤_, _<_, ℕ-discrete, decLt, arith, getD, set, length, replicate, List·getD-eq-default, length-set, length-replicate, getD-set-same, getD-set-other, set-out}
 use Rattle.property.specs.Property.{M, Property}
 use Rattle.property.specs.Laws.{Laws}
+use Rattle.property.proofs.Tests.{is-false, by-test}
 use Rattle.property.proofs.Instances.{property-laws}
 use Rattle.frontier.specs.Waiting.{anyOf, countOf}
 use Rattle.frontier.proofs.Counts.{count-le}
@@ -16,9 +17,9 @@ use Rattle.graph.specs.Edge.{Edge, leaving, range}
 use Rattle.graph.proofs.Lists.{at-set, replicate-at, getD-within}
 use Rattle.graph.proofs.Edges.{leaving-in}
 use Rattle.graph.proofs.Order.{Within}
-use Rattle.run.specs.Run.{State, oneRound, counted, word, waits, relaxable, storeIf, relax, clear, handle, visitIf, visit, pass, round, settle}
+use Rattle.run.specs.Run.{State, oneRound, counted, word, waits, relaxable, storeIf, clear, handle, visitIf, visit, pass, round, settle}
 use Rattle.theory.specs.Rest.{FitWords, NothingWaits, NothingWaitsOn, AllRounds}
-use Rattle.theory.proofs.Settle.{store-betters, pass-keeps, settle-idle, settle-more}
+use Rattle.theory.proofs.Settle.{relaxes-keep, handle-keeps, store-betters, pass-keeps, settle-idle, settle-more}
 use Rattle.theory.proofs.Rounds.{settle-all}
 
 -- ---- chains
@@ -43,24 +44,10 @@ pub record Caused (P : Property) (es : List Edge) (n : ℕ) (ws : List ℕ) (k v
 -- ---- a bit that was cleared
 
 clear-same : (l : List Bool) (i : ℕ) → getD (set l i false) i false ≡ false
-clear-same l i = pick (decLt i (length l))
-  where
-    pick : Dec (i < length l) → getD (set l i false) i false ≡ false
-    pick (yes h) = getD-set-same l i false false h
-    pick (no d) = rw (set-out l i false (omega arith)) (List·getD-eq-default l false (omega arith))
-
--- ---- what a store along an edge of the list keeps, going along all of the list keeps
-
-relaxes-keep : (P : Property) (Q : State → Type 0) (l : List Edge)
-    → ((st : State) (o : Edge) → List·Memᴰ o l → relaxable P (st .words) o ≡ true → Q st → Q (storeIf true P st o))
-    → (st : State) → Q st → Q (foldl (relax P) st l)
-unfolding relax storeIf
-relaxes-keep P Q [] f st q = q
-relaxes-keep P Q (o ∷ l) f st q = relaxes-keep P Q l (λ a e m. f a e (List·Memᴰ·tail m)) (relax P st o) (pick (relaxable P (st .words) o) refl)
-  where
-    pick : (b : Bool) → relaxable P (st .words) o ≡ b → Q (storeIf b P st o)
-    pick true c = f st o (List·Memᴰ·head refl) c q
-    pick false c = q
+clear-same l i = elim (decLt i (length l)) [
+  | yes h ↦ getD-set-same l i false false h
+  | no d ↦ rw (set-out l i false (omega arith)) (List·getD-eq-default l false (omega arith))
+]
 
 module _ {P : Property} (L : Laws P) (es : List Edge) (n : ℕ) (inside : Within n es) where
   open Property P using (none, along, better)
@@ -68,11 +55,10 @@ module _ {P : Property} (L : Laws P) (es : List Edge) (n : ℕ) (inside : Within
   -- ---- words of 32 bits
 
   word-fits : (st : State) → FitWords n st → (t : ℕ) → word P (st .words) t ≤ M
-  word-fits st g t = pick (decLt t n)
-    where
-      pick : Dec (t < n) → word P (st .words) t ≤ M
-      pick (yes h) = let b : t < length (st .words) = let z = g .words in omega arith in rw (getD-within (st .words) t none 0 b) (g .fits t h)
-      pick (no d) = rw (List·getD-eq-default (st .words) none {n = t} (let z = g .words in omega arith)) (L .none-fits)
+  word-fits st g t = let z = g .words in elim (decLt t n) [
+    | yes h ↦ rw (getD-within (st .words) t none 0 (omega arith)) (g .fits t h)
+    | no d ↦ rw (List·getD-eq-default (st .words) none {n = t} (omega arith)) (L .none-fits)
+  ]
 
   clear-words : (st : State) (i : ℕ) → FitWords n st → FitWords n (clear st i)
   unfolding clear
@@ -89,14 +75,10 @@ module _ {P : Property} (L : Laws P) (es : List Edge) (n : ℕ) (inside : Within
             (at-set (st .words) (o .head) (along (word P (st .words) (o .tail)) (o .weight)) t 0 b);
       }
 
-  handle-words : (st : State) (i : ℕ) → FitWords n st → FitWords n (handle P es st i)
-  unfolding handle
-  handle-words st i g = relaxes-keep P (FitWords n) (leaving i es) (λ a o m c q. store-words a o ((leaving-in i es o m) .0) q) (clear st i) (clear-words st i g)
-
   -- a schedule leaves words of 32 bits
   pub pass-words : (vs : List ℕ) (st : State) → FitWords n st → FitWords n (pass P es vs st)
   pass-words vs st g =
-      pass-keeps P es (FitWords n) handle-words (λ a q. record { words = q .words; waiting = q .waiting; fits = q .fits }) vs st g
+      pass-keeps P es (FitWords n) (handle-keeps P es (FitWords n) clear-words (λ a o m c. store-words a o m)) (λ a q. record { words = q .words; waiting = q .waiting; fits = q .fits }) vs st g
 
   -- ---- one store
 
@@ -116,7 +98,7 @@ module _ {P : Property} (L : Laws P) (es : List Edge) (n : ℕ) (inside : Within
     store-caused : {k : ℕ} → Caused P es n ws k (o .tail) → Caused P es n stored (suc k) (o .head)
     store-caused {k = k} d =
         let l : o .head < length (d .marks) = let z = chain-length (d .chain) in omega (arith, inside .heads o m) in
-        let a : getD (d .marks) (o .head) false ≡ false = unmarked (getD (d .marks) (o .head) false) refl in
+        let a : getD (d .marks) (o .head) false ≡ false = is-false _ (λ e. store-apart (o .head) (d .behind (o .head) e) refl) in
         record {
           marks = set (d .marks) (o .head) true;
           chain = caused m (d .chain) a;
@@ -126,10 +108,6 @@ module _ {P : Property} (L : Laws P) (es : List Edge) (n : ℕ) (inside : Within
               (at-set (d .marks) (o .head) true x false l);
           long = let z = d .long in omega (arith, count-insert (d .marks) (o .head) l a);
         }
-      where
-        unmarked : (t : Bool) → getD (d .marks) (o .head) false ≡ t → getD (d .marks) (o .head) false ≡ false
-        unmarked false e = e
-        unmarked true e = absurd (store-apart (o .head) (d .behind (o .head) e) refl)
 
     -- any other vertex keeps its word and its chain, whose words are as before or better
     store-others : {k v : ℕ} → v ≢ o .head → Caused P es n ws k v → Caused P es n stored k v
@@ -154,67 +132,45 @@ module _ {P : Property} (L : Laws P) (es : List Edge) (n : ℕ) (inside : Within
   store-going : (k i : ℕ) (st : State) (o : Edge) → List·Memᴰ o es → o .tail ≡ i → relaxable P (st .words) o ≡ true
       → Going k i st → Going k i (storeIf true P st o)
   unfolding storeIf
-  store-going k i st o m p c g = record {
-    deep = record {
-      sized = store-words st o m (g .deep .sized);
-      each = λ v w. ⊎-elim (λ z. inl (rw (z .0) (store-caused (st .words) o m b fits c tail)))
-          (λ z. ⊎-elim (λ d. inl (other (z .0) d)) (λ d. inr (d .0, other (z .0) (d .1))) (g .deep .each v (sym (z .1) ∙ w)))
-          (at-set (st .waiting) (o .head) true v false b′);
-    };
-    own = other (store-apart (st .words) o m b fits c i (rw p (L .irreflexive _))) (g .own);
-  }
-    where
-      b : o .head < length (st .words)
-      b = let z = g .deep .sized .words in omega (arith, inside .heads o m)
-
-      b′ : o .head < length (st .waiting)
-      b′ = let z = g .deep .sized .waiting in omega (arith, inside .heads o m)
-
-      fits : word P (st .words) (o .tail) ≤ M
-      fits = word-fits st (g .deep .sized) (o .tail)
-
-      tail : Caused P es n (st .words) k (o .tail)
-      tail = rw p (g .own)
-
-      other : {j v : ℕ} → v ≢ o .head → Caused P es n (st .words) j v
-          → Caused P es n (set (st .words) (o .head) (along (word P (st .words) (o .tail)) (o .weight))) j v
-      other = store-others (st .words) o m b fits c
+  store-going k i st o m p c g =
+      let b : o .head < length (st .words) = let z = g .deep .sized .words in omega (arith, inside .heads o m) in
+      let b′ : o .head < length (st .waiting) = let z = g .deep .sized .waiting in omega (arith, inside .heads o m) in
+      let fits = word-fits st (g .deep .sized) (o .tail) in
+      let tail : Caused P es n (st .words) k (o .tail) = rw p (g .own) in
+      record {
+        deep = record {
+          sized = store-words st o m (g .deep .sized);
+          each = λ v w. ⊎-elim (λ z. inl (rw (z .0) (store-caused (st .words) o m b fits c tail)))
+              (λ z. ⊎-elim (λ d. inl (store-others (st .words) o m b fits c (z .0) d)) (λ d. inr (d .0, store-others (st .words) o m b fits c (z .0) (d .1))) (g .deep .each v (sym (z .1) ∙ w)))
+              (at-set (st .waiting) (o .head) true v false b′);
+        };
+        own = store-others (st .words) o m b fits c (store-apart (st .words) o m b fits c i (rw p (L .irreflexive _))) (g .own);
+      }
 
   -- where i does not wait, its visit is over
   deep-past : (k i : ℕ) (st : State) → waits st i ≡ false → Deep k i st → Deep k (suc i) st
-  deep-past k i st q g = record { sized = g .sized; each = λ v w. ⊎-elim inl (λ d. inr (later v w (d .0), d .1)) (g .each v w) }
-    where
-      later : (v : ℕ) → waits st v ≡ true → i ≤ v → suc i ≤ v
-      later v w h = pick (ℕ-discrete v i)
-        where
-          pick : Dec (v ≡ i) → suc i ≤ v
-          pick (yes p) = absurd (true≢false (sym w ∙ rw p q))
-          pick (no d) = omega arith
+  deep-past k i st q g = record {
+    sized = g .sized;
+    each = λ v w. ⊎-elim inl (λ d. inr (elim (ℕ-discrete v i) [ yes p ↦ absurd (true≢false (sym w ∙ rw p q)) | no e ↦ let z = d .0 in omega arith ], d .1)) (g .each v w);
+  }
 
   deep-clear : (k i : ℕ) (st : State) → Deep k i st → Deep k i (clear st i)
   unfolding clear
   deep-clear k i st g = record {
     sized = clear-words st i (g .sized);
-    each = λ v w. g .each v (kept v w (ℕ-discrete v i));
+    each = λ v w. g .each v (elim (ℕ-discrete v i) [
+      | yes p ↦ absurd (true≢false (sym w ∙ rw p (clear-same (st .waiting) i)))
+      | no d ↦ sym (getD-set-other (st .waiting) i v false false d) ∙ w
+    ]);
   }
-    where
-      kept : (v : ℕ) → getD (set (st .waiting) i false) v false ≡ true → Dec (v ≡ i) → waits st v ≡ true
-      kept v w (yes p) = absurd (true≢false (sym w ∙ rw p (clear-same (st .waiting) i)))
-      kept v w (no d) = sym (getD-set-other (st .waiting) i v false false d) ∙ w
 
   visit-deep : (k i : ℕ) (st : State) → Deep k i st → Deep k (suc i) (visit P es st i)
   unfolding visit visitIf handle clear
-  visit-deep k i st g = pick (waits st i) refl
-    where
-      own : Caused P es n (st .words) (suc k) i ⊎ ((i ≤ i) × Caused P es n (st .words) k i) → Caused P es n (st .words) k i
-      own (inr d) = d .1
-      own (inl d) = record { marks = d .marks; chain = d .chain; behind = d .behind; long = let z = d .long in omega arith }
-
-      pick : (b : Bool) → waits st i ≡ b → Deep k (suc i) (visitIf b P es st i)
-      pick false q = deep-past k i st q g
-      pick true q = (relaxes-keep P (Going k i) (leaving i es)
-          (λ a o m c z. store-going k i a o ((leaving-in i es o m) .0) ((leaving-in i es o m) .1) c z) (clear st i)
-          (record { deep = deep-past k i (clear st i) (clear-same (st .waiting) i) (deep-clear k i st g); own = own (g .each i q) })) .deep
+  visit-deep k i st g = by-test (waits st i)
+      (λ q. let own : Caused P es n (st .words) k i = ⊎-elim (λ d. record { marks = d .marks; chain = d .chain; behind = d .behind; long = let z = d .long in omega arith }) (λ d. d .1) (g .each i q) in
+      rw q ((relaxes-keep P (Going k i) (leaving i es) (λ a o m c z. store-going k i a o ((leaving-in i es o m) .0) ((leaving-in i es o m) .1) c z) (clear st i)
+      (record { deep = deep-past k i (clear st i) (clear-same (st .waiting) i) (deep-clear k i st g); own = own })) .deep))
+      (λ q. rw q (deep-past k i st q g))
 
   visits-deep : (k i m : ℕ) (st : State) → Deep k i st → Deep k (i + m) (foldl (visit P es) st (range i m))
   unfolding range
@@ -223,11 +179,10 @@ module _ {P : Property} (L : Laws P) (es : List Edge) (n : ℕ) (inside : Within
 
   -- a vertex that waits is one of the n
   waits-below : (st : State) → FitWords n st → (v : ℕ) → waits st v ≡ true → v < n
-  waits-below st g v w = pick (decLt v n)
-    where
-      pick : Dec (v < n) → v < n
-      pick (yes h) = h
-      pick (no d) = absurd (true≢false (sym w ∙ List·getD-eq-default (st .waiting) false {n = v} (let z = g .waiting in omega arith)))
+  waits-below st g v w = let z = g .waiting in elim (decLt v n) [
+    | yes h ↦ h
+    | no d ↦ absurd (true≢false (sym w ∙ List·getD-eq-default (st .waiting) false {n = v} (omega arith)))
+  ]
 
   -- A round visits the vertices in turn. One that waits when its turn comes has a chain of more than k vertices; each head that its
   -- handling stores gets that chain and itself, and i is not stored meanwhile. After the last visit no turn is still to come.
@@ -244,47 +199,42 @@ module _ {P : Property} (L : Laws P) (es : List Edge) (n : ℕ) (inside : Within
 
   -- every vertex is a chain of one
   start-deep : (st : State) → FitWords n st → Deep 0 0 st
-  start-deep st g = record { sized = g; each = λ v w. inr (omega arith, alone v (waits-below st g v w)) }
-    where
-      alone : (v : ℕ) → v < n → Caused P es n (st .words) 0 v
-      alone v h =
-          let l : v < length (replicate n false) = rw length-replicate h in
+  start-deep st g = record {
+    sized = g;
+    each = λ v w.
+        let h = waits-below st g v w in
+        let l : v < length (replicate n false) = rw length-replicate h in
+        inr (
+          omega arith,
           record {
             marks = set (replicate n false) v true;
             chain = first h;
             behind = λ x q. ⊎-elim (λ z. rw (z .0) (L .irreflexive _)) (λ z. absurd (false≢true (sym (replicate-at n x false) ∙ sym (z .1) ∙ q)))
                 (at-set (replicate n false) v true x false l);
             long = omega (arith, count-insert (replicate n false) v l (replicate-at n v false));
-          }
+          },
+        );
+  }
 
   -- rounds that did not come to rest were all run
   settle-deep : (j k : ℕ) (st : State) → Deep k 0 st → anyOf ((settle P es n j st) .waiting) ≡ true → Deep (k + j) 0 (settle P es n j st)
   unfolding settle
   settle-deep zero k st g h = let e : k + 0 ≡ k = omega arith in rw e g
-  settle-deep (suc j) k st g h = pick (anyOf (st .waiting)) refl (settle-deep j (suc k) (round P es n st) (round-deep k st g))
-    where
-      pick : (b : Bool) → anyOf (st .waiting) ≡ b
-          → (anyOf ((settle P es n j (round P es n st)) .waiting) ≡ true → Deep (suc k + j) 0 (settle P es n j (round P es n st)))
-          → Deep (k + suc j) 0 (settle P es n (suc j) st)
-      pick false q on = absurd (true≢false (sym h ∙ rw (settle-idle P es n (suc j) st q) q))
-      pick true q on =
-          let e : k + suc j ≡ suc k + j = omega arith in
-          rw (e, settle-more P es n j st q) (on (rw (settle-more P es n j st q) at h))
+  settle-deep (suc j) k st g h = by-test (anyOf (st .waiting))
+      (λ q. let e : k + suc j ≡ suc k + j = omega arith in
+      rw (e, settle-more P es n j st q) (settle-deep j (suc k) (round P es n st) (round-deep k st g) (rw (settle-more P es n j st q) at h)))
+      (λ q. absurd (true≢false (sym h ∙ rw (settle-idle P es n (suc j) st q) q)))
 
   -- Follow each store back to the handling that caused it, and that to the store by which its vertex waited. In such a chain words get no
   -- better from one vertex to the next, as going along never betters, and a store only betters the word of a vertex that is not in the
   -- chain. So no vertex stands twice in it. What still waits after n rounds would be the end of a chain of more than n vertices.
   pub settle-rests : (st : State) → FitWords n st → anyOf ((settle P es n n st) .waiting) ≡ false
-  settle-rests st g = pick (anyOf ((settle P es n n st) .waiting)) refl
+  settle-rests st g = is-false _ (λ q.
+      let (v, l, w) = any-some ((settle P es n n st) .waiting) q in
+      ⊎-elim (no-more (omega arith)) (λ d. no-more (omega arith) (d .1)) ((settle-deep n 0 st (start-deep st g) q) .each v w))
     where
       no-more : {k v : ℕ} → n ≤ k → Caused P es n ((settle P es n n st) .words) k v → ⊥
       no-more h d = let a = d .long in omega (arith, count-le (d .marks), chain-length (d .chain))
-
-      pick : (b : Bool) → anyOf ((settle P es n n st) .waiting) ≡ b → anyOf ((settle P es n n st) .waiting) ≡ false
-      pick false q = q
-      pick true q =
-          let (v, l, w) = any-some ((settle P es n n st) .waiting) q in
-          absurd (⊎-elim (no-more (omega arith)) (λ d. no-more (omega arith) (d .1)) ((settle-deep n 0 st (start-deep st g) q) .each v w))
 
 -- ---- the claims
 

@@ -4,20 +4,21 @@
 --   Answered d es fs       == each edge of es has one of its pair in fs, of a weight at most d away
 --   Retuned d es fs        == es and fs have the same pairs, and any of their weights may have moved, each by at most d
 --   Close P k es s t v     == there is a route along es from s to t whose value is near v
---   rest                   == the edges of es but the one whose weight moves
-use Rattle.property.proofs.Basics.{_≡_, refl, sym, ap, subst, _∙_, _⊎_, inl, inr, ⊎-elim, Bool, true, false, not, true≢false, List, _∷_, List·Memᴰ, List·Memᴰ·head, List·Memᴰ·tail, List·Memᴰ·cases-cons, List·Memᴰ·not-nil, ℕ, _+_, _≤_, max, arith, eq-eqb}
+--   rest                   == the edges of es that are in fs too: but for the one whose weight moves, all are
+use Rattle.property.proofs.Basics.{_≡_, refl, sym, inl, inr, ⊎-elim, true, List, _∷_, List·Memᴰ, List·Memᴰ·head, List·Memᴰ·tail, List·Memᴰ·cases-cons, List·Memᴰ·not-nil, ℕ, _+_, _≤_, max, arith, eq-eqb}
 use Rattle.property.specs.Property.{M, Property}
 use Rattle.property.specs.Laws.{Laws}
 use Rattle.property.specs.Drift.{Near}
 use Rattle.property.proofs.Drift.{Meets, Steady, Even, near-self, near-back, near-on}
-use Rattle.graph.specs.Edge.{Edge, same, samePair, keep}
+use Rattle.graph.specs.Edge.{Edge, same, samePair, keep, among}
 use Rattle.graph.specs.Route.{Route, here, step, Best}
 use Rattle.graph.specs.Moved.{Moved, Zone, ends, next}
 use Rattle.graph.proofs.Tests.{and-true}
-use Rattle.graph.proofs.Edges.{keep-in, in-keep, pair-ends, ends-pair, same-eq}
+use Rattle.graph.proofs.Edges.{keep-in, in-keep, true-exists, pair-ends, ends-pair, among-mem}
 use Rattle.theory.specs.Best.{Weighed}
-use Rattle.theory.proofs.Value.{Way, Attained}
-use Rattle.theory.proofs.Exists.{Through, route-map, way-join, once, best-some, best-same}
+use Rattle.theory.proofs.Walk.{step-for}
+use Rattle.theory.proofs.Value.{Way}
+use Rattle.theory.proofs.Exists.{route-map, way-join, once, best-some, best-same}
 
 pub data Moves : ℕ → List Edge → List Edge → Type 0 where
   still : {es : List Edge} → Moves 0 es es
@@ -61,11 +62,11 @@ moved-retuned m = record { forth = answered m; back = answered (moved-back m) }
 
 pub answered-route : {P : Property} {es fs : List Edge} {s t u : ℕ} (d : ℕ) → Answered d es fs → Route P es s t u → (w : ℕ) × Route P fs s t w
 answered-route {P = P} d a here = (P .start, here)
-answered-route {P = P} {fs = fs} {s = s} d a (step {e = e} r m) =
+answered-route d a (step {e = e} r m) =
     let (w, q) = answered-route d a r in
     let (f, k, pair, near) = a e m in
     let (p, h) = pair-ends e f pair in
-    (P .along w (f .weight), subst (λ z. Route P fs s z (P .along w (f .weight))) (sym h) (step (subst (λ z. Route P fs s z w) p q) k))
+    (_, step-for p h k q)
 
 -- ---- best values that each have a route near them on the other side
 
@@ -74,16 +75,11 @@ Close P k es s t v = (u : ℕ) × Route P es s t u × Near k v u
 
 near-best : {P : Property} {es fs : List Edge} {s t v w : ℕ} (k : ℕ) → Meets P k → Best P es s t v → Best P fs s t w
     → (Route P es s t v → Close P k fs s t v) → (Route P fs s t w → Close P k es s t w) → Near k v w
-near-best {P} {es} {fs} {s} {t} {v} {w} k meets a b f g = pick (a .attained) (b .attained)
-  where
-    pick : Attained P es s t v → Attained P fs s t w → Near k v w
-    pick (inl r) (inl q) =
-        let (u, r′, j) = f r in
-        let (x, q′, i) = g q in
-        meets u v w x (near-back k v u j) (b .unbettered u r′) (near-back k w x i) (a .unbettered x q′)
-    pick (inl r) (inr c) = let (u, r′, j) = f r in absurd (c .0 u r′)
-    pick (inr c) (inl q) = let (x, q′, i) = g q in absurd (c .0 x q′)
-    pick (inr c) (inr e) = rw (c .1, e .1) (near-self k (P .none))
+near-best {P} k meets a b f g = ⊎-elim
+    (λ r. let (u, r′, j) = f r in ⊎-elim
+    (λ q. let (x, q′, i) = g q in meets _ _ _ _ (near-back k _ u j) (b .unbettered u r′) (near-back k _ x i) (a .unbettered x q′))
+    (λ c. absurd (c .0 u r′)) (b .attained))
+    (λ c. ⊎-elim (λ q. let (x, q′, i) = g q in absurd (c .0 x q′)) (λ e. rw (c .1, e .1) (near-self k (P .none))) (b .attained)) (a .attained)
 
 -- ---- one weight
 
@@ -97,43 +93,28 @@ module _ {P : Property} (L : Laws P) {d k : ℕ} (S : Steady P d k) where
 
   module _ {es fs : List Edge} (weights : Weighed es) (m : Moved d es fs) where
     abbrev rest : List Edge
-    rest = keep (λ e. not (same e (m .old))) es
+    rest = keep (among fs) es
 
-    parted : (e : Edge) → List·Memᴰ e es → (e ≡ m .old) ⊎ List·Memᴰ e rest
-    parted e k = pick (same e (m .old)) refl
-      where
-        pick : (b : Bool) → same e (m .old) ≡ b → (e ≡ m .old) ⊎ List·Memᴰ e rest
-        pick true h = inl (same-eq e (m .old) h)
-        pick false h = inr (in-keep (λ x. not (same x (m .old))) k (ap not h))
+    parted : (e : Edge) → List·Memᴰ e es → List·Memᴰ e (m .old ∷ rest)
+    parted e k = ⊎-elim (λ p. List·Memᴰ·head p) (λ j. List·Memᴰ·tail (in-keep (among fs) k (true-exists (same e) j (same-self e)))) (m .kept e k)
 
     first : (e : Edge) → List·Memᴰ e rest → List·Memᴰ e es
-    first e k = (keep-in (λ x. not (same x (m .old))) es e k) .0
+    first e k = (keep-in (among fs) es e k) .0
 
     later : (e : Edge) → List·Memᴰ e rest → List·Memᴰ e fs
-    later e k = ⊎-elim (λ p. absurd (other p)) (λ j. j) (m .kept e (first e k))
-      where
-        other : e ≡ m .old → ⊥
-        other p = true≢false (sym ((keep-in (λ x. not (same x (m .old))) es e k) .1) ∙ ap not (ap (λ x. same x (m .old)) p ∙ same-self (m .old)))
+    later e k = among-mem fs e ((keep-in (among fs) es e k) .1)
 
     -- A best route uses the edge at most once, or there is one as good that does. Come to its tail as before; the moved weight leads from
     -- there to a near value; and on from its head the same edges keep it near. A route that came to the edge twice would be moved
     -- twice as far: so it is by what lies between two visits being left out that values move no further than the weight.
     moved-route : {s t v : ℕ} → Best P es s t v → Route P es s t v → Close P k fs s t v
-    moved-route {s} {t} {v} best r =
-        pick (once L (m .old) rest weights′ s start (L .start-fits) (route-map (λ e k. ⊎-elim (λ p. List·Memᴰ·head p) (λ j. List·Memᴰ·tail j) (parted e k)) r))
-      where
-        weights′ : Weighed (m .old ∷ rest)
-        weights′ e k = ⊎-elim (λ p. rw p (weights (m .old) (m .gone))) (λ j. weights e (first e j)) (List·Memᴰ·cases-cons k)
-
-        pick : Way P rest s start t v ⊎ Through P (m .old) rest s start t v → Close P k fs s t v
-        pick (inl q) = (v, route-map later q, near-self k v)
-        pick (inr (x, r, (y, q, h))) =
-            let good : v ≡ y = L .antisymmetric v y h (best .unbettered y (way-join L (step (route-map first r) (m .gone)) (route-map first q))) in
-            let (w, q′, j) = way-near (along x (m .new .weight)) (S .weight-near x _ _ (m .near)) q in
-            let (p, o) = pair-ends (m .old) (m .new) (m .pair) in
-            let on : Route P fs s (m .old .head) (along x (m .new .weight)) =
-            subst (λ z. Route P fs s z (along x (m .new .weight))) (sym o) (step (subst (λ z. Route P fs s z x) p (route-map later r)) (m .come)) in
-            (w, way-join L on (route-map later q′), rw good j)
+    moved-route {s} {t} {v} best r = ⊎-elim (λ q. (v, route-map later q, near-self k v))
+        (λ (x, a, y, q, h).
+        let good : v ≡ y = L .antisymmetric v y h (best .unbettered y (way-join L (step (route-map first a) (m .gone)) (route-map first q))) in
+        let (w, q′, j) = way-near (along x (m .new .weight)) (S .weight-near x _ _ (m .near)) q in
+        let (p, o) = pair-ends (m .old) (m .new) (m .pair) in
+        (w, way-join L (step-for p o (m .come) (route-map later a)) (route-map later q′), rw good j))
+        (once L (m .old) rest (λ e k. ⊎-elim (λ p. rw p (weights (m .old) (m .gone))) (λ j. weights e (first e j)) (List·Memᴰ·cases-cons k)) s start (L .start-fits) (route-map parted r))
 
   pub moved-near : {es fs : List Edge} {s t v w : ℕ} → Weighed es → Weighed fs → Moved d es fs → Best P es s t v → Best P fs s t w → Near k v w
   moved-near f g m a b = near-best k (S .near-meets) a b (moved-route f m a) (moved-route g (moved-back m) b)
@@ -157,12 +138,11 @@ module _ {P : Property} (L : Laws P) (k : ℕ → ℕ) (S : (d : ℕ) → Steady
 module _ {P : Property} {d k : ℕ} (E : Even P d k) where
   answered-near : {es fs : List Edge} {s t v : ℕ} → Answered d es fs → Route P es s t v → Close P k fs s t v
   answered-near a here = (P .start, here, near-self k (P .start))
-  answered-near {fs = fs} {s = s} a (step {e = e} {v = v} r m) =
+  answered-near a (step {e = e} {v = v} r m) =
       let (w, q, j) = answered-near a r in
       let (f, l, pair, near) = a e m in
       let (p, h) = pair-ends e f pair in
-      let u : ℕ = P .along w (f .weight) in
-      (u, subst (λ z. Route P fs s z u) (sym h) (step (subst (λ z. Route P fs s z w) p q) l), E .along-even v w (e .weight) (f .weight) j near)
+      (_, step-for p h l q, E .along-even v w (e .weight) (f .weight) j near)
 
   pub retuned-near : {es fs : List Edge} {s t v w : ℕ} → Retuned d es fs → Best P es s t v → Best P fs s t w → Near k v w
   retuned-near m a b = near-best k (E .near-meets) a b (answered-near (m .forth)) (answered-near (m .back))

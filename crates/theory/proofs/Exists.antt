@@ -2,20 +2,21 @@
 --
 --   Top P es s v t           == a best way from s to t with v at s, or that there is no way
 --   Through P o es s v t u   == a way along es to the tail of o, and one along es on from its head, that together are no worse than u
-use Rattle.property.proofs.Basics.{_≡_, refl, sym, ap, _∙_, _⊎_, inl, inr, ⊎-elim, Bool, true, false, List, [], _∷_, List·Memᴰ, List·Memᴰ·head, List·Memᴰ·tail, List·Memᴰ·cases-cons, List·Memᴰ·not-nil, ℕ, _≤_, ℕ-discrete}
+use Rattle.property.proofs.Basics.{_≡_, refl, sym, ap, _∙_, _⊎_, inl, inr, ⊎-elim, false, List, [], _∷_, List·Memᴰ, List·Memᴰ·head, List·Memᴰ·tail, List·Memᴰ·cases-cons, List·Memᴰ·not-nil, ℕ, _≤_, ℕ-discrete}
 use Rattle.property.specs.Property.{M, Property}
 use Rattle.property.specs.Laws.{Laws}
+use Rattle.property.proofs.Tests.{by-test}
 use Rattle.graph.specs.Edge.{Edge}
 use Rattle.graph.specs.Route.{Route, here, step, Best}
 use Rattle.theory.specs.Best.{Weighed, BestExists, BestUnique}
-use Rattle.theory.proofs.Value.{Way, Attained, way-fits, way-after}
+use Rattle.theory.proofs.Value.{Way, way-fits, way-after}
 
 abbrev Top : Property → List Edge → ℕ → ℕ → ℕ → Type 0
 Top P es s v t = ((u : ℕ) × Way P es s v t u × ((w : ℕ) → Way P es s v t w → P .better w u ≡ false)) ⊎ ((w : ℕ) → Way P es s v t w → ⊥)
 
 abbrev pub Through : Property → Edge → List Edge → ℕ → ℕ → ℕ → ℕ → Type 0
 Through P o es s v t u =
-    (x : ℕ) × Way P es s v (o .tail) x × ((y : ℕ) × Way P es (o .head) (P .along x (o .weight)) t y × (P .better u y ≡ false))
+    (x : ℕ) × Way P es s v (o .tail) x × (y : ℕ) × Way P es (o .head) (P .along x (o .weight)) t y × (P .better u y ≡ false)
 
 -- ---- ways, put together
 
@@ -51,15 +52,12 @@ module _ {P : Property} (L : Laws P) where
     -- what lies between: going along never betters, so the value with which it first came to o's tail was no worse.
     once-more : (e : Edge) (w : ℕ) → Once (e .tail) w → (e ≡ o) ⊎ List·Memᴰ e es → Once (e .head) (along w (e .weight))
     once-more e w (inl r) (inr m) = inl (step r m)
-    once-more e w (inl r) (inl p) = inr (w, rw (ap (λ z. z .tail) p) at r, (along w (o .weight), rw p here, rw p (L .irreflexive _)))
-    once-more e w (inr (x, r, (y, q, h))) (inr m) = inr (x, r, (along y (e .weight), step q m, L .along-monotone _ _ _ h))
-    once-more e w (inr (x, r, (y, q, h))) (inl p) = inr (x, r, (along x (o .weight), rw p here, rw p (L .along-monotone _ _ _ (L .transitive _ _ _ back h))))
-      where
-        x-fits : x ≤ M
-        x-fits = way-fits L weights′ fits r
-
-        back : better y x ≡ false
-        back = L .transitive _ _ _ (L .along-no-better x (o .weight) x-fits) (way-after L weights′ (L .along-fits _ _ x-fits weight) q)
+    once-more e w (inl r) (inl p) = inr (w, rw (ap (λ z. z .tail) p) at r, along w (o .weight), rw p here, rw p (L .irreflexive _))
+    once-more e w (inr (x, r, y, q, h)) (inr m) = inr (x, r, along y (e .weight), step q m, L .along-monotone _ _ _ h)
+    once-more e w (inr (x, r, y, q, h)) (inl p) =
+        let f = way-fits L weights′ fits r in
+        let back = L .transitive _ _ _ (L .along-no-better x (o .weight) f) (way-after L weights′ (L .along-fits _ _ f weight) q) in
+        inr (x, r, along x (o .weight), rw p here, rw p (L .along-monotone _ _ _ (L .transitive _ _ _ back h)))
 
     pub once : {t u : ℕ} → Way P (o ∷ es) s v t u → Once t u
     once here = inl here
@@ -73,28 +71,24 @@ module _ {P : Property} (L : Laws P) where
 
     -- the best that goes through o: come to its tail with the best value, and go on from its head in the best way
     via : (t : ℕ) → Top P es s v (o .tail) → ((y : ℕ) → y ≤ M → Top P es (o .head) y t) → Via t
-    via t (inr d) below = inr (λ u (x, r, z). d x r)
-    via t (inl (x, r, first)) below = pick (below (along x (o .weight)) (L .along-fits _ _ (way-fits L weights′ fits r) weight))
+    via t (inr d) below = inr (λ u z. d (z .0) (z .1))
+    via t (inl (x, r, first)) below = ⊎-elim
+        (λ (y, q, last). inl (y, way-join (step (up r) (List·Memᴰ·head refl)) (up q), λ u z. let (w, q′, k) = moved u z in L .transitive _ _ _ (last w q′) k))
+        (λ d. inr (λ u z. let (w, q, k) = moved u z in d w q)) (below (along x (o .weight)) (L .along-fits _ _ (way-fits L weights′ fits r) weight))
       where
         moved : (u : ℕ) → Through P o es s v t u → (w : ℕ) × Way P es (o .head) (along x (o .weight)) t w × (better u w ≡ false)
-        moved u (x′, r′, (y, q, h)) =
+        moved u (x′, r′, y, q, h) =
             let (w, q′, k) = way-better (along x (o .weight)) (L .along-monotone _ _ _ (first x′ r′)) q in
             (w, q′, L .transitive _ _ _ k h)
-
-        pick : Top P es (o .head) (along x (o .weight)) t → Via t
-        pick (inr d) = inr (λ u z. let (w, q, k) = moved u z in d w q)
-        pick (inl (y, q, last)) = inl (y, way-join (step (up r) (List·Memᴰ·head refl)) (up q), λ u z. let (w, q′, k) = moved u z in L .transitive _ _ _ (last w q′) k)
 
     -- the better of the best along es alone and the best through o
     finer : (t : ℕ) → Top P es s v t → Via t → Top P (o ∷ es) s v t
     finer t (inr a) (inr b) = inr (λ w r. ⊎-elim (a w) (b w) (once r))
     finer t (inl (u, r, first)) (inr b) = inl (u, up r, λ w q. ⊎-elim (first w) (λ z. absurd (b w z)) (once q))
     finer t (inr a) (inl (y, r, first)) = inl (y, r, λ w q. ⊎-elim (λ z. absurd (a w z)) (first w) (once q))
-    finer t (inl (u, r, first)) (inl (y, q, second)) = pick (better u y) refl
-      where
-        pick : (b : Bool) → better u y ≡ b → Top P (o ∷ es) s v t
-        pick true h = inl (u, up r, λ w k. ⊎-elim (first w) (λ z. L .transitive _ _ _ (L .asymmetric _ _ h) (second w z)) (once k))
-        pick false h = inl (y, q, λ w k. ⊎-elim (λ z. L .transitive _ _ _ h (first w z)) (second w) (once k))
+    finer t (inl (u, r, first)) (inl (y, q, second)) = inl (by-test (better u y)
+        (λ h. (u, up r, λ w k. ⊎-elim (first w) (λ z. L .transitive _ _ _ (L .asymmetric _ _ h) (second w z)) (once k)))
+        (λ h. (y, q, λ w k. ⊎-elim (λ z. L .transitive _ _ _ h (first w z)) (second w) (once k))))
 
   -- ---- best values
 
@@ -105,31 +99,20 @@ module _ {P : Property} (L : Laws P) where
   -- By recursion on the edges: with none there is only the way that stays, and with a first edge o the best is the better of the best
   -- along the others and of the best that uses o once.
   top : (es : List Edge) → Weighed es → (s v t : ℕ) → v ≤ M → Top P es s v t
-  top [] f s v t h = pick (ℕ-discrete s t)
-    where
-      pick : Dec (s ≡ t) → Top P [] s v t
-      pick (yes p) = inl (v, rw (← p) here, λ w r. (way-nil r) .1)
-      pick (no d) = inr (λ w r. d ((way-nil r) .0))
+  top [] f s v t h = elim (ℕ-discrete s t) [ yes p ↦ inl (v, rw (← p) here, λ w r. (way-nil r) .1) | no d ↦ inr (λ w r. d ((way-nil r) .0)) ]
   top (o ∷ es) f s v t h =
       let g : Weighed es = λ e m. f e (List·Memᴰ·tail m) in
       finer o es f s v h t (top es g s v t h) (via o es f s v h t (top es g s v (o .tail) h) (λ y k. top es g (o .head) y t k))
 
 pub best-some : {P : Property} → Laws P → (es : List Edge) → Weighed es → (s t : ℕ) → (v : ℕ) × Best P es s t v
-best-some {P} L es f s t = pick (top L es f s (P .start) t (L .start-fits))
-  where
-    pick : Top P es s (P .start) t → (v : ℕ) × Best P es s t v
-    pick (inl (u, r, first)) = (u, record { unbettered = first; attained = inl r })
-    pick (inr d) = (P .none, record { unbettered = λ w r. absurd (d w r); attained = inr (d, refl) })
+best-some {P} L es f s t = ⊎-elim (λ (u, r, first). (u, record { unbettered = first; attained = inl r }))
+    (λ d. (P .none, record { unbettered = λ w r. absurd (d w r); attained = inr (d, refl) })) (top L es f s (P .start) t (L .start-fits))
 
 -- two best values are values of routes, neither better than the other; or there is no route, and both are none
 pub best-same : {P : Property} → Laws P → {es : List Edge} {s t v w : ℕ} → Best P es s t v → Best P es s t w → v ≡ w
-best-same {P} L {es} {s} {t} {v} {w} a b = pick (a .attained) (b .attained)
-  where
-    pick : Attained P es s t v → Attained P es s t w → v ≡ w
-    pick (inl r) (inl q) = L .antisymmetric v w (b .unbettered v r) (a .unbettered w q)
-    pick (inl r) (inr c) = absurd (c .0 v r)
-    pick (inr c) (inl q) = absurd (c .0 w q)
-    pick (inr c) (inr d) = c .1 ∙ sym (d .1)
+best-same L a b = ⊎-elim
+    (λ r. ⊎-elim (λ q. L .antisymmetric _ _ (b .unbettered _ r) (a .unbettered _ q)) (λ c. absurd (c .0 _ r)) (b .attained))
+    (λ c. ⊎-elim (λ q. absurd (c .0 _ q)) (λ d. c .1 ∙ sym (d .1)) (b .attained)) (a .attained)
 
 -- ---- the claims
 

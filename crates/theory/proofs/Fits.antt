@@ -4,23 +4,15 @@
 use Rattle.property.proofs.Basics.{_≡_, refl, _∙_, ⊎-elim, Bool, true, false, cond, List, [], _∷_, List·Memᴰ, List·Memᴰ·head, List·Memᴰ·tail, ℕ, _≤_, _<_, decLt, arith, getD, set, length, replicate, length-set, length-replicate, set-out, eqb}
 use Rattle.property.specs.Property.{M, Property}
 use Rattle.property.specs.Laws.{Laws, Joins}
-use Rattle.graph.specs.Edge.{Edge}
-use Rattle.graph.specs.Route.{Best}
 use Rattle.graph.proofs.Lists.{at-set, getD-within, replicate-at, length-table, table-at}
-use Rattle.graph.proofs.Order.{Within}
 use Rattle.run.specs.Run.{word}
 use Rattle.theory.specs.Rest.{FitWords}
 use Rattle.run.specs.Start.{Landmark, bound, opened, asked}
-use Rattle.theory.proofs.Value.{value-fits}
 use Rattle.theory.proofs.Query.{by}
 
 pub cond-fits : (b : Bool) (x y : ℕ) → x ≤ M → y ≤ M → cond b x y ≤ M
 cond-fits true x y h k = h
 cond-fits false x y h k = k
-
--- best values are words
-pub best-fits : {P : Property} (L : Laws P) (es : List Edge) (s n : ℕ) → Within n es → {t v : ℕ} → Best P es s t v → v ≤ M
-best-fits L es s n inside b = ⊎-elim (value-fits L es s n inside) (λ c. rw (c .1) (L .none-fits)) (b .attained)
 
 -- who waits at the start of a run: one vertex
 alone-length : (n s : ℕ) → length (set (replicate n false) s true) ≡ n
@@ -31,19 +23,18 @@ unfolding opened
 opened-words {P = P} L n s = record {
   words = length-set (replicate n (P .none)) s (P .start) ∙ length-replicate n (P .none);
   waiting = alone-length n s;
-  fits = λ t h. pick t h (decLt s n);
+  fits = λ t h. elim (decLt s n) [
+    | yes k ↦
+        let b : s < length (replicate n (P .none)) = rw length-replicate k in
+        ⊎-elim (λ c. rw (c .1) (L .start-fits)) (λ c. rw (c .1) (nones t h)) (at-set (replicate n (P .none)) s (P .start) t 0 b)
+    | no d ↦ rw (set-out (replicate n (P .none)) s (P .start) (rw length-replicate (omega arith))) (nones t h)
+  ];
 }
   where
     nones : (t : ℕ) → t < n → getD (replicate n (P .none)) t 0 ≤ M
     nones t h =
         let b : t < length (replicate n (P .none)) = rw length-replicate h in
         rw (getD-within (replicate n (P .none)) t 0 (P .none) b, replicate-at n t (P .none)) (L .none-fits)
-
-    pick : (t : ℕ) → t < n → Dec (s < n) → getD (set (replicate n (P .none)) s (P .start)) t 0 ≤ M
-    pick t h (yes k) =
-        let b : s < length (replicate n (P .none)) = rw length-replicate k in
-        ⊎-elim (λ c. rw (c .1) (L .start-fits)) (λ c. rw (c .1) (nones t h)) (at-set (replicate n (P .none)) s (P .start) t 0 b)
-    pick t h (no d) = rw (set-out (replicate n (P .none)) s (P .start) (rw length-replicate (omega arith))) (nones t h)
 
 pub record Told (P : Property) (l : Landmark) : Type 0 where
   pub into : l .into ≤ M

@@ -53,14 +53,13 @@ module _ (es : List Edge) (s n : ℕ) (inside : Within n es) (h : s < n) (ws : L
   -- along a tight walk a word rises from 0 by at most 1
   level : {t : ℕ} → Walk (keep (tight bfs ws) es) s t → (j : ℕ) → j ≤ word bfs ws t → Level j
   level stay j l = (s, h, (let z = source-word bfs-laws es s n inside ws best in omega arith))
-  level (go {e = e} w m) j l = pick (λ k. level w j k) (decLt (word bfs ws (e .tail)) j)
-    where
-      pick : (j ≤ word bfs ws (e .tail) → Level j) → Dec (word bfs ws (e .tail) < j) → Level j
-      pick below (no d) = below (omega arith)
-      pick below (yes k) =
-          let (mo, t) = keep-in (tight bfs ws) es e m in
-          let z : plus (word bfs ws (e .tail)) 1 ≡ word bfs ws (e .head) = eqb-true _ _ t in
-          (e .head, inside .heads e mo, omega arith)
+  level (go {e = e} w m) j l = elim (decLt (word bfs ws (e .tail)) j) [
+    | no d ↦ level w j (omega arith)
+    | yes k ↦
+        let (mo, t) = keep-in (tight bfs ws) es e m in
+        let z : plus (word bfs ws (e .tail)) 1 ≡ word bfs ws (e .head) = eqb-true _ _ t in
+        (e .head, inside .heads e mo, omega arith)
+  ]
 
   abbrev isUnder : ℕ → ℕ → Bool
   isUnder j u = ltb (word bfs ws u) j
@@ -77,11 +76,10 @@ module _ (es : List Edge) (s n : ℕ) (inside : Within n es) (h : s < n) (ws : L
   under-at j u k = table-at (isUnder j) n u false k
 
   under-grows : (j u : ℕ) → getD (under j) u false ≡ true → getD (under (suc j)) u false ≡ true
-  under-grows j u q = pick (decLt u n)
-    where
-      pick : Dec (u < n) → getD (under (suc j)) u false ≡ true
-      pick (yes k) = let z : word bfs ws u < j = ltb-true _ _ (sym (under-at j u k) ∙ q) in under-at (suc j) u k ∙ lt-ltb (word bfs ws u) (suc j) (omega arith)
-      pick (no d) = absurd (true≢false (sym q ∙ List·getD-eq-default (under j) false (let z = under-length j in omega arith)))
+  under-grows j u q = elim (decLt u n) [
+    | yes k ↦ let z : word bfs ws u < j = ltb-true _ _ (sym (under-at j u k) ∙ q) in under-at (suc j) u k ∙ lt-ltb (word bfs ws u) (suc j) (omega arith)
+    | no d ↦ absurd (true≢false (sym q ∙ List·getD-eq-default (under j) false (let z = under-length j in omega arith)))
+  ]
 
   -- each level has a vertex of its own, so as many vertices lie below the level j
   under-many : {t : ℕ} → Walk (keep (tight bfs ws) es) s t → (j : ℕ) → j ≤ suc (word bfs ws t) → j ≤ countOf (under j)

@@ -3,7 +3,7 @@
 --   own P v e   == the own value of the edge e, from the source's value on, is no worse than v
 --   owned t     == the edges whose own value is no worse than the best value of t
 --   tights      == the tight edges
-use Rattle.property.proofs.Basics.{_≡_, sym, ap, _∙_, inl, inr, ⊎-elim, _↔_, _≢_, Bool, true, false, not, true≢false, List, List·Memᴰ, ℕ, suc, _≤_, _<_, arith, length, eqb-true, eq-eqb, not-true, ltb-false}
+use Rattle.property.proofs.Basics.{_≡_, sym, ap, _∙_, ⊎-elim, _↔_, _≢_, Bool, false, not, true≢false, List, List·Memᴰ, ℕ, suc, _≤_, _<_, arith, length, eqb-true, eq-eqb, not-true, ltb-false}
 use Rattle.property.specs.Property.{M, Property, bfs}
 use Rattle.property.specs.Laws.{Laws}
 use Rattle.property.proofs.Tests.{is-false}
@@ -14,7 +14,7 @@ use Rattle.graph.specs.Leads.{Leads, stop, on, valueAlong, BestLeads}
 use Rattle.graph.proofs.Edges.{keep-in, in-keep}
 use Rattle.graph.proofs.Order.{Within}
 use Rattle.run.specs.Run.{word, tight}
-use Rattle.theory.proofs.Value.{Attained, value-fits, value-after, best-settled}
+use Rattle.theory.proofs.Value.{value-fits, value-after, best-settled}
 use Rattle.theory.proofs.Exists.{best-same}
 use Rattle.theory.proofs.Tight.{source-word}
 use Rattle.theory.proofs.Leads.{leads-map, leads-route, route-leads, leads-best, along-after, along-none, count-along}
@@ -58,11 +58,8 @@ module _ {P : Property} (L : Laws P) (es : List Edge) (s n : ℕ) (inside : With
   owned-best S {t} {qs} d = (
     λ b. own-on t here (b .leads) (best-value b),
     λ l. let k = leads-map (λ e m. (keep-in (own P (word P ws t)) es e m) .0) l in
-        value-best k (L .antisymmetric _ _ ((best t) .unbettered _ (leads-route here k)) (own-value S t under l)),
+        value-best k (L .antisymmetric _ _ ((best t) .unbettered _ (leads-route here k)) (own-value S t (⊎-elim (λ r. value-after L es s n inside r) (λ c. absurd (d (c .1))) ((best t) .attained)) l)),
   )
-    where
-      under : better (word P ws t) start ≡ false
-      under = ⊎-elim (λ r. value-after L es s n inside r) (λ c. absurd (d (c .1))) ((best t) .attained)
 
   -- ---- where each edge makes a value worse
 
@@ -75,15 +72,10 @@ module _ {P : Property} (L : Laws P) (es : List Edge) (s n : ℕ) (inside : With
   tight-on S t d r stop z = (z, stop)
   tight-on S t d {x = x} r (on {e = e} {ps = ps} m l) z =
       let (q, k) = tight-on S t d (step r m) l z in
-      let p : x ≡ word P ws (e .tail) = L .antisymmetric _ _ ((best (e .tail)) .unbettered x r) (is-false _ (bettered q)) in
+      let p : x ≡ word P ws (e .tail) = L .antisymmetric _ _ ((best (e .tail)) .unbettered x r) (is-false _ (λ h.
+      true≢false (sym (S .along-strict x (word P ws (e .tail)) (e .weight) h (λ c. d (sym z ∙ ap (λ y. valueAlong P y ps) c ∙ along-none L inside l)))
+      ∙ ap (better (along (word P ws (e .tail)) (e .weight))) q ∙ best-settled L es s n inside ws best e m))) in
       (p, on (in-keep (tight P ws) m (eq-eqb _ _ (ap (λ y. along y (e .weight)) (sym p) ∙ q))) k)
-    where
-      led : along x (e .weight) ≢ none
-      led c = d (sym z ∙ ap (λ y. valueAlong P y ps) c ∙ along-none L inside l)
-
-      bettered : along x (e .weight) ≡ word P ws (e .head) → better (word P ws (e .tail)) x ≡ true → ⊥
-      bettered q h = true≢false (sym (S .along-strict x (word P ws (e .tail)) (e .weight) h led)
-          ∙ ap (better (along (word P ws (e .tail)) (e .weight))) q ∙ best-settled L es s n inside ws best e m)
 
   tight-value : (t : ℕ) {u x : ℕ} {qs : List Edge} → x ≡ word P ws u → Leads tights u qs t → valueAlong P x qs ≡ word P ws t
   unfolding valueAlong
@@ -109,11 +101,8 @@ module _ (ks : List Edge) (t : ℕ) (hs : List ℕ) (best : (u : ℕ) → Best b
       omega (arith, count-along 0 rs (omega arith))
 
   pub hops-attained : (u : ℕ) → word bfs hs u < M → (rs : List Edge) × Leads ks u rs t × (length rs ≡ word bfs hs u)
-  hops-attained u h = pick ((best u) .attained)
-    where
-      pick : Attained bfs ks u t (word bfs hs u) → (rs : List Edge) × Leads ks u rs t × (length rs ≡ word bfs hs u)
-      pick (inr c) = let z = c .1 in absurd (omega arith)
-      pick (inl r) = let (rs, l, z) = route-leads r in (rs, l, (let y = count-along 0 rs (omega arith) in omega arith))
+  hops-attained u h = ⊎-elim (λ r. let (rs, l, z) = route-leads r in (rs, l, (let y = count-along 0 rs (omega arith) in omega arith)))
+      (λ c. let z = c .1 in absurd (omega arith)) ((best u) .attained)
 
   -- the first edge of a route with the fewest edges leads to a vertex that needs one less
   pub hop-down : {e : Edge} {rs : List Edge} (k : ℕ) → k < M → List·Memᴰ e ks → Leads ks (e .head) rs t → length rs ≡ k → word bfs hs (e .tail) ≡ suc k

@@ -106,11 +106,8 @@ lower-same (u ∷ us) (v ∷ vs) h a b =
     let k = ltb-false u v (x .0) in
     let l = ltb-false v u (y .0) in
     let p : u ≡ v = omega arith in
-    let q = lower-same us vs (omega arith) (rest u v us vs p (x .1)) (rest v u vs us (sym p) (y .1)) in
+    let q = lower-same us vs (omega arith) (rw (eq-eqb u v p) at (x .1)) (rw (eq-eqb v u (sym p)) at (y .1)) in
     λ i. p i ∷ q i
-  where
-    rest : (a b : ℕ) (us vs : List ℕ) → a ≡ b → (eqb a b && lower us vs) ≡ false → lower us vs ≡ false
-    rest a b us vs p h = rw (eq-eqb a b p) at h
 
 -- both are fewest, so they have equally many edges; and neither is lower
 pub preferred-unique : {P : Property} {es : List Edge} {s t : ℕ} {ps qs : List Edge} → Preferred P es s t ps → Preferred P es s t qs → visited s ps ≡ visited s qs

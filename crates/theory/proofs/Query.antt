@@ -3,17 +3,18 @@
 --
 --   by P l t             == the word to t by way of landmark l: the word to l joined with the word on from it
 --   Bounded P ls t v     == v is the no-route word, or the word to t by way of one of the landmarks
-use Rattle.property.proofs.Basics.{_≡_, refl, sym, _∙_, _⊎_, inl, inr, ⊎-elim, _≢_, Bool, true, false, cond, true≢false, List, [], _∷_, List·Memᴰ, List·Memᴰ·head, List·Memᴰ·tail, List·Memᴰ·cases-cons, List·Memᴰ·not-nil, ℕ, _≤_, _<_, ℕ-discrete, decLt, arith, replicate, length-set, length-replicate, List·getD-eq-default, eqb, eq-eqb, ne-eqb}
+use Rattle.property.proofs.Basics.{_≡_, refl, sym, _∙_, _⊎_, inl, inr, ⊎-elim, _≢_, true, false, cond, true≢false, List, [], _∷_, List·Memᴰ, List·Memᴰ·head, List·Memᴰ·tail, List·Memᴰ·cases-cons, List·Memᴰ·not-nil, ℕ, _≤_, _<_, ℕ-discrete, decLt, arith, replicate, length-set, length-replicate, List·getD-eq-default, eqb, eq-eqb, ne-eqb}
 use Rattle.property.specs.Property.{Property}
 use Rattle.property.specs.Laws.{Laws, Joins}
+use Rattle.property.proofs.Tests.{by-test}
 use Rattle.graph.specs.Edge.{Edge}
 use Rattle.graph.specs.Route.{Route, here, step, Best}
 use Rattle.graph.proofs.Lists.{length-table, table-at, at-set}
 use Rattle.graph.proofs.Order.{Within}
 use Rattle.run.specs.Run.{State, word, relaxable}
 use Rattle.run.specs.Start.{Landmark, bound, asked}
-use Rattle.theory.proofs.Settle.{Backed, Sound, Inv, route-backed}
-use Rattle.theory.proofs.Value.{value-fits, value-after, none-quiet, best-settled}
+use Rattle.theory.proofs.Settle.{Sound, Inv, route-backed}
+use Rattle.theory.proofs.Value.{value-fits, value-after, best-fits, none-quiet, best-settled}
 
 -- ---- the bound: of all landmarks the best
 
@@ -24,20 +25,9 @@ by P l t = P .join (l .into) (word P (l .row) t)
 pub bound-under : {P : Property} → Laws P → (ls : List Landmark) (t : ℕ) (l : Landmark) → List·Memᴰ l ls → P .better (by P l t) (bound P ls t) ≡ false
 unfolding bound
 bound-under L [] t l m = absurd (List·Memᴰ·not-nil m)
-bound-under {P} L (o ∷ ls) t l m = pick (P .better x y) refl (List·Memᴰ·cases-cons m) (λ k. bound-under L ls t l k)
-  where
-    x : ℕ
-    x = by P o t
-
-    y : ℕ
-    y = bound P ls t
-
-    pick : (b : Bool) → P .better x y ≡ b → (l ≡ o) ⊎ List·Memᴰ l ls → (List·Memᴰ l ls → P .better (by P l t) y ≡ false)
-        → P .better (by P l t) (cond b x y) ≡ false
-    pick true h (inl q) below = rw q (L .irreflexive x)
-    pick true h (inr k) below = L .transitive _ _ _ (L .asymmetric _ _ h) (below k)
-    pick false h (inl q) below = rw q h
-    pick false h (inr k) below = below k
+bound-under {P} L (o ∷ ls) t l m = by-test (P .better (by P o t) (bound P ls t))
+    (λ h. rw h (⊎-elim (λ q. rw q (L .irreflexive _)) (λ k. L .transitive _ _ _ (L .asymmetric _ _ h) (bound-under L ls t l k)) (List·Memᴰ·cases-cons m)))
+    (λ h. rw h (⊎-elim (λ q. rw q h) (bound-under L ls t l) (List·Memᴰ·cases-cons m)))
 
 abbrev pub Bounded : Property → List Landmark → ℕ → ℕ → Type 0
 Bounded P ls t v = (v ≡ P .none) ⊎ ((l : Landmark) × List·Memᴰ l ls × (v ≡ by P l t))
@@ -46,12 +36,8 @@ Bounded P ls t v = (v ≡ P .none) ⊎ ((l : Landmark) × List·Memᴰ l ls × (
 pub bound-is : (P : Property) (ls : List Landmark) (t : ℕ) → Bounded P ls t (bound P ls t)
 unfolding bound
 bound-is P [] t = inl refl
-bound-is P (o ∷ ls) t = pick (P .better (by P o t) (bound P ls t)) (bound-is P ls t)
-  where
-    pick : (b : Bool) → Bounded P ls t (bound P ls t) → Bounded P (o ∷ ls) t (cond b (by P o t) (bound P ls t))
-    pick true below = inr (o, List·Memᴰ·head refl, refl)
-    pick false (inl q) = inl q
-    pick false (inr (l, m, q)) = inr (l, List·Memᴰ·tail m, q)
+bound-is P (o ∷ ls) t = by-test (P .better (by P o t) (bound P ls t)) (λ h. rw h (inr (o, List·Memᴰ·head refl, refl)))
+    (λ h. rw h (⊎-elim inl (λ (l, m, q). inr (l, List·Memᴰ·tail m, q)) (bound-is P ls t)))
 
 module _ {P : Property} (L : Laws P) (J : Joins P) (es : List Edge) (s n : ℕ) (inside : Within n es) where
   open Property P using (start, none, along, better, join)
@@ -72,21 +58,9 @@ module _ {P : Property} (L : Laws P) (J : Joins P) (es : List Edge) (s n : ℕ) 
 
     -- the word by way of a landmark is the value of a route through it, or none where one half has no route
     pub via : (l : Landmark) → List·Memᴰ l ls → (t : ℕ) → Route P es s t (by P l t) ⊎ (by P l t ≡ none)
-    via l m t = pick ((ways l m) .attained) ((rows l m t) .attained)
-      where
-        a : ℕ
-        a = l .into
-
-        b : ℕ
-        b = word P (l .row) t
-
-        pick : Route P es s (l .vertex) a ⊎ (((u : ℕ) → Route P es s (l .vertex) u → ⊥) × (a ≡ none))
-            → Route P es (l .vertex) t b ⊎ (((u : ℕ) → Route P es (l .vertex) t u → ⊥) × (b ≡ none))
-            → Route P es s t (join a b) ⊎ (join a b ≡ none)
-        pick (inl r) (inl q) = inl (joined r q)
-        pick (inl r) (inr c) = inr (rw (c .1) (J .none-join a (value-fits L es s n inside r)))
-        pick (inr c) (inl q) = inr (rw (c .1) (J .join-none b (value-fits L es (l .vertex) n inside q)))
-        pick (inr c) (inr d) = inr (rw (c .1, d .1) (J .join-none none (L .none-fits)))
+    via l m t = ⊎-elim
+        (λ r. ⊎-elim (λ q. inl (joined r q)) (λ c. inr (rw (c .1, by) (J .none-join _ (value-fits L es s n inside r)))) ((rows l m t) .attained))
+        (λ c. inr (rw (c .1, by) (J .join-none _ (best-fits L es (l .vertex) n inside (rows l m t))))) ((ways l m) .attained)
 
     -- ---- the start of a query
 
@@ -105,33 +79,30 @@ module _ {P : Property} (L : Laws P) (J : Joins P) (es : List Edge) (s n : ℕ) 
     asked-beyond t h = List·getD-eq-default (ready .words) none (rw (length-table (λ k. cond (eqb k s) start (bound P ls k)) 0 n) h)
 
     asked-sound : Sound P es s (ready .words)
-    asked-sound t = pick (decLt t n) (ℕ-discrete t s) (bound-is P ls t)
-      where
-        pick : Dec (t < n) → Dec (t ≡ s) → Bounded P ls t (bound P ls t) → Backed P es s t (word P (ready .words) t)
-        pick (no d) k b = inr (asked-beyond t (omega arith))
-        pick (yes h) (yes q) b = rw (asked-source t h q, q) (route-backed L here (L .start-fits))
-        pick (yes h) (no d) (inl b) = inr (asked-other t h d ∙ b)
-        pick (yes h) (no d) (inr (l, m, b)) = rw (asked-other t h d, b) (⊎-elim (λ r. route-backed L r (value-fits L es s n inside r)) inr (via l m t))
+    asked-sound t = elim (decLt t n) [
+      | no d ↦ inr (asked-beyond t (omega arith))
+      | yes h ↦ elim (ℕ-discrete t s) [
+        | yes q ↦ rw (asked-source t h q, q) (route-backed L here (L .start-fits))
+        | no d ↦ rw (asked-other t h d) (⊎-elim inr (λ (l, m, b). rw b (⊎-elim (λ r. route-backed L r (value-fits L es s n inside r)) inr (via l m t))) (bound-is P ls t))
+      ]
+    ]
 
     -- Of the edges that do not leave the source none could better a start word. Its tail's bound is none, and then nothing leads on; or
     -- it comes by way of a landmark, whose own row is settled: so the tail's word there gone along the edge is no better than the
     -- head's, and joined with the way to the landmark no better than the head's bound. The source's word no route betters.
     asked-quiet : (e : Edge) → List·Memᴰ e es → e .tail ≢ s → relaxable P (ready .words) e ≡ false
-    asked-quiet e m d = pick (asked-sound (e .tail)) (ℕ-discrete (e .head) s) (bound-is P ls (e .tail))
-      where
-        k : word P (ready .words) (e .tail) ≡ bound P ls (e .tail)
-        k = asked-other _ (inside .tails e m) d
-
-        pick : Backed P es s (e .tail) (word P (ready .words) (e .tail)) → Dec (e .head ≡ s)
-            → Bounded P ls (e .tail) (bound P ls (e .tail)) → relaxable P (ready .words) e ≡ false
-        pick (inr z) h b = none-quiet L es s n inside (ready .words) asked-sound e m z
-        pick (inl (u, r, h, f)) (yes q) b =
-            rw (relaxable, asked-source _ (inside .heads e m) q) (L .transitive _ _ _ (value-after L es s n inside (step r m)) (L .along-monotone _ _ _ h))
-        pick (inl z) (no h) (inl b) = none-quiet L es s n inside (ready .words) asked-sound e m (k ∙ b)
-        pick (inl z) (no h) (inr (l, ml, b)) =
-            rw (relaxable, asked-other _ (inside .heads e m) h, k, b, ← (J .join-along (l .into) (word P (l .row) (e .tail)) (e .weight)))
-            (L .transitive _ _ _ (bound-under L ls (e .head) l ml)
-            (J .join-monotone (l .into) _ _ (best-settled L es (l .vertex) n inside (l .row) (rows l ml) e m)))
+    asked-quiet e m d =
+        let k : word P (ready .words) (e .tail) ≡ bound P ls (e .tail) = asked-other _ (inside .tails e m) d in
+        let quiet = none-quiet L es s n inside (ready .words) asked-sound e m in
+        ⊎-elim
+        (λ (u, r, h, f). elim (ℕ-discrete (e .head) s) [
+          | yes q ↦ rw (relaxable, asked-source _ (inside .heads e m) q) (L .transitive _ _ _ (value-after L es s n inside (step r m)) (L .along-monotone _ _ _ h))
+          | no c ↦ ⊎-elim (λ b. quiet (k ∙ b)) (λ (l, ml, b).
+              rw (relaxable, asked-other _ (inside .heads e m) c, k, b, ← (J .join-along (l .into) (word P (l .row) (e .tail)) (e .weight)))
+              (L .transitive _ _ _ (bound-under L ls (e .head) l ml)
+              (J .join-monotone (l .into) _ _ (best-settled L es (l .vertex) n inside (l .row) (rows l ml) e m)))) (bound-is P ls (e .tail))
+        ])
+        quiet (asked-sound (e .tail))
 
     -- the start words keep the invariant: they are sound, and only edges of the source, which waits, could better any
     pub asked-good : Inv P es s n ready
@@ -144,4 +115,3 @@ module _ {P : Property} (L : Laws P) (J : Joins P) (es : List Edge) (s n : ℕ) 
       pending = λ e m c. ⊎-elim (λ q. inl (q .1)) (λ q. absurd (true≢false (sym c ∙ asked-quiet e m (q .0))))
           (at-set (replicate n false) s true (e .tail) false (rw length-replicate source));
     }
-    -- ---- its end

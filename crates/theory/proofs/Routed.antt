@@ -4,8 +4,8 @@
 --   Lasting P n w  == routes of fewer than n edges, of weights 1 to w, have values better than no route: `floor k` is a value than
 --                     which a route of k edges is no worse
 --   Weighty w es   == weights are 1 to w
-use Rattle.property.proofs.Basics.{_≡_, sym, _∙_, subst, _⊎_, inl, inr, ⊎-elim, true, false, true≢false, List, List·Memᴰ, ℕ, zero, suc, _*_, _≤_, _<_, arith}
-use Rattle.property.specs.Property.{M, plus, Property, sssp, bfs, sswp, ssnp, ssr, property}
+use Rattle.property.proofs.Basics.{_≡_, sym, _∙_, subst, ⊎-elim, true, false, true≢false, List, List·Memᴰ, ℕ, zero, suc, _*_, _≤_, _<_, arith}
+use Rattle.property.specs.Property.{M, plus, Property, bfs, ssr, property}
 use Rattle.property.specs.Laws.{Laws}
 use Rattle.property.proofs.Instances.{bfs-laws, property-laws}
 use Rattle.property.proofs.Tests.{tests}
@@ -18,7 +18,7 @@ use Rattle.run.specs.Run.{word}
 use Rattle.run.specs.Start.{valuesFrom}
 use Rattle.theory.specs.Routed.{BestRouted}
 use Rattle.theory.proofs.Walk.{walk-of}
-use Rattle.theory.proofs.Value.{Attained, value-fits}
+use Rattle.theory.proofs.Value.{value-fits}
 use Rattle.theory.proofs.Hops.{values-best, hops-few}
 
 pub record Lasting (P : Property) (n w : ℕ) : Type 0 where
@@ -29,28 +29,16 @@ pub record Lasting (P : Property) (n w : ℕ) : Type 0 where
 
 -- ---- the five properties, within the limits
 
-pub sssp-lasting : Lasting sssp maxVertices maxWeight
-sssp-lasting = record { floor = λ k. k * maxWeight; floor-start = omega tests; floor-along = omega tests; floor-holds = omega tests }
-
-pub bfs-lasting : Lasting bfs maxVertices maxWeight
-bfs-lasting = record { floor = λ k. k; floor-start = omega tests; floor-along = omega tests; floor-holds = omega tests }
-
-pub sswp-lasting : Lasting sswp maxVertices maxWeight
-sswp-lasting = record { floor = λ k. 1; floor-start = omega tests; floor-along = omega tests; floor-holds = omega tests }
-
-pub ssnp-lasting : Lasting ssnp maxVertices maxWeight
-ssnp-lasting = record { floor = λ k. maxWeight; floor-start = omega tests; floor-along = omega tests; floor-holds = omega tests }
-
-pub ssr-lasting : Lasting ssr maxVertices maxWeight
+ssr-lasting : Lasting ssr maxVertices maxWeight
 ssr-lasting = record { floor = λ k. 1; floor-start = omega tests; floor-along = omega tests; floor-holds = omega tests }
 
 pub property-lasting : (p : ℕ) → Lasting (property p) maxVertices maxWeight
 unfolding property
 property-lasting zero = ssr-lasting
-property-lasting (suc zero) = sssp-lasting
-property-lasting (suc (suc zero)) = bfs-lasting
-property-lasting (suc (suc (suc zero))) = sswp-lasting
-property-lasting (suc (suc (suc (suc zero)))) = ssnp-lasting
+property-lasting (suc zero) = record { floor = λ k. k * maxWeight; floor-start = omega tests; floor-along = omega tests; floor-holds = omega tests }
+property-lasting (suc (suc zero)) = record { floor = λ k. k; floor-start = omega tests; floor-along = omega tests; floor-holds = omega tests }
+property-lasting (suc (suc (suc zero))) = record { floor = λ k. 1; floor-start = omega tests; floor-along = omega tests; floor-holds = omega tests }
+property-lasting (suc (suc (suc (suc zero)))) = record { floor = λ k. maxWeight; floor-start = omega tests; floor-along = omega tests; floor-holds = omega tests }
 property-lasting (suc (suc (suc (suc (suc k))))) = ssr-lasting
 
 -- ---- what is said of edges
@@ -82,20 +70,17 @@ module _ {P : Property} (L : Laws P) {m w : ℕ} (lasting : Lasting P m w) (es :
   -- Where there is a route, the best number of edges is below n, so some route of so few edges is better than the no-route word; and the
   -- best value is no worse than that route's. Where there is none, the best value is the no-route word by what a best value is.
   pub value-routed : {t v : ℕ} → Best P es s t v → Routed P es s t v
-  value-routed {t} {v} b = (λ z u r. never z r, λ d. ⊎-elim (λ r. absurd (d v r)) (λ c. c .1) (b .attained))
-    where
-      never : {u : ℕ} → v ≡ none → Route P es s t u → ⊥
-      never {u} z r = pick ((values-best bfs-laws es s n inside h t) .attained)
-        where
-          fewer : word bfs (valuesFrom bfs es n s) t < n
-          fewer = hops-few es s n inside h (valuesFrom bfs es n s) (values-best bfs-laws es s n inside h) (walk-of r)
-
-          pick : Attained bfs es s t (word bfs (valuesFrom bfs es n s) t) → ⊥
-          pick (inr c) = let y = c .1 in omega (arith, fewer)
-          pick (inl q) =
-              let (x, k, f) = route-floor q (omega (arith, fewer)) in
-              let y : better (lasting .floor (word bfs (valuesFrom bfs es n s) t)) v ≡ false = L .transitive _ _ _ (b .unbettered x k) f in
-              true≢false (sym (lasting .floor-holds _ (omega (arith, fewer))) ∙ (rw z at y))
+  value-routed {t} {v} b = (
+    λ z u r.
+        let hops = values-best bfs-laws es s n inside h in
+        let fewer = hops-few es s n inside h (valuesFrom bfs es n s) hops (walk-of r) in
+        ⊎-elim
+        (λ q. let (x, k, f) = route-floor q (omega arith) in
+        let y : better (lasting .floor (word bfs (valuesFrom bfs es n s) t)) v ≡ false = L .transitive _ _ _ (b .unbettered x k) f in
+        true≢false (sym (lasting .floor-holds _ (omega arith)) ∙ (rw z at y)))
+        (λ c. let y = c .1 in omega arith) ((hops t) .attained),
+    λ d. ⊎-elim (λ r. absurd (d v r)) (λ c. c .1) (b .attained),
+  )
 
 -- The five properties by number, on a table that keeps its rules: there weights are 1 to 65,535.
 pub best-routed : BestRouted

@@ -11,6 +11,7 @@
 use Rattle.property.proofs.Basics.{_≡_, refl, sym, ap, _∙_, _⊎_, inl, inr, ⊎-elim, _≢_, Bool, true, false, true≢false, List, [], _∷_, foldl, List·Memᴰ, List·Memᴰ·head, List·Memᴰ·tail, List·Memᴰ·cases-cons, List·Memᴰ·not-nil, ℕ, zero, suc, _+_, _≤_, _<_, ℕ-discrete, decLt, arith, getD, set, length, length-set, getD-set-same, getD-set-other, set-out}
 use Rattle.property.specs.Property.{M, Property}
 use Rattle.property.specs.Laws.{Laws}
+use Rattle.property.proofs.Tests.{is-true, is-false, by-test}
 use Rattle.frontier.specs.Waiting.{anyOf}
 use Rattle.frontier.proofs.Laws.{any-none}
 use Rattle.graph.specs.Edge.{Edge, leaving, range}
@@ -51,28 +52,24 @@ module _ (P : Property) (es : List Edge) (s : ℕ) where
 
 -- ---- what clearing and storing keep, handling keeps; what handling any vertex and counting keep, runs keep
 
-module _ (P : Property) (es : List Edge) (Q : State → Type 0) (clearing : (st : State) (i : ℕ) → Q st → Q (clear st i))
-    (storing : (st : State) (e : Edge) → relaxable P (st .words) e ≡ true → Q st → Q (storeIf true P st e)) where
-  relax-keeps : (st : State) (e : Edge) → Q st → Q (relax P st e)
-  unfolding relax storeIf
-  relax-keeps st e q = pick (relaxable P (st .words) e) refl
-    where
-      pick : (b : Bool) → relaxable P (st .words) e ≡ b → Q (storeIf b P st e)
-      pick true c = storing st e c q
-      pick false c = q
+pub relaxes-keep : (P : Property) (Q : State → Type 0) (l : List Edge)
+    → ((st : State) (o : Edge) → List·Memᴰ o l → relaxable P (st .words) o ≡ true → Q st → Q (storeIf true P st o))
+    → (st : State) → Q st → Q (foldl (relax P) st l)
+unfolding relax storeIf
+relaxes-keep P Q [] f st q = q
+relaxes-keep P Q (o ∷ l) f st q = relaxes-keep P Q l (λ a e m. f a e (List·Memᴰ·tail m)) (relax P st o)
+    (by-test (relaxable P (st .words) o) (λ c. rw c (f st o (List·Memᴰ·head refl) c q)) (λ c. rw c q))
 
-  pub handle-keeps : (st : State) (i : ℕ) → Q st → Q (handle P es st i)
-  unfolding handle
-  handle-keeps st i q = fold-keeps Q (relax P) relax-keeps (leaving i es) (clear st i) (clearing st i q)
+pub handle-keeps : (P : Property) (es : List Edge) (Q : State → Type 0) → ((st : State) (i : ℕ) → Q st → Q (clear st i))
+    → ((st : State) (e : Edge) → List·Memᴰ e es → relaxable P (st .words) e ≡ true → Q st → Q (storeIf true P st e))
+    → (st : State) (i : ℕ) → Q st → Q (handle P es st i)
+unfolding handle
+handle-keeps P es Q clearing storing st i q = relaxes-keep P Q (leaving i es) (λ a e m. storing a e ((leaving-in i es e m) .0)) (clear st i) (clearing st i q)
 
 module _ (P : Property) (es : List Edge) (Q : State → Type 0) (handling : (st : State) (i : ℕ) → Q st → Q (handle P es st i)) where
   pub visit-keeps : (st : State) (i : ℕ) → Q st → Q (visit P es st i)
   unfolding visit visitIf
-  visit-keeps st i q = pick (waits st i)
-    where
-      pick : (b : Bool) → Q (visitIf b P es st i)
-      pick true = handling st i q
-      pick false = q
+  visit-keeps st i q = by-test (waits st i) (λ c. rw c (handling st i q)) (λ c. rw c q)
 
   pub visits-keep : (vs : List ℕ) (st : State) → Q st → Q (foldl (visit P es) st vs)
   visits-keep vs st q = fold-keeps Q (visit P es) visit-keeps vs st q
@@ -80,11 +77,7 @@ module _ (P : Property) (es : List Edge) (Q : State → Type 0) (handling : (st 
   module _ (counting : (st : State) → Q st → Q (counted oneTaken st)) where
     pub take-keeps : (st : State) (i : ℕ) → Q st → Q (takeEntry P es st i)
     unfolding takeEntry takeEntryIf
-    take-keeps st i q = pick (waits st i)
-      where
-        pick : (b : Bool) → Q (takeEntryIf b P es st i)
-        pick true = handling (counted oneTaken st) i (counting st q)
-        pick false = q
+    take-keeps st i q = by-test (waits st i) (λ c. rw c (handling (counted oneTaken st) i (counting st q))) (λ c. rw c q)
 
     pub pass-keeps : (vs : List ℕ) (st : State) → Q st → Q (pass P es vs st)
     unfolding pass
@@ -98,10 +91,7 @@ module _ (P : Property) (es : List Edge) (Q : State → Type 0) (handling : (st 
     pub settle-keeps : (k : ℕ) (st : State) → Q st → Q (settle P es n k st)
     unfolding settle
     settle-keeps zero st q = q
-    settle-keeps (suc k) st q = elim (anyOf (st .waiting)) as (λ b. Q (elim b [ true ↦ settle P es n k (round P es n st) | false ↦ st ])) [
-      | true ↦ settle-keeps k (round P es n st) (round-keeps st q)
-      | false ↦ q
-    ]
+    settle-keeps (suc k) st q = by-test (anyOf (st .waiting)) (λ c. rw (c, settle) (settle-keeps k (round P es n st) (round-keeps st q))) (λ c. rw (c, settle) q)
 
 -- ---- lengths and rounds, of any state and with no laws
 
@@ -109,7 +99,7 @@ module _ (P : Property) (es : List Edge) where
   handle-sized : (n : ℕ) (st : State) (i : ℕ) → Sized n st → Sized n (handle P es st i)
   unfolding clear storeIf
   handle-sized n = handle-keeps P es (Sized n) (λ st i h. h)
-      (λ st e c h. length-set (st .words) (e .head) (P .along (word P (st .words) (e .tail)) (e .weight)) ∙ h)
+      (λ st e m c h. length-set (st .words) (e .head) (P .along (word P (st .words) (e .tail)) (e .weight)) ∙ h)
 
   pub settle-sized : (n k : ℕ) (st : State) → Sized n st → Sized n (settle P es n k st)
   settle-sized n k st h = settle-keeps P es (Sized n) (handle-sized n) (λ a k. k) n k st h
@@ -117,7 +107,7 @@ module _ (P : Property) (es : List Edge) where
   -- handling a vertex counts no round
   handle-rounds : (r : ℕ) (st : State) (i : ℕ) → st .tally .rounds ≡ r → (handle P es st i) .tally .rounds ≡ r
   unfolding clear storeIf
-  handle-rounds r = handle-keeps P es (λ st. st .tally .rounds ≡ r) (λ st i h. h) (λ st e c h. h)
+  handle-rounds r = handle-keeps P es (λ st. st .tally .rounds ≡ r) (λ st i h. h) (λ st e m c h. h)
 
   pub pass-rounds : (vs : List ℕ) (st : State) → (pass P es vs st) .tally .rounds ≡ st .tally .rounds
   pass-rounds vs st = pass-keeps P es (λ a. a .tally .rounds ≡ st .tally .rounds) (handle-rounds (st .tally .rounds)) (λ a k. k) vs st refl
@@ -140,12 +130,9 @@ module _ (P : Property) (es : List Edge) where
   pub settle-rounds : (n k : ℕ) (st : State) → (settle P es n k st) .tally .rounds ≤ st .tally .rounds + k
   unfolding settle
   settle-rounds n zero st = omega arith
-  settle-rounds n (suc k) st = pick (anyOf (st .waiting)) refl (settle-rounds n k (round P es n st))
-    where
-      pick : (b : Bool) → anyOf (st .waiting) ≡ b → (settle P es n k (round P es n st)) .tally .rounds ≤ (round P es n st) .tally .rounds + k
-          → (settle P es n (suc k) st) .tally .rounds ≤ st .tally .rounds + suc k
-      pick true h z = rw (settle-more n k st h) (let e = round-rounds n st in omega arith)
-      pick false h z = rw (settle-idle n (suc k) st h) (omega arith)
+  settle-rounds n (suc k) st = by-test (anyOf (st .waiting))
+      (λ h. rw (settle-more n k st h) (let z = settle-rounds n k (round P es n st) in let e = round-rounds n st in omega arith))
+      (λ h. rw (settle-idle n (suc k) st h) (omega arith))
 
 module _ {P : Property} (L : Laws P) where
   open Property P using (start, none, along, better)
@@ -171,11 +158,7 @@ module _ {P : Property} (L : Laws P) where
   -- ---- one store
 
   better-through : (a b c : ℕ) → better a b ≡ true → better c b ≡ false → better a c ≡ true
-  better-through a b c h k = pick (better a c) refl
-    where
-      pick : (x : Bool) → better a c ≡ x → better a c ≡ true
-      pick true e = e
-      pick false e = absurd (true≢false (sym h ∙ L .transitive b c a k e))
+  better-through a b c h k = is-true (better a c) (λ e. true≢false (sym h ∙ L .transitive b c a k e))
 
   module _ (ws : List ℕ) (o : Edge) (inside : o .head < length ws) where
     abbrev fresh : ℕ
@@ -187,11 +170,10 @@ module _ {P : Property} (L : Laws P) where
     -- a store keeps words sound: the route that backs the tail goes on along the edge, and no route leads on to no route
     store-sound : (es : List Edge) (s : ℕ) → List·Memᴰ o es → o .weight ≤ M → Sound P es s ws → Sound P es s stored
     store-sound es s m w sound t =
-        ⊎-elim (λ c. rw (c .1, c .0) (head (sound (o .tail)))) (λ c. rw (c .1) (sound t)) (at-set ws (o .head) fresh t none inside)
-      where
-        head : Backed P es s (o .tail) (word P ws (o .tail)) → Backed P es s (o .head) fresh
-        head (inl (u, r, h, f)) = inl (along u (o .weight), step r m, L .along-monotone _ _ _ h, L .along-fits _ _ f w)
-        head (inr e) = inr (ap (λ x. along x (o .weight)) e ∙ L .along-none (o .weight) w)
+        ⊎-elim (λ c. rw (c .1, c .0) (⊎-elim
+        (λ (u, r, h, f). inl (along u (o .weight), step r m, L .along-monotone _ _ _ h, L .along-fits _ _ f w))
+        (λ e. inr (ap (λ x. along x (o .weight)) e ∙ L .along-none (o .weight) w)) (sound (o .tail))))
+        (λ c. rw (c .1) (sound t)) (at-set ws (o .head) fresh t none inside)
 
     module _ (c : relaxable P ws o ≡ true) where
       pub store-betters : (t : ℕ) → better (word P ws t) (word P stored t) ≡ false
@@ -210,12 +192,10 @@ module _ {P : Property} (L : Laws P) where
   module _ (es : List Edge) where
     pub handle-rises : (ws : List ℕ) (st : State) (i : ℕ) → Risen P ws st → Risen P ws (handle P es st i)
     unfolding clear storeIf
-    handle-rises ws = handle-keeps P es (Risen P ws) (λ st i g. g) (λ st o c g t. pick st o c g t (decLt (o .head) (length (st .words))))
-      where
-        pick : (st : State) (o : Edge) → relaxable P (st .words) o ≡ true → Risen P ws st → (t : ℕ) → Dec (o .head < length (st .words))
-            → better (word P ws t) (word P (set (st .words) (o .head) (along (word P (st .words) (o .tail)) (o .weight))) t) ≡ false
-        pick st o c g t (yes h) = L .transitive _ _ _ (store-betters (st .words) o h c t) (g t)
-        pick st o c g t (no d) = rw (set-out (st .words) (o .head) (along (word P (st .words) (o .tail)) (o .weight)) (omega arith)) (g t)
+    handle-rises ws = handle-keeps P es (Risen P ws) (λ st i g. g) (λ st o m c g t. elim (decLt (o .head) (length (st .words))) [
+      | yes h ↦ L .transitive _ _ _ (store-betters (st .words) o h c t) (g t)
+      | no d ↦ rw (set-out (st .words) (o .head) (along (word P (st .words) (o .tail)) (o .weight)) (omega arith)) (g t)
+    ])
 
     pub settle-rises : (n k : ℕ) (st : State) → Risen P (st .words) (settle P es n k st)
     settle-rises n k st = settle-keeps P es (Risen P (st .words)) (handle-rises (st .words)) (λ a k. k) n k st (λ t. L .irreflexive _)
@@ -223,36 +203,29 @@ module _ {P : Property} (L : Laws P) where
   -- ---- handling keeps the invariant
 
   module _ (es : List Edge) (s n : ℕ) (inside : Within n es) where
-    -- an edge still to come before o is gone along is one after it, or o
-    passed : (e o : Edge) (rest : List Edge) → List·Memᴰ e (o ∷ rest) → e ≢ o → List·Memᴰ e rest
-    passed e o rest k d = ⊎-elim (λ q. absurd (d q)) (λ q. q) (List·Memᴰ·cases-cons k)
-
     relax-good : (o : Edge) (rest : List Edge) → List·Memᴰ o es → (st : State)
         → Good P es s n (o ∷ rest) (st .words) (st .waiting) → Good P es s n rest ((relax P st o) .words) ((relax P st o) .waiting)
     unfolding relax storeIf
-    relax-good o rest m st g = pick (relaxable P (st .words) o) refl
-      where
-        pick : (b : Bool) → relaxable P (st .words) o ≡ b → Good P es s n rest ((storeIf b P st o) .words) ((storeIf b P st o) .waiting)
-        pick false e = record {
+    relax-good o rest m st g = by-test (relaxable P (st .words) o)
+        (λ e. let b : o .head < length (st .words) = omega (arith, inside .heads o m) in
+        let b′ : o .head < length (st .waiting) = omega (arith, inside .heads o m) in
+        rw e (record {
+          words-n = length-set (st .words) _ _ ∙ g .words-n;
+          waiting-n = length-set (st .waiting) _ _ ∙ g .waiting-n;
+          source = L .transitive _ _ _ (store-betters (st .words) o b e s) (g .source);
+          sound = store-sound (st .words) o b es s m (inside .weights o m) (g .sound);
+          pending = λ x k c. ⊎-elim (λ q. inl (q .1)) (λ q.
+              let z = store-relaxable (st .words) o b e x (q .0) c in
+              ⊎-elim (λ w. inl (q .1 ∙ w)) (λ l. inr (⊎-elim (λ p. absurd (z .1 p)) (λ p. p) (List·Memᴰ·cases-cons l))) (g .pending x k (z .0)))
+              (at-set (st .waiting) (o .head) true (x .tail) false b′);
+        }))
+        (λ e. rw e (record {
           words-n = g .words-n;
           waiting-n = g .waiting-n;
           source = g .source;
           sound = g .sound;
-          pending = λ x k c. ⊎-elim inl (λ l. inr (passed x o rest l (λ q. true≢false (sym (rw q at c) ∙ e)))) (g .pending x k c);
-        }
-        pick true e =
-            let b : o .head < length (st .words) = omega (arith, inside .heads o m) in
-            let b′ : o .head < length (st .waiting) = omega (arith, inside .heads o m) in
-            record {
-              words-n = length-set (st .words) _ _ ∙ g .words-n;
-              waiting-n = length-set (st .waiting) _ _ ∙ g .waiting-n;
-              source = L .transitive _ _ _ (store-betters (st .words) o b e s) (g .source);
-              sound = store-sound (st .words) o b es s m (inside .weights o m) (g .sound);
-              pending = λ x k c. ⊎-elim (λ q. inl (q .1)) (λ q.
-                  let z = store-relaxable (st .words) o b e x (q .0) c in
-                  ⊎-elim (λ w. inl (q .1 ∙ w)) (λ l. inr (passed x o rest l (z .1))) (g .pending x k (z .0)))
-                  (at-set (st .waiting) (o .head) true (x .tail) false b′);
-            }
+          pending = λ x k c. ⊎-elim inl (λ l. ⊎-elim (λ q. absurd (true≢false (sym (rw q at c) ∙ e))) inr (List·Memᴰ·cases-cons l)) (g .pending x k c);
+        }))
 
     relaxes-good : (rest : List Edge) → ((e : Edge) → List·Memᴰ e rest → List·Memᴰ e es) → (st : State)
         → Good P es s n rest (st .words) (st .waiting) → Inv P es s n (foldl (relax P) st rest)
@@ -271,19 +244,13 @@ module _ {P : Property} (L : Laws P) where
       waiting-n = length-set (st .waiting) _ _ ∙ g .waiting-n;
       source = g .source;
       sound = g .sound;
-      pending = λ x k c. ⊎-elim (λ w. cleared x k w (ℕ-discrete (x .tail) i)) (λ l. absurd (List·Memᴰ·not-nil l)) (g .pending x k c);
+      pending = λ x k c. ⊎-elim
+          (λ w. elim (ℕ-discrete (x .tail) i) [ yes p ↦ inr (in-leaving i k p) | no d ↦ inl (getD-set-other (st .waiting) i (x .tail) false false d ∙ w) ])
+          (λ l. absurd (List·Memᴰ·not-nil l)) (g .pending x k c);
     })
-      where
-        cleared : (x : Edge) → List·Memᴰ x es → waits st (x .tail) ≡ true → Dec (x .tail ≡ i)
-            → (getD (set (st .waiting) i false) (x .tail) false ≡ true) ⊎ List·Memᴰ x (leaving i es)
-        cleared x k w (yes p) = inr (in-leaving i k p)
-        cleared x k w (no d) = inl (getD-set-other (st .waiting) i (x .tail) false false d ∙ w)
 
     pub pass-good : (vs : List ℕ) (st : State) → Inv P es s n st → Inv P es s n (pass P es vs st)
     pass-good vs st g = pass-keeps P es (Inv P es s n) handle-good (λ a k. k) vs st g
-
-    pub round-good : (st : State) → Inv P es s n st → Inv P es s n (round P es n st)
-    round-good st g = round-keeps P es (Inv P es s n) handle-good (λ a k. k) n st g
 
     pub settle-good : (k : ℕ) (st : State) → Inv P es s n st → Inv P es s n (settle P es n k st)
     settle-good k st g = settle-keeps P es (Inv P es s n) handle-good (λ a k. k) n k st g
@@ -292,11 +259,7 @@ module _ {P : Property} (L : Laws P) where
 
     -- an edge whose tail does not wait could not better its head
     pub inv-idle : (st : State) → Inv P es s n st → (e : Edge) → List·Memᴰ e es → waits st (e .tail) ≡ false → relaxable P (st .words) e ≡ false
-    inv-idle st g e m w = pick (relaxable P (st .words) e) refl
-      where
-        pick : (b : Bool) → relaxable P (st .words) e ≡ b → relaxable P (st .words) e ≡ false
-        pick false c = c
-        pick true c = absurd (⊎-elim (λ z. true≢false (sym z ∙ w)) (λ l. List·Memᴰ·not-nil l) (g .pending e m c))
+    inv-idle st g e m w = is-false _ (λ c. ⊎-elim (λ z. true≢false (sym z ∙ w)) (λ l. List·Memᴰ·not-nil l) (g .pending e m c))
 
     pub settled : (st : State) → Inv P es s n st → anyOf (st .waiting) ≡ false → Settled P es (st .words)
     settled st g q e m = inv-idle st g e m (any-none (st .waiting) q (e .tail))

@@ -7,17 +7,19 @@
 --   Stray e                == the head of e has a walk, but none of tight edges
 --   Upheld t               == a route to t along the new edges is no worse than the word of t
 --   Stands P fs e          == fs has an edge of the ends of e that is no worse, from whatever value
-use Rattle.property.proofs.Basics.{_≡_, refl, sym, ap, subst, _∙_, _⊎_, inl, inr, ⊎-elim, _≢_, Bool, true, false, List, [], _∷_, List·Memᴰ, List·Memᴰ·head, List·Memᴰ·tail, List·Memᴰ·cases-cons, List·Memᴰ·not-nil, ℕ, ℕ-discrete, eqb-true, eq-eqb}
+use Rattle.property.proofs.Basics.{_≡_, refl, sym, ap, _∙_, _⊎_, inl, inr, ⊎-elim, _≢_, Bool, true, false, List, [], _∷_, List·Memᴰ, List·Memᴰ·head, List·Memᴰ·tail, List·Memᴰ·cases-cons, List·Memᴰ·not-nil, ℕ, ℕ-discrete, eqb-true, eq-eqb}
+use mathlib.Core.Logic.{Dec·and, Dec·not}
 use Rattle.property.specs.Property.{Property}
 use Rattle.property.specs.Laws.{Laws}
+use Rattle.property.proofs.Tests.{by-test}
 use Rattle.graph.specs.Edge.{Edge, keep}
 use Rattle.graph.specs.Route.{Route, here, step, Best}
 use Rattle.graph.proofs.Edges.{keep-in, in-keep}
 use Rattle.graph.proofs.Order.{Within}
 use Rattle.run.specs.Run.{word, relaxable, tight}
-use Rattle.theory.proofs.Walk.{Walk, stay, go, walk?, walk-map, walk-of, route-of}
+use Rattle.theory.proofs.Walk.{Walk, stay, go, walk?, walk-map, step-for, walk-of, route-of}
 use Rattle.theory.proofs.Settle.{Settled, Backed}
-use Rattle.theory.proofs.Value.{Attained, value-fits, value-after}
+use Rattle.theory.proofs.Value.{value-fits, value-after}
 
 -- ---- edges that have one no worse in their place
 
@@ -38,25 +40,18 @@ module _ {P : Property} (L : Laws P) (rank : Edge → ℕ) (Q : Edge → Type 0)
 
   finest : (l : List Edge) → ((e : Edge) → List·Memᴰ e l → Q e → ⊥) ⊎ Finest l
   finest [] = inl (λ e m q. List·Memᴰ·not-nil m)
-  finest (o ∷ l) = pick (q? o) (finest l)
-    where
-      against : Q o → Finest l → Finest (o ∷ l)
-      against qo (e, m, q, f) = choose (P .better (rank o) (rank e)) refl
-        where
-          choose : (b : Bool) → P .better (rank o) (rank e) ≡ b → Finest (o ∷ l)
-          choose true h = (
-            o,
-            List·Memᴰ·head refl,
-            qo,
-            λ x k qx. ⊎-elim (λ p. rw p (L .irreflexive _)) (λ k′. L .transitive _ _ _ (L .asymmetric _ _ h) (f x k′ qx)) (List·Memᴰ·cases-cons k),
-          )
-          choose false h = (e, List·Memᴰ·tail m, q, λ x k qx. ⊎-elim (λ p. rw p h) (λ k′. f x k′ qx) (List·Memᴰ·cases-cons k))
-
-      pick : Dec (Q o) → ((e : Edge) → List·Memᴰ e l → Q e → ⊥) ⊎ Finest l → ((e : Edge) → List·Memᴰ e (o ∷ l) → Q e → ⊥) ⊎ Finest (o ∷ l)
-      pick (yes qo) (inl f) = inr (o, List·Memᴰ·head refl, qo, λ x k qx. ⊎-elim (λ p. rw p (L .irreflexive _)) (λ k′. absurd (f x k′ qx)) (List·Memᴰ·cases-cons k))
-      pick (yes qo) (inr z) = inr (against qo z)
-      pick (no d) (inl f) = inl (λ x k qx. ⊎-elim (λ p. d (rw p at qx)) (λ k′. f x k′ qx) (List·Memᴰ·cases-cons k))
-      pick (no d) (inr (e, m, q, f)) = inr (e, List·Memᴰ·tail m, q, λ x k qx. ⊎-elim (λ p. absurd (d (rw p at qx))) (λ k′. f x k′ qx) (List·Memᴰ·cases-cons k))
+  finest (o ∷ l) = elim (q? o) [
+    | yes qo ↦ inr (⊎-elim
+        (λ f. (o, List·Memᴰ·head refl, qo, λ x k qx. ⊎-elim (λ p. rw p (L .irreflexive _)) (λ j. absurd (f x j qx)) (List·Memᴰ·cases-cons k)))
+        (λ (e, m, q, f). by-test (P .better (rank o) (rank e))
+        (λ h. (o, List·Memᴰ·head refl, qo, λ x k qx. ⊎-elim (λ p. rw p (L .irreflexive _)) (λ j. L .transitive _ _ _ (L .asymmetric _ _ h) (f x j qx)) (List·Memᴰ·cases-cons k)))
+        (λ h. (e, List·Memᴰ·tail m, q, λ x k qx. ⊎-elim (λ p. rw p h) (λ j. f x j qx) (List·Memᴰ·cases-cons k))))
+        (finest l))
+    | no d ↦ ⊎-elim
+        (λ f. inl (λ x k qx. ⊎-elim (λ p. d (rw p at qx)) (λ j. f x j qx) (List·Memᴰ·cases-cons k)))
+        (λ (e, m, q, f). inr (e, List·Memᴰ·tail m, q, λ x k qx. ⊎-elim (λ p. absurd (d (rw p at qx))) (λ j. f x j qx) (List·Memᴰ·cases-cons k)))
+        (finest l)
+  ]
 
 module _ {P : Property} (L : Laws P) (es : List Edge) (s n : ℕ) (inside : Within n es) (ws : List ℕ) (best : (t : ℕ) → Best P es s t (word P ws t)) where
   open Property P using (start, none, along, better)
@@ -79,24 +74,18 @@ module _ {P : Property} (L : Laws P) (es : List Edge) (s n : ℕ) (inside : With
   -- a route to a vertex that tight edges do not reach leaves those that they reach, for a last time
   crossing : {t u : ℕ} → Route P es s t u → (Walk tights s t → ⊥) → Crossing u
   crossing here d = absurd (d stay)
-  crossing (step {e = e} {v = v} r m) d = pick (λ k. crossing r k) (walk? tights s (e .tail))
-    where
-      pick : ((Walk tights s (e .tail) → ⊥) → Crossing v) → Dec (Walk tights s (e .tail)) → Crossing (along v (e .weight))
-      pick below (yes w) = (e, m, w, d, L .along-monotone _ _ (e .weight) ((best (e .tail)) .unbettered v r))
-      pick below (no k) =
-          let (x, mx, wx, nx, h) = below k in
-          (x, mx, wx, nx, L .transitive _ _ _ h (L .along-no-better v (e .weight) (value-fits L es s n inside r)))
+  crossing (step {e = e} {v = v} r m) d = elim (walk? tights s (e .tail)) [
+    | yes w ↦ (e, m, w, d, L .along-monotone _ _ (e .weight) ((best (e .tail)) .unbettered v r))
+    | no k ↦
+        let (x, mx, wx, nx, h) = crossing r k in
+        (x, mx, wx, nx, L .transitive _ _ _ h (L .along-no-better v (e .weight) (value-fits L es s n inside r)))
+  ]
 
   abbrev Stray : Edge → Type 0
   Stray e = Walk es s (e .head) × (Walk tights s (e .head) → ⊥)
 
   stray? : (e : Edge) → Dec (Stray e)
-  stray? e = pick (walk? es s (e .head)) (walk? tights s (e .head))
-    where
-      pick : Dec (Walk es s (e .head)) → Dec (Walk tights s (e .head)) → Dec (Stray e)
-      pick (yes w) (no d) = yes (w, d)
-      pick (yes w) (yes k) = no (λ q. q .1 k)
-      pick (no d) k = no (λ q. d (q .0))
+  stray? e = Dec·and (walk? es s (e .head)) (Dec·not (walk? tights s (e .head)))
 
   no-finest : Finest L (λ e. word P ws (e .head)) Stray stray? es → ⊥
   no-finest (v, mv, (wv, nv), first) =
@@ -112,11 +101,10 @@ module _ {P : Property} (L : Laws P) (es : List Edge) (s n : ℕ) (inside : With
   -- Nothing here asks that an edge makes a value worse: so it holds for SSWP, SSNP and SSR too, where whole rings have one word.
   pub tight-walk : {t : ℕ} → Walk es s t → Walk tights s t
   tight-walk stay = stay
-  tight-walk (go {e = e} w m) = pick (walk? tights s (e .head))
-    where
-      pick : Dec (Walk tights s (e .head)) → Walk tights s (e .head)
-      pick (yes k) = k
-      pick (no d) = absurd (⊎-elim (λ f. f e m (go w m, d)) no-finest (finest L (λ e. word P ws (e .head)) Stray stray? es))
+  tight-walk (go {e = e} w m) = elim (walk? tights s (e .head)) [
+    | yes k ↦ k
+    | no d ↦ absurd (⊎-elim (λ f. f e m (go w m, d)) no-finest (finest L (λ e. word P ws (e .head)) Stray stray? es))
+  ]
 
   pub source-word : word P ws s ≡ start
   source-word = L .antisymmetric (word P ws s) start
@@ -135,29 +123,27 @@ module _ {P : Property} (L : Laws P) (es : List Edge) (s n : ℕ) (inside : With
     upheld-on : (e : Edge) → Stands P fs e → along (word P ws (e .tail)) (e .weight) ≡ word P ws (e .head) → Upheld (e .tail) → Upheld (e .head)
     upheld-on e (f, m, p, q, h) z (u, r, j) = (
       along u (f .weight),
-      subst (λ x. Route P fs s x (along u (f .weight))) (sym q) (step (subst (λ x. Route P fs s x u) p r) m),
-      subst (λ x. better x (along u (f .weight)) ≡ false) z (L .transitive _ _ _ (h u) (L .along-monotone _ _ _ j)),
+      step-for p q m r,
+      rw (← z) (L .transitive _ _ _ (h u) (L .along-monotone _ _ _ j)),
     )
 
     upheld : {t : ℕ} → Walk tights s t → word P ws t ≢ none → out t ≡ false → Upheld t
     upheld stay d q = (start, here, rw source-word (L .irreflexive start))
-    upheld (go {e = e} w m) d q = pick (λ a b. upheld w a b) (ℕ-discrete (e .head) s)
-      where
-        pick : (word P ws (e .tail) ≢ none → out (e .tail) ≡ false → Upheld (e .tail)) → Dec (e .head ≡ s) → Upheld (e .head)
-        pick below (yes p) = rw p (start, here, rw source-word (L .irreflexive start))
-        pick below (no k) =
-            let (mo, t) = keep-in (tight P ws) es e m in
-            let (st, q′) = closed e mo t k d q in
-            let z : along (word P ws (e .tail)) (e .weight) ≡ word P ws (e .head) = eqb-true _ _ t in
-            upheld-on e st z (below (λ c. d (sym z ∙ ap (λ x. along x (e .weight)) c ∙ L .along-none _ (inside .weights e mo))) q′)
+    upheld (go {e = e} w m) d q = elim (ℕ-discrete (e .head) s) [
+      | yes p ↦ rw p (start, here, rw source-word (L .irreflexive start))
+      | no k ↦
+          let (mo, t) = keep-in (tight P ws) es e m in
+          let (st, q′) = closed e mo t k d q in
+          let z : along (word P ws (e .tail)) (e .weight) ≡ word P ws (e .head) = eqb-true _ _ t in
+          upheld-on e st z (upheld w (λ c. d (sym z ∙ ap (λ x. along x (e .weight)) c ∙ L .along-none _ (inside .weights e mo))) q′)
+    ]
 
     -- A word outside the set is none, or the value of a route. Then tight edges reach its vertex. Back along them to the source, each head is
     -- outside the set, so its edge stands and its tail is outside too. So the edges in their places are a route of the new edges, of a
     -- value that is no worse.
     pub still-sound : (t : ℕ) → out t ≡ false → Backed P fs s t (word P ws t)
-    still-sound t q = pick (ℕ-discrete (word P ws t) none) ((best t) .attained)
-      where
-        pick : Dec (word P ws t ≡ none) → Attained P es s t (word P ws t) → Backed P fs s t (word P ws t)
-        pick (yes p) a = inr p
-        pick (no d) (inl r) = let (u, z, h) = upheld (tight-walk (walk-of r)) d q in inl (u, z, h, value-fits L es s n inside r)
-        pick (no d) (inr c) = inr (c .1)
+    still-sound t q = elim (ℕ-discrete (word P ws t) none) [
+      | yes p ↦ inr p
+      | no d ↦
+          ⊎-elim (λ r. let (u, z, h) = upheld (tight-walk (walk-of r)) d q in inl (u, z, h, value-fits L es s n inside r)) (λ c. inr (c .1)) ((best t) .attained)
+    ]

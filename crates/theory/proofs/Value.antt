@@ -14,8 +14,8 @@ use Rattle.graph.proofs.Order.{Within}
 use Rattle.run.specs.Run.{State, word, relaxable, settle}
 use Rattle.run.specs.Start.{opened}
 use Rattle.theory.specs.Best.{Weighed}
-use Rattle.theory.proofs.Walk.{Walk, walk?, walk-of, route-of}
-use Rattle.theory.proofs.Settle.{Settled, Backed, Sound, Inv, settled-complete, backed-fits, route-backed, settled, settle-good}
+use Rattle.theory.proofs.Walk.{walk?, walk-of, route-of}
+use Rattle.theory.proofs.Settle.{Settled, Sound, Inv, settled-complete, backed-fits, route-backed, settled, settle-good}
 
 abbrev pub from : Property → ℕ → Property
 from P v = record { start = v; none = P .none; along = P .along; better = P .better; join = P .join; worse = P .worse }
@@ -54,6 +54,10 @@ module _ {P : Property} (L : Laws P) (es : List Edge) (s n : ℕ) (inside : With
   pub value-before : {t u : ℕ} → Route P es s t u → better none u ≡ false
   value-before r = L .none-worst _ (value-fits r)
 
+  -- best values are words
+  pub best-fits : {t v : ℕ} → Best P es s t v → v ≤ M
+  best-fits b = ⊎-elim value-fits (λ c. rw (c .1) (L .none-fits)) (b .attained)
+
   -- an edge that leaves a vertex without a route could not better a sound word
   pub none-quiet : (ws : List ℕ) → Sound P es s ws → (e : Edge) → List·Memᴰ e es → word P ws (e .tail) ≡ none → relaxable P ws e ≡ false
   none-quiet ws sound e m q =
@@ -66,18 +70,19 @@ module _ {P : Property} (L : Laws P) (es : List Edge) (s n : ℕ) (inside : With
   -- value of a route, and so that value. Where a word is none although there is a walk, that walk's route is no better than none and no
   -- worse, so none is its value.
   pub settled-best : (st : State) → Inv P es s n st → anyOf (st .waiting) ≡ false → (t : ℕ) → Best P es s t (word P (st .words) t)
-  settled-best st g q t = record { unbettered = λ u r. all r; attained = reached (g .sound t) (walk? es s t) }
+  settled-best st g q t = record {
+    unbettered = λ u r. all r;
+    attained = ⊎-elim (λ (u, r, h, f). equal r h) (λ e. elim (walk? es s t) [
+      | no d ↦ inr (λ u r. d (walk-of r), e)
+      | yes k ↦ let (u, r) = route-of P k in equal r (rw e (value-before r))
+    ]) (g .sound t);
+  }
     where
-      w : ℕ
-      w = word P (st .words) t
-
-      all : {u : ℕ} → Route P es s t u → better u w ≡ false
+      all : {u : ℕ} → Route P es s t u → better u (word P (st .words) t) ≡ false
       all r = settled-complete L es s (st .words) (g .source) (settled L es s n inside st g q) r
 
-      reached : Backed P es s t w → Dec (Walk es s t) → Attained P es s t w
-      reached (inl (u, r, h, f)) d = inl (rw (L .antisymmetric w u h (all r)) r)
-      reached (inr e) (no d) = inr (λ u r. d (walk-of r), e)
-      reached (inr e) (yes k) = let (u, r) = route-of P k in inl (rw (L .antisymmetric w u (rw e (value-before r)) (all r)) r)
+      equal : {u : ℕ} → Route P es s t u → better (word P (st .words) t) u ≡ false → Attained P es s t (word P (st .words) t)
+      equal r h = inl (rw (L .antisymmetric _ _ h (all r)) r)
 
   pub best-sound : (ws : List ℕ) → ((t : ℕ) → Best P es s t (word P ws t)) → Sound P es s ws
   best-sound ws best t = ⊎-elim (λ r. route-backed L r (value-fits r)) (λ c. inr (c .1)) ((best t) .attained)

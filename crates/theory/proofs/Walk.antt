@@ -46,23 +46,26 @@ walk-nil (go w m) = absurd (List·Memᴰ·not-nil m)
 -- By recursion on the edges. With none, a walk stays where it is. With a first edge e, there is a walk if there is one along the
 -- others, or if they lead to the tail of e and on from its head; and `parts` says that there is no further way.
 pub walk? : (es : List Edge) (s t : ℕ) → Dec (Walk es s t)
-walk? [] s t = start (ℕ-discrete s t)
-  where
-    start : Dec (s ≡ t) → Dec (Walk [] s t)
-    start (yes p) = yes (rw p stay)
-    start (no d) = no (λ w. d (walk-nil w))
-walk? (e ∷ es) s t = pick (walk? es s t) (walk? es s (e .tail)) (walk? es (e .head) t)
+walk? [] s t = elim (ℕ-discrete s t) [ yes p ↦ yes (rw p stay) | no d ↦ no (λ w. d (walk-nil w)) ]
+walk? (e ∷ es) s t = elim (walk? es s t) [
+  | yes w ↦ yes (up w)
+  | no a ↦ elim (walk? es s (e .tail)) [
+    | no b ↦ no (λ w. ⊎-elim a (λ q. b (q .0)) (parts e es w))
+    | yes v ↦ elim (walk? es (e .head) t) [
+      | yes w ↦ yes (walk-join (go (up v) (List·Memᴰ·head refl)) (up w))
+      | no c ↦ no (λ w. ⊎-elim a (λ q. c (q .1)) (parts e es w))
+    ]
+  ]
+]
   where
     up : {a b : ℕ} → Walk es a b → Walk (e ∷ es) a b
     up w = walk-map (λ x m. List·Memᴰ·tail m) w
 
-    pick : Dec (Walk es s t) → Dec (Walk es s (e .tail)) → Dec (Walk es (e .head) t) → Dec (Walk (e ∷ es) s t)
-    pick (yes w) b c = yes (up w)
-    pick (no a) (yes v) (yes w) = yes (walk-join (go (up v) (List·Memᴰ·head refl)) (up w))
-    pick (no a) (yes v) (no c) = no (λ w. ⊎-elim a (λ q. c (q .1)) (parts e es w))
-    pick (no a) (no b) c = no (λ w. ⊎-elim a (λ q. b (q .0)) (parts e es w))
-
 -- ---- walks and routes
+
+-- a route goes on along an edge that has the ends of another
+pub step-for : {P : Property} {es : List Edge} {s t h v : ℕ} {f : Edge} → t ≡ f .tail → h ≡ f .head → List·Memᴰ f es → Route P es s t v → Route P es s h (P .along v (f .weight))
+step-for p q m r = rw q (step (rw p at r) m)
 
 pub walk-of : {P : Property} {es : List Edge} {s t u : ℕ} → Route P es s t u → Walk es s t
 walk-of here = stay

@@ -1,34 +1,24 @@
 -- Small calls, computed: document 01, "Network", "Runs", "Turned back" and "Near the edges"; document 02, One. Each line says which sentence it shows and
 -- which nearby reading it shuts out; the numbers are worked out by hand. Assumes nothing.
---
--- A table of examples lists what a definition gives beside what the documents say; one equation holds for all of its lines.
 use Rattle.property.proofs.Basics.{_≡_, refl, List, [], _∷_, _++_, map, ℕ, _-_, _*_, _%_, length, replicate, set}
 use lib.ListN as list
-use Rattle.property.specs.Property.{M, property}
-use Rattle.frontier.specs.Waiting.{anyOf, countOf}
-use Rattle.graph.specs.Refusal.{Verdict, accept, refuse, _▷_, refuseIf, Reply, accepted, refused, replied, verdictOf, Outcome, choose}
-use Rattle.graph.specs.Edge.{Edge, edge, keepIf, keep, exists, zip, edges, range}
-use Rattle.graph.specs.Table.{Columns}
-use Rattle.graph.specs.Sorted as order
-use Rattle.run.specs.Run.{Tally, storeIf, relax, clear, handle, visitIf, visit, takeEntryIf, pass, round, settle}
-use Rattle.run.specs.Run as run
-use Rattle.run.specs.Start.{bound, asked}
-use Rattle.run.specs.Start as start
-use Rattle.affected.specs.Net.{counterpart}
-use Rattle.affected.specs.Affected.{mark, sweep, sweeps, affected}
-use Rattle.affected.specs.Prepared.{cleared, reopened, prepared}
-use Rattle.network.specs.Network.{Rows, Memory, Network, edgesIn, areLandmarks, flat, unsettled, storesOf}
+use Rattle.property.specs.Property.{M}
+use Rattle.graph.specs.Refusal.{Verdict, accept, refuse, Reply, accepted, refused, Outcome}
+use Rattle.graph.specs.Edge.{Edge, edge, range}
+use Rattle.run.specs.Run.{Tally}
+use Rattle.network.specs.Network.{Rows, Memory, Network, edgesIn}
 use Rattle.network.specs.Open.{openCall}
-use Rattle.network.specs.Query.{Words, scheduled, queryCall, queryFaults}
-use Rattle.network.specs.Change.{Change, edit, item, items, words, against}
-use Rattle.network.specs.Batch.{Report, affectedOver, batchCall, batchFaults}
-use Rattle.network.specs.Settled.{Check, settled, found, inRecords, inRows, settledCall}
-use Rattle.network.specs.Choice.{ranked, choiceCall}
-use Rattle.network.specs.Lookup.{indexOf, lookupRow}
-use Rattle.network.specs.Caller.{holding, openedNetwork, reported, lived}
-use Rattle.network.specs.Current.{turnedBack, after, current}
+use Rattle.network.specs.Query.{Words, queryCall}
+use Rattle.network.specs.Change.{Change}
+use Rattle.network.specs.Batch.{Report, batchCall}
+use Rattle.network.specs.Settled.{Check, settled, found, settledCall}
+use Rattle.network.specs.Choice.{choiceCall}
+use Rattle.network.specs.Lookup.{lookupRow}
+use Rattle.network.specs.Caller.{holding, openedNetwork, lived}
+use Rattle.network.specs.Current.{turnedBack, current}
 use Rattle.worked.specs.Starred.{graphA, takes, adds}
-use Rattle.worked.proofs.Refusals.{changes, worst, change}
+use Rattle.worked.proofs.Calls.{calls}
+use Rattle.worked.proofs.Refusals.{Said, each, changes, worst, change}
 
 -- ---- what the calls leave in lent memory
 
@@ -61,22 +51,29 @@ forwardOf2 = (M ∷ 4 ∷ 0 ∷ M ∷ []) ++ (M ∷ 1 ∷ 0 ∷ M ∷ []) ++ (0 
 abbrev backwardOf2 : List ℕ
 backwardOf2 = (8 ∷ 4 ∷ 0 ∷ 2 ∷ []) ++ (2 ∷ 1 ∷ 0 ∷ 1 ∷ []) ++ (4 ∷ 4 ∷ M ∷ 2 ∷ []) ++ (4 ∷ 4 ∷ 0 ∷ 2 ∷ []) ++ (1 ∷ 1 ∷ 1 ∷ 1 ∷ [])
 
--- an opening writes the row lists alone: "words past those stay", and so does the table with all that lies past its count
-opening : openCall 4 (0 ∷ []) (dusty (replicate 20 5) (replicate 20 6)) ≡ record { reply = accepted tt; memory = (dusty forwardOf0 backwardOf0) .memory }
-unfolding openCall replied choose _▷_ refuseIf exists areLandmarks edges zip order.rules order.follow unsettled flat anyOf range property start.opened settle round visit visitIf handle clear relax storeIf keep keepIf
-opening = refl
+-- deck A as openings leave it: landmark 0, landmark 2, both
+abbrev pub graph0 : Network
+graph0 = dusty forwardOf0 backwardOf0
 
--- "rows go by post in list order, then property": landmark 2 comes first where it is listed first
-opening-two : (openCall 4 (2 ∷ 0 ∷ []) (dusty (replicate 40 5) (replicate 40 6))) .memory .rows
-    ≡ record { forward = forwardOf2 ++ forwardOf0 ++ (99 ∷ 99 ∷ []); backward = backwardOf2 ++ backwardOf0 ++ (99 ∷ 99 ∷ []) }
-unfolding openCall choose _▷_ refuseIf exists areLandmarks edges zip order.rules order.follow unsettled flat anyOf range property start.opened settle round visit visitIf handle clear relax storeIf keep keepIf
-opening-two = refl
+abbrev graph2 : Network
+graph2 = dusty forwardOf2 backwardOf2
 
--- a refused opening leaves every list: here a landmark is named twice
-opening-refused : openCall 4 (0 ∷ 0 ∷ []) (dusty (replicate 40 5) (replicate 40 6))
-    ≡ record { reply = refused 3 0; memory = (dusty (replicate 40 5) (replicate 40 6)) .memory }
-unfolding openCall replied choose _▷_ refuseIf exists areLandmarks
-opening-refused = refl
+abbrev graphBoth : Network
+graphBoth = dusty (forwardOf2 ++ forwardOf0) (backwardOf2 ++ backwardOf0)
+
+-- an outcome that leaves the lists of a network
+abbrev pub leaves : {A : Type 0} → Reply A → Network → Outcome A Memory
+leaves r w = record { reply = r; memory = w .memory }
+
+abbrev openings : List (Outcome (Unit {0}) Memory × Outcome (Unit {0}) Memory)
+openings =
+    -- an opening writes the row lists alone: "words past those stay", and so does the table with all that lies past its count
+    (openCall 4 (0 ∷ []) (dusty (replicate 20 5) (replicate 20 6)), leaves (accepted tt) graph0)
+    -- "rows go by post in list order, then property": landmark 2 comes first where it is listed first
+    ∷ (openCall 4 (2 ∷ 0 ∷ []) (dusty (replicate 40 5) (replicate 40 6)), leaves (accepted tt) graphBoth)
+    -- a refused opening leaves every list: here a landmark is named twice
+    ∷ (openCall 4 (0 ∷ 0 ∷ []) (dusty (replicate 40 5) (replicate 40 6)), leaves (refused 3 0) (dusty (replicate 40 5) (replicate 40 6)))
+    ∷ []
 
 -- after the take of 0→1: each forward row loses the words of 1 and 2 and finds them by way of 3. Headroom is 2, and not the 4 that the
 -- ring 1→2→1 would feed itself; no backward word changes
@@ -97,42 +94,28 @@ swept ts hs ws f b = record {
 abbrev pub report : ℕ → ℕ → ℕ → Reply Report
 report m a s = accepted (record { count = m; affected = a; stores = s })
 
-abbrev batches : List (Outcome Report Memory × Outcome Report Memory)
+-- a batch on deck A with landmark 0
+abbrev pub batchOnA : List Change → Outcome Report Memory
+batchOnA b = batchCall 4 (0 ∷ []) graph0 b
+
+-- the pairs of deck A with these weights, and these forward rows: no backward word changes
+abbrev pub retuned : Reply Report → List ℕ → List ℕ → Outcome Report Memory
+retuned r ws f = record { reply = r; memory = swept (0 ∷ 0 ∷ 1 ∷ 2 ∷ 3 ∷ []) (1 ∷ 3 ∷ 2 ∷ 1 ∷ 2 ∷ []) ws f backwardOf0 }
+
+-- batches on deck A, and what they leave
+abbrev batches : List (List (List Change) × Outcome Report Memory)
 batches =
     -- two affected vertices and two stores in each of five forward rows: "sums suspects and stores over all rows"
     (
-      batchCall 4 (0 ∷ []) (dusty forwardOf0 backwardOf0) (takes 0 1 ∷ []),
-      record {
-        reply = report 4 10 10;
-        memory = swept (0 ∷ 1 ∷ 2 ∷ 3 ∷ []) (3 ∷ 2 ∷ 1 ∷ 2 ∷ []) (9 ∷ 4 ∷ 4 ∷ 2 ∷ []) forwardTaken backwardOf0;
-      },
+      (takes 0 1 ∷ []) ∷ [],
+      record { reply = report 4 10 10; memory = swept (0 ∷ 1 ∷ 2 ∷ 3 ∷ []) (3 ∷ 2 ∷ 1 ∷ 2 ∷ []) (9 ∷ 4 ∷ 4 ∷ 2 ∷ []) forwardTaken backwardOf0 },
     )
-    -- "An empty batch is accepted": count as before, 0, 0; it zeroes the records past the count all the same
-    ∷ (
-      batchCall 4 (0 ∷ []) (dusty forwardOf0 backwardOf0) [],
-      record {
-        reply = report 5 0 0;
-        memory = swept (0 ∷ 0 ∷ 1 ∷ 2 ∷ 3 ∷ []) (1 ∷ 3 ∷ 2 ∷ 1 ∷ 2 ∷ []) (4 ∷ 9 ∷ 4 ∷ 4 ∷ 2 ∷ []) forwardOf0 backwardOf0;
-      },
-    )
+    -- "An empty batch is accepted": count as before, 0, 0; it zeroes the records past the count all the same. 1,024 changes are good: 0→1 is
+    -- taken and added back 512 times; its record stands in both tables, so it is neither removed nor added
+    ∷ ([] ∷ map (λ i. change (2 - i % 2) 0 1 (4 * (i % 2))) (range 0 1024) ∷ [], retuned (report 5 0 0) (4 ∷ 9 ∷ 4 ∷ 4 ∷ 2 ∷ []) forwardOf0)
     -- "all or none": the second item is refused, and the first has changed nothing
-    ∷ (
-      batchCall 4 (0 ∷ []) (dusty forwardOf0 backwardOf0) (takes 0 1 ∷ takes 0 1 ∷ []),
-      record { reply = refused 11 1; memory = (dusty forwardOf0 backwardOf0) .memory },
-    )
-    -- 1,024 changes are good: 0→1 is taken and added back 512 times; its record stands in both tables, so it is neither removed nor added
-    ∷ (
-      batchCall 4 (0 ∷ []) (dusty forwardOf0 backwardOf0) (map (λ i. change (2 - i % 2) 0 1 (4 * (i % 2))) (range 0 1024)),
-      record {
-        reply = report 5 0 0;
-        memory = swept (0 ∷ 0 ∷ 1 ∷ 2 ∷ 3 ∷ []) (1 ∷ 3 ∷ 2 ∷ 1 ∷ 2 ∷ []) (4 ∷ 9 ∷ 4 ∷ 4 ∷ 2 ∷ []) forwardOf0 backwardOf0;
-      },
-    )
+    ∷ ((takes 0 1 ∷ takes 0 1 ∷ []) ∷ [], leaves (refused 11 1) graph0)
     ∷ []
-
-batches-said : map (λ c. c .0) batches ≡ map (λ c. c .1) batches
-unfolding batchCall batchFaults replied choose _▷_ refuseIf areLandmarks edges zip order.rules order.follow item words against items edit order.insert order.delete exists unsettled flat storesOf affectedOver anyOf countOf range property settle round visit visitIf handle clear relax storeIf keep keepIf counterpart mark sweep sweeps affected cleared reopened prepared
-batches-said = refl
 
 -- ---- affected vertices and stores of a batch
 
@@ -161,35 +144,23 @@ reports =
     -- affected there; the one affected vertex is 0 in the backward row for reach
     ∷ (replyTo 1 (takes 0 3 ∷ []), report 4 1 1)
     -- sums go over the rows of all posts: 10 and 10 forward for landmark 0, 5 and 5 backward for landmark 2
-    ∷ ((batchCall 4 (2 ∷ 0 ∷ []) (dusty (forwardOf2 ++ forwardOf0) (backwardOf2 ++ backwardOf0)) (takes 0 1 ∷ [])) .reply, report 4 15 15)
+    ∷ ((batchCall 4 (2 ∷ 0 ∷ []) graphBoth (takes 0 1 ∷ [])) .reply, report 4 15 15)
     ∷ []
-
-reports-said : map (λ c. c .0) reports ≡ map (λ c. c .1) reports
-unfolding openCall start.opened batchCall batchFaults replied choose _▷_ refuseIf areLandmarks edges zip order.rules order.follow item words against items edit order.insert order.delete exists unsettled flat storesOf affectedOver anyOf countOf range property settle round visit visitIf handle clear relax storeIf keep keepIf counterpart mark sweep sweeps affected cleared reopened prepared
-reports-said = refl
 
 -- ---- queries
 
 -- what a query on deck A leaves: two lists longer than n, whose words past n stay, and the tally: picks taken, rounds, stores
+abbrev lent : Words
+lent = record { starts = replicate 6 7; settled = replicate 5 8 }
+
 abbrev query : List ℕ → Network → ℕ → ℕ → List ℕ → Outcome Tally Words
-query ls w p s vs =
-    queryCall 4 ls w (record { property = p; source = s; schedule = vs }) (record { starts = replicate 6 7; settled = replicate 5 8 })
+query ls w p s vs = queryCall 4 ls w (record { property = p; source = s; schedule = vs }) lent
 
 abbrev answer : List ℕ → List ℕ → ℕ → ℕ → ℕ → Outcome Tally Words
 answer xs ys k r c = record {
   reply = accepted (record { taken = k; rounds = r; stores = c });
   memory = record { starts = xs ++ (7 ∷ 7 ∷ []); settled = ys ++ (8 ∷ []) };
 }
-
--- deck A as the openings above leave it: landmark 0, landmark 2, both
-abbrev graph0 : Network
-graph0 = dusty forwardOf0 backwardOf0
-
-abbrev graph2 : Network
-graph2 = dusty forwardOf2 backwardOf2
-
-abbrev graphBoth : Network
-graphBoth = dusty (forwardOf2 ++ forwardOf0) (backwardOf2 ++ backwardOf0)
 
 abbrev queries : List (Outcome Tally Words × Outcome Tally Words)
 queries =
@@ -221,16 +192,9 @@ queries =
     -- the source's start word is its value though the landmark rows say 5 + 5
     ∷ (query (0 ∷ []) (dusty (replicate 20 5) (replicate 20 5)) 1 0 [], answer (0 ∷ 10 ∷ 10 ∷ 10 ∷ []) (0 ∷ 4 ∷ 8 ∷ 9 ∷ []) 0 1 3)
     -- "No lent memory changes"
-    ∷ (query (0 ∷ []) graph0 6 0 [], record { reply = refused 5 0; memory = record { starts = replicate 6 7; settled = replicate 5 8 } })
-    ∷ (
-      query (0 ∷ []) graph0 1 0 (0 ∷ 4 ∷ []),
-      record { reply = refused 6 1; memory = record { starts = replicate 6 7; settled = replicate 5 8 } },
-    )
+    ∷ (query (0 ∷ []) graph0 6 0 [], record { reply = refused 5 0; memory = lent })
+    ∷ (query (0 ∷ []) graph0 1 0 (0 ∷ 4 ∷ []), record { reply = refused 6 1; memory = lent })
     ∷ []
-
-queries-said : map (λ c. c .0) queries ≡ map (λ c. c .1) queries
-unfolding queryCall queryFaults replied choose _▷_ refuseIf exists areLandmarks scheduled edges zip order.rules order.follow anyOf range property bound asked run.takeEntry takeEntryIf pass settle round visit visitIf handle clear relax storeIf keep keepIf
-queries-said = refl
 
 -- ---- the settled check
 
@@ -263,18 +227,11 @@ checkings =
     ∷ (checked (0 ∷ 0 ∷ []) (forwardOf0 ++ forwardOf0) (backwardOf0 ++ backwardOf0), refused 3 0)
     ∷ []
 
-checkings-said : map (λ c. c .0) checkings ≡ map (λ c. c .1) checkings
-unfolding settledCall replied _▷_ refuseIf exists areLandmarks edges zip order.rules order.follow inRows inRecords range property
-checkings-said = refl
-
 -- ---- post choice
 
--- lists of a table that holds the edges es
-abbrev tableOf : List Edge → Columns
-tableOf es = (holding es [] 0) .memory .table
-
+-- on lists of a table that holds the edges es
 abbrev chosen : ℕ → List Edge → ℕ → Reply (List ℕ)
-chosen n es k = choiceCall n (tableOf es) (length es) k
+chosen n es k = choiceCall n ((holding es [] 0) .memory .table) (length es) k
 
 abbrev choices : List (Reply (List ℕ) × Reply (List ℕ))
 choices =
@@ -299,10 +256,6 @@ choices =
     ∷ (chosen 5 [] 0, refused 3 0)
     ∷ (chosen 5 [] 5, refused 3 0)
     ∷ []
-
-choices-said : map (λ c. c .0) choices ≡ map (λ c. c .1) choices
-unfolding choiceCall replied _▷_ refuseIf edges zip order.rules order.follow order.insert ranked keep keepIf range
-choices-said = refl
 
 -- ---- row look-up
 
@@ -335,10 +288,6 @@ lookups =
     ∷ (lookupRow 4 (2 ∷ 2 ∷ []) rows 0 2 1, [])
     ∷ []
 
-lookups-said : map (λ c. c .0) lookups ≡ map (λ c. c .1) lookups
-unfolding lookupRow choose _▷_ refuseIf exists areLandmarks indexOf
-lookups-said = refl
-
 -- ---- the network as it is now
 
 -- accepted; refused, for 0→1 is gone; accepted; refused as a whole, though its first change is good; accepted and empty
@@ -356,7 +305,7 @@ graphNow = edge 0 1 3 ∷ edge 0 3 9 ∷ edge 1 0 2 ∷ edge 1 2 4 ∷ edge 2 1 
 
 -- "Accepted: item by item .. the list stays in table order. Refused: it stays"
 current-now : current 4 graphA history ≡ graphNow
-unfolding after turnedBack choose item words against items edit order.insert order.delete exists _▷_ refuseIf
+unfolding calls
 current-now = refl
 
 -- "The table's records below the present count are this list, and the count is its length": a refused batch hands on words and count.
@@ -365,23 +314,21 @@ abbrev held : Network → List Edge × ℕ × List ℕ × List ℕ
 held w = (edgesIn w, w .count, list.take 4 (w .memory .rows .forward), list.take 4 (w .memory .rows .backward))
 
 lived-now : held (lived 4 (0 ∷ []) (withLandmark 0) history) ≡ (graphNow, 6, 0 ∷ 3 ∷ 7 ∷ 9 ∷ [], 0 ∷ 2 ∷ 6 ∷ 8 ∷ [])
-unfolding openCall start.opened batchCall batchFaults reported replied choose _▷_ refuseIf areLandmarks edges zip order.rules order.follow item words against items edit order.insert order.delete exists unsettled flat anyOf range property settle round visit visitIf handle clear relax storeIf keep keepIf counterpart mark sweep sweeps affected cleared reopened prepared
+unfolding calls
 lived-now = refl
 
 -- "whether "Turned back" accepts the batch": reckoned from the edges alone it is what the call says, number and place
-abbrev judgedBatches : List (List Change × Verdict)
+abbrev judgedBatches : List (List (List Change) × Verdict)
 judgedBatches =
-    ([], accept)
-    ∷ (takes 0 1 ∷ [], accept)
-    ∷ (takes 0 1 ∷ takes 0 1 ∷ [], refuse 11 1)
-    ∷ (takes 0 1 ∷ adds 0 1 4 ∷ worst ∷ [], refuse 6 2)
-    ∷ (replicate 1025 worst, refuse 1 0)
+    ([] ∷ (takes 0 1 ∷ []) ∷ [], accept)
+    ∷ ((takes 0 1 ∷ takes 0 1 ∷ []) ∷ [], refuse 11 1)
+    ∷ ((takes 0 1 ∷ adds 0 1 4 ∷ worst ∷ []) ∷ [], refuse 6 2)
+    ∷ (replicate 1025 worst ∷ [], refuse 1 0)
     ∷ []
 
-turnedBack-said : map (λ c. turnedBack 4 graphA (c .0)) judgedBatches ≡ map (λ c. c .1) judgedBatches
-unfolding turnedBack item words against items edit order.insert order.delete exists _▷_ refuseIf
-turnedBack-said = refl
+-- ---- computed
 
-batchCall-said : map (λ c. changes 4 (0 ∷ []) (withLandmark 0) (c .0)) judgedBatches ≡ map (λ c. c .1) judgedBatches
-unfolding openCall start.opened batchCall batchFaults verdictOf replied choose _▷_ refuseIf areLandmarks edges zip order.rules order.follow item words against items edit order.insert order.delete exists unsettled flat anyOf range property settle round visit visitIf handle clear relax storeIf keep keepIf counterpart mark sweep sweeps affected cleared reopened prepared
-batchCall-said = refl
+examples-said : Said openings × Said (each batchOnA batches) × Said reports × Said queries × Said checkings × Said choices × Said lookups
+    × Said (each (turnedBack 4 graphA) judgedBatches) × Said (each (changes 4 (0 ∷ []) (withLandmark 0)) judgedBatches)
+unfolding calls
+examples-said = (refl, refl, refl, refl, refl, refl, refl, refl, refl)

@@ -1,3 +1,4 @@
+pub mod Calls
 pub mod Starred
 pub mod Refusals
 pub mod Examples

@@ -10,20 +10,21 @@
 --   graphQ                   == the worst stretch of 0→3 is 5, by 1→3; tight edges alone would lead round by 2
 --   graphF                   == 0→2 takes as long at once as by 1
 --   graphL                   == the two ways of 0→5 differ first at 1 and 2, and then at 4 and 3
---   words k                  == a list of k words for a table, all 0
-use Rattle.property.proofs.Basics.{_≡_, refl, List, [], _∷_, map, ℕ, length, replicate}
-use Rattle.property.specs.Property.{property}
-use Rattle.frontier.specs.Waiting.{anyOf}
-use Rattle.graph.specs.Refusal.{_▷_, refuseIf, accepted, refused, replied, choose, Outcome}
-use Rattle.graph.specs.Edge.{Edge, edge, keepIf, keep, zip, edges, range}
+--   words k w                == lists of a table of k tails and heads and w weights, all 0
+use Rattle.property.proofs.Basics.{refl, List, [], _∷_, _++_, map, ℕ, length, replicate}
+use Rattle.graph.specs.Refusal.{accepted, refused, Outcome}
+use Rattle.graph.specs.Edge.{Edge, edge}
 use Rattle.graph.specs.Table.{Columns}
 use Rattle.graph.specs.Code.{columns}
-use Rattle.graph.specs.Sorted as order
-use Rattle.run.specs.Run.{storeIf, relax, clear, handle, visitIf, visit, round, settle}
-use Rattle.run.specs.Start.{opened}
 use Rattle.network.specs.Caller.{holding}
-use Rattle.answers.specs.Routing.{Answer, firstOf, followed, marksOf, routeFaults, routeCall}
+use Rattle.answers.specs.Routing.{Answer, routeCall}
 use Rattle.worked.specs.Starred.{graphA}
+use Rattle.worked.proofs.Calls.{calls}
+use Rattle.worked.proofs.Refusals.{Said}
+
+-- what is asked, and what is found
+abbrev Lines : Type 0
+Lines = List (Outcome ℕ Answer) × List (Outcome ℕ Answer)
 
 abbrev blank : ℕ → ℕ → Answer
 blank a b = record { vertices = replicate a 77; marks = replicate b 99 }
@@ -55,66 +56,62 @@ graphF = edge 0 1 3 ∷ edge 0 2 7 ∷ edge 1 2 4 ∷ []
 abbrev graphL : List Edge
 graphL = edge 0 1 1 ∷ edge 0 2 1 ∷ edge 1 4 1 ∷ edge 2 3 1 ∷ edge 3 5 1 ∷ edge 4 5 1 ∷ []
 
-abbrev words : ℕ → List ℕ
-words k = replicate k 0
+abbrev words : ℕ → ℕ → Columns
+words k w = columns (replicate k 0) (replicate k 0) (replicate w 0)
 
 -- ---- routes
 
 -- deck A from 0 to 2, for each property: one route, whose marks differ. By 1 it takes 8, by 3 it takes 11; handovers and reach are the same by
 -- both, and 1 is lower than 3
-routes-A : map (λ p. asked 4 graphA p 0 2) (1 ∷ 2 ∷ 3 ∷ 4 ∷ 5 ∷ [])
-    ≡ found 3 (0 ∷ 1 ∷ 2 ∷ 77 ∷ []) (1 ∷ 1 ∷ 99 ∷ 99 ∷ [])
-    ∷ found 3 (0 ∷ 1 ∷ 2 ∷ 77 ∷ []) (1 ∷ 1 ∷ 99 ∷ 99 ∷ [])
-    ∷ found 3 (0 ∷ 1 ∷ 2 ∷ 77 ∷ []) (1 ∷ 0 ∷ 99 ∷ 99 ∷ [])
-    ∷ found 3 (0 ∷ 1 ∷ 2 ∷ 77 ∷ []) (1 ∷ 0 ∷ 99 ∷ 99 ∷ [])
-    ∷ found 3 (0 ∷ 1 ∷ 2 ∷ 77 ∷ []) (0 ∷ 0 ∷ 99 ∷ 99 ∷ [])
-    ∷ []
-unfolding property anyOf _▷_ refuseIf replied choose keepIf keep zip edges range order.follow order.rules storeIf relax clear handle visitIf visit round settle opened firstOf followed marksOf routeFaults routeCall
-routes-A = refl
+abbrev routes-A : Lines
+routes-A = (
+  map (λ p. asked 4 graphA p 0 2) (1 ∷ 2 ∷ 3 ∷ 4 ∷ 5 ∷ []),
+  map (λ ms. found 3 (0 ∷ 1 ∷ 2 ∷ 77 ∷ []) (ms ++ (99 ∷ 99 ∷ []))) ((1 ∷ 1 ∷ []) ∷ (1 ∷ 1 ∷ []) ∷ (1 ∷ 0 ∷ []) ∷ (1 ∷ 0 ∷ []) ∷ (0 ∷ 0 ∷ []) ∷ []),
+)
 
 -- without 0→1 the way to 1 is the long one, over all vertices: the lists are just long enough. Headroom goes 9, 2, 2 and worst stretch 9, 9, 9
-routes-less : map (λ p. asked 4 lessA p 0 1) (1 ∷ 2 ∷ 3 ∷ 4 ∷ 5 ∷ [])
-    ≡ found 4 (0 ∷ 3 ∷ 2 ∷ 1 ∷ []) (1 ∷ 1 ∷ 1 ∷ 99 ∷ [])
-    ∷ found 4 (0 ∷ 3 ∷ 2 ∷ 1 ∷ []) (1 ∷ 1 ∷ 1 ∷ 99 ∷ [])
-    ∷ found 4 (0 ∷ 3 ∷ 2 ∷ 1 ∷ []) (1 ∷ 1 ∷ 0 ∷ 99 ∷ [])
-    ∷ found 4 (0 ∷ 3 ∷ 2 ∷ 1 ∷ []) (1 ∷ 0 ∷ 0 ∷ 99 ∷ [])
-    ∷ found 4 (0 ∷ 3 ∷ 2 ∷ 1 ∷ []) (0 ∷ 0 ∷ 0 ∷ 99 ∷ [])
-    ∷ []
-unfolding property anyOf _▷_ refuseIf replied choose keepIf keep zip edges range order.follow order.rules storeIf relax clear handle visitIf visit round settle opened firstOf followed marksOf routeFaults routeCall
-routes-less = refl
+abbrev routes-less : Lines
+routes-less = (
+  map (λ p. asked 4 lessA p 0 1) (1 ∷ 2 ∷ 3 ∷ 4 ∷ 5 ∷ []),
+  map (λ ms. found 4 (0 ∷ 3 ∷ 2 ∷ 1 ∷ []) (ms ++ (99 ∷ [])))
+      ((1 ∷ 1 ∷ 1 ∷ []) ∷ (1 ∷ 1 ∷ 1 ∷ []) ∷ (1 ∷ 1 ∷ 0 ∷ []) ∷ (1 ∷ 0 ∷ 0 ∷ []) ∷ (0 ∷ 0 ∷ 0 ∷ []) ∷ []),
+)
 
 -- Headroom on P and worst stretch on Q go by 1, along an edge that is not tight; time on Q goes round by 2, for 7 and not 10. The fewest edges come
 -- before the lowest vertex (F). The lowest vertex counts where two routes first differ, from the source on (L: from the target on, 3 is
 -- lower). "Source equal to target gives one station", in a ring too, and with no edge at all.
-routes-told :
-    asked 4 graphP 3 0 3 ∷ asked 4 graphQ 4 0 3 ∷ asked 4 graphQ 1 0 3 ∷ asked 3 graphF 1 0 2 ∷ asked 6 graphL 1 0 5
-    ∷ asked 4 graphA 1 1 1 ∷ asked 1 [] 3 0 0 ∷ []
-    ≡ found 3 (0 ∷ 1 ∷ 3 ∷ 77 ∷ []) (1 ∷ 0 ∷ 99 ∷ 99 ∷ [])
-    ∷ found 3 (0 ∷ 1 ∷ 3 ∷ 77 ∷ []) (1 ∷ 0 ∷ 99 ∷ 99 ∷ [])
-    ∷ found 4 (0 ∷ 2 ∷ 1 ∷ 3 ∷ []) (1 ∷ 1 ∷ 1 ∷ 99 ∷ [])
-    ∷ found 2 (0 ∷ 2 ∷ 77 ∷ []) (1 ∷ 99 ∷ 99 ∷ [])
-    ∷ found 4 (0 ∷ 1 ∷ 4 ∷ 5 ∷ 77 ∷ 77 ∷ []) (1 ∷ 1 ∷ 1 ∷ 99 ∷ 99 ∷ 99 ∷ [])
-    ∷ found 1 (1 ∷ 77 ∷ 77 ∷ 77 ∷ []) (99 ∷ 99 ∷ 99 ∷ 99 ∷ [])
-    ∷ found 1 (0 ∷ []) (99 ∷ [])
-    ∷ []
-unfolding property anyOf _▷_ refuseIf replied choose keepIf keep zip edges range order.follow order.rules storeIf relax clear handle visitIf visit round settle opened firstOf followed marksOf routeFaults routeCall
-routes-told = refl
+abbrev routes-told : Lines
+routes-told = (
+  asked 4 graphP 3 0 3 ∷ asked 4 graphQ 4 0 3 ∷ asked 4 graphQ 1 0 3 ∷ asked 3 graphF 1 0 2 ∷ asked 6 graphL 1 0 5
+      ∷ asked 4 graphA 1 1 1 ∷ asked 1 [] 3 0 0 ∷ [],
+  found 3 (0 ∷ 1 ∷ 3 ∷ 77 ∷ []) (1 ∷ 0 ∷ 99 ∷ 99 ∷ [])
+      ∷ found 3 (0 ∷ 1 ∷ 3 ∷ 77 ∷ []) (1 ∷ 0 ∷ 99 ∷ 99 ∷ [])
+      ∷ found 4 (0 ∷ 2 ∷ 1 ∷ 3 ∷ []) (1 ∷ 1 ∷ 1 ∷ 99 ∷ [])
+      ∷ found 2 (0 ∷ 2 ∷ 77 ∷ []) (1 ∷ 99 ∷ 99 ∷ [])
+      ∷ found 4 (0 ∷ 1 ∷ 4 ∷ 5 ∷ 77 ∷ 77 ∷ []) (1 ∷ 1 ∷ 1 ∷ 99 ∷ 99 ∷ 99 ∷ [])
+      ∷ found 1 (1 ∷ 77 ∷ 77 ∷ 77 ∷ []) (99 ∷ 99 ∷ 99 ∷ 99 ∷ [])
+      ∷ found 1 (0 ∷ []) (99 ∷ [])
+      ∷ [],
+)
 
 -- ---- refusals
 
 -- "The lowest number that applies is given": each line mends what the line before was refused for. n is 0, or over 256; a list of the table, of
 -- vertices, of marks is a word too short; the count is over 2,048; a pair stands twice, the second time at 1; the property is 0, or 6; the source is
 -- no vertex, and then the target; and from 3 there is no route to 0.
-routes-refused :
-    tried 0 (columns (words 0) (words 0) (words 0)) 2049 6 4 4 0 0
-    ∷ tried 257 (columns (words 0) (words 0) (words 0)) 2049 6 4 4 0 0
-    ∷ tried 4 (columns (words 2048) (words 2048) (words 2047)) 2049 6 4 4 4 4
-    ∷ tried 4 (columns (words 2048) (words 2048) (words 2048)) 2049 6 4 4 3 4
-    ∷ tried 4 (columns (words 2048) (words 2048) (words 2048)) 2049 6 4 4 4 3
-    ∷ tried 4 (columns (words 2048) (words 2048) (words 2048)) 2049 6 4 4 4 4
-    ∷ asked 4 (edge 0 1 4 ∷ edge 0 1 9 ∷ []) 6 4 4
-    ∷ asked 4 graphA 0 4 4 ∷ asked 4 graphA 6 4 4 ∷ asked 4 graphA 1 4 0 ∷ asked 4 graphA 1 3 4 ∷ asked 4 graphA 1 3 0 ∷ []
-    ≡ turned 1 0 0 0 ∷ turned 1 0 0 0 ∷ turned 2 0 4 4 ∷ turned 2 0 3 4 ∷ turned 2 0 4 3 ∷ turned 4 0 4 4 ∷ turned 4 1 4 4
-    ∷ turned 5 0 4 4 ∷ turned 5 0 4 4 ∷ turned 6 0 4 4 ∷ turned 6 0 4 4 ∷ turned 15 0 4 4 ∷ []
-unfolding property anyOf _▷_ refuseIf replied choose keepIf keep zip edges range order.follow order.rules storeIf relax clear handle visitIf visit round settle opened firstOf followed marksOf routeFaults routeCall
-routes-refused = refl
+abbrev routes-refused : Lines
+routes-refused = (
+  tried 0 (words 0 0) 2049 6 4 4 0 0 ∷ tried 257 (words 0 0) 2049 6 4 4 0 0
+      ∷ tried 4 (words 2048 2047) 2049 6 4 4 4 4 ∷ tried 4 (words 2048 2048) 2049 6 4 4 3 4
+      ∷ tried 4 (words 2048 2048) 2049 6 4 4 4 3 ∷ tried 4 (words 2048 2048) 2049 6 4 4 4 4
+      ∷ asked 4 (edge 0 1 4 ∷ edge 0 1 9 ∷ []) 6 4 4
+      ∷ asked 4 graphA 0 4 4 ∷ asked 4 graphA 6 4 4 ∷ asked 4 graphA 1 4 0 ∷ asked 4 graphA 1 3 4 ∷ asked 4 graphA 1 3 0 ∷ [],
+  turned 1 0 0 0 ∷ turned 1 0 0 0 ∷ turned 2 0 4 4 ∷ turned 2 0 3 4 ∷ turned 2 0 4 3 ∷ turned 4 0 4 4 ∷ turned 4 1 4 4
+      ∷ turned 5 0 4 4 ∷ turned 5 0 4 4 ∷ turned 6 0 4 4 ∷ turned 6 0 4 4 ∷ turned 15 0 4 4 ∷ [],
+)
+
+-- ---- computed
+
+routes-said : Said (routes-A ∷ routes-less ∷ routes-told ∷ routes-refused ∷ [])
+unfolding calls
+routes-said = refl

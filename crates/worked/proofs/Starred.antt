@@ -1,23 +1,8 @@
 -- The starred lines of document 01, computed. Assumes nothing.
 use Rattle.property.proofs.Basics.{refl}
-use Rattle.property.specs.Property.{property}
-use Rattle.frontier.specs.Waiting.{anyOf, countOf}
-use Rattle.graph.specs.Refusal.{_▷_, refuseIf, replied, choose}
-use Rattle.graph.specs.Edge.{keepIf, keep, exists, zip, edges, range}
-use Rattle.graph.specs.Sorted as order
-use Rattle.run.specs.Run.{storeIf, relax, clear, handle, visitIf, visit, takeEntryIf, takeEntry, pass, round, settle}
-use Rattle.run.specs.Start.{opened, bound, asked}
-use Rattle.affected.specs.Net.{counterpart}
-use Rattle.affected.specs.Affected.{mark, sweep, sweeps, affected}
-use Rattle.affected.specs.Prepared.{cleared, reopened, prepared}
-use Rattle.network.specs.Network.{areLandmarks, flat, unsettled, storesOf}
-use Rattle.network.specs.Open.{openCall}
-use Rattle.network.specs.Query.{scheduled, queryCall, queryFaults}
-use Rattle.network.specs.Change.{edit, item, items, words, against}
-use Rattle.network.specs.Batch.{affectedOver, batchCall, batchFaults}
-use Rattle.network.specs.Caller.{reported}
-use Rattle.worked.specs.Starred.{those, saidOfQuery, saidOfBatch, affectedList, answer, found, Starred}
+use Rattle.worked.specs.Starred.{Starred}
+use Rattle.worked.proofs.Calls.{calls}
 
 pub starred-found : Starred
-unfolding property anyOf countOf _▷_ refuseIf replied choose keepIf keep exists zip edges range order.follow order.rules order.insert order.delete storeIf relax clear handle visitIf visit takeEntryIf takeEntry pass round settle opened bound asked counterpart mark sweep sweeps affected cleared reopened prepared areLandmarks flat unsettled storesOf openCall scheduled queryCall queryFaults edit item words against items affectedOver batchCall batchFaults reported those saidOfQuery saidOfBatch affectedList answer found
+unfolding calls
 starred-found = refl

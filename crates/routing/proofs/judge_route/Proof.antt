@@ -17,29 +17,6 @@ bare c =
     let a = c .before .before .before .before .before .args in
     c .judge-bare .ensures ∙ ap (λ (v : Verdict). bareFaults (a .n) (columns (a .tails .now) (a .heads .now) (a .weights .now)) (a .count) v) (c .before .judge-outputs .ensures)
 
-returns : tie.Need-returns
-unfolding routeFaults
-returns c = then-refused _ _ _ _ _ (bare (c .before .before)) (c .enum-told2 .given .1)
-
-returns-2 : tie.Need-returns-2
-unfolding routeFaults
-returns-2 c =
-    let i = c .before in
-    let e = i .before in
-    let a = e .before .before .before .before .before .before .before .args in
-    then-judged _ _ _ _ (bare (e .before .before)) (e .enum-told .given .1)
-    (if-refused (not (isProperty (a .request .property))) 5 0 _ (ap not (sym (i .is-property .ensures)) ∙ c .if1 .taken))
-
-returns-3 : tie.Need-returns-3
-unfolding routeFaults
-returns-3 c =
-    let l = c .before .before .before in
-    let i = l .before in
-    let e = i .before in
-    let a = e .before .before .before .before .before .before .before .args in
-    then-judged _ _ _ _ (bare (e .before .before)) (e .enum-told .given .1)
-    (if-judged (not (isProperty (a .request .property))) 5 0 _ _ (ap not (sym (i .is-property .ensures)) ∙ l .if1 .left) (c .refuse-if .ensures))
-
 pub judge-route-spec : {M : Type 1} → statement M
 judge-route-spec =
     tie.close
@@ -48,8 +25,17 @@ judge-route-spec =
     (λ c κs. search needs)
     (λ c. search needs)
     (λ c. search needs)
-    returns
+    (λ c. unfold routeFaults in then-refused _ _ _ _ _ (bare (c .before .before)) (c .enum-told2 .given .1))
     (λ c κs. search needs)
-    returns-2
+    (λ c. let i = c .before in
+    let e = i .before in
+    let a = e .before .before .before .before .before .before .before .args in
+    unfold routeFaults in then-judged _ _ _ _ (bare (e .before .before)) (e .enum-told .given .1)
+    (if-refused (not (isProperty (a .request .property))) 5 0 _ (ap not (sym (i .is-property .ensures)) ∙ c .if1 .taken)))
     (λ c κs. search needs)
-    returns-3)
+    (λ c. let l = c .before .before .before in
+    let i = l .before in
+    let e = i .before in
+    let a = e .before .before .before .before .before .before .before .args in
+    unfold routeFaults in then-judged _ _ _ _ (bare (e .before .before)) (e .enum-told .given .1)
+    (if-judged (not (isProperty (a .request .property))) 5 0 _ _ (ap not (sym (i .is-property .ensures)) ∙ l .if1 .left) (c .refuse-if .ensures))))

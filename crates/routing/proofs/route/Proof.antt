@@ -35,30 +35,22 @@ routable c =
 size : (c : tie.After-enum-told) → let a = begin (c .before .before) .args in length (take {A = ℕ} (a .n) (replicate maxVertices 0)) ≡ a .n
 size c = let a = begin (c .before .before) .args in length-take-le {A = ℕ} (a .n) (replicate maxVertices 0) (routable c .few)
 
-returns : tie.Need-returns
-returns c =
-    let j = c .before .before .before in
-    let s = begin j in
-    route-refused (s .args .n) (table s) (s .args .count) (asked s) (s .args .vertices .now) (s .args .marks .now) _ (j .judge-route .ensures) (c .before .judged .given .1)
-
-returns-2 : tie.Need-returns-2
-returns-2 c =
-    let f = c .before .before .before .before .before in
-    let d = f .before .before .before .before in
-    let s = begin (d .before .before) in
-    f .find-route .ensures ∙ route-unfaulted (s .args .n) (table s) (s .args .count) (asked s) (s .args .vertices .now) (s .args .marks .now) (fine d)
-
 pub route-spec : {M : Type 1} → statement M
 route-spec =
     tie.close
     (tie.spec
     (λ c κs. search needs)
     (λ c. search needs)
-    returns
+    (λ c. let j = c .before .before .before in
+    let s = begin j in
+    route-refused (s .args .n) (table s) (s .args .count) (asked s) (s .args .vertices .now) (s .args .marks .now) _ (j .judge-route .ensures) (c .before .judged .given .1))
     (λ c. search needs)
     (λ c. routable c .few)
     (λ c. sym (size (c .before)))
     (λ c κs. let d = c .before .before .before in (routable d, size d))
     (λ c. search needs)
     (λ c. search needs)
-    returns-2)
+    (λ c. let f = c .before .before .before .before .before in
+    let d = f .before .before .before .before in
+    let s = begin (d .before .before) in
+    f .find-route .ensures ∙ route-unfaulted (s .args .n) (table s) (s .args .count) (asked s) (s .args .vertices .now) (s .args .marks .now) (fine d)))

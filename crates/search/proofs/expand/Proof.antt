@@ -22,26 +22,6 @@ Inv-loop p v u index row queue₀ count via₀ x hi j₀ m₀ queue via j m =
 abbrev μ-loop : tie.MeasureT-loop
 μ-loop p v u index row queue₀ count via₀ x hi j₀ m₀ queue via j m = hi - j
 
-loop-holds : tie.Need-loop-holds Inv-loop μ-loop
-loop-holds c =
-    let s = c .before .before .before .before .before .before .before in
-    let u = s .args .u in
-    let f = s .pre .1 in
-    (refl, f .after u (omega (arith, s .pre .0)), f .rising u (s .pre .0), f .within u (s .pre .0), refl, s .pre .3, refl)
-
-read-head : tie.Need-shared-slice-read-is-eligible Inv-loop μ-loop
-read-head c =
-    let h = c .before .before in
-    let l = h .before .before .before in
-    let s = l .before .before .before .before .before .before .before .before in
-    let i = s .pre .1 .inside (l .loop .j) (omega arith) (omega arith) in
-    omega (arith, h .head .ensures, s .pre .2)
-
-arc-requires : tie.Need-arc-requires Inv-loop μ-loop
-arc-requires c κs =
-    let s = c .before .before .before .before .before .before .before .before .before .before .before .before .before .before in
-    (omega (arith, s .pre .0, s .pre .1 .few), omega (arith, c .before .before .weight .ensures))
-
 look-requires : tie.Need-look-requires Inv-loop μ-loop
 look-requires c κs =
     let a = c .before .before in
@@ -106,17 +86,25 @@ expand-spec =
     (λ c. search needs)
     (λ c. search needs)
     (λ c. omega (arith, c .shared-slice-known5 .given (c .before .before .before .before .before .before .before .args .u)))
-    loop-holds
+    (λ c. let s = c .before .before .before .before .before .before .before in
+    let u = s .args .u in
+    let f = s .pre .1 in
+    (refl, f .after u (omega (arith, s .pre .0)), f .rising u (s .pre .0), f .within u (s .pre .0), refl, s .pre .3, refl))
     (λ c. search needs)
     (λ c. search needs)
     (λ c κs. search needs)
     (λ c. search needs)
     (λ c κs. search needs)
     (λ c. search needs)
-    read-head
+    (λ c. let h = c .before .before in
+    let l = h .before .before .before in
+    let s = l .before .before .before .before .before .before .before .before in
+    let i = s .pre .1 .inside (l .loop .j) (omega arith) (omega arith) in
+    omega (arith, h .head .ensures, s .pre .2))
     (λ c κs. search needs)
     (λ c. search needs)
-    arc-requires
+    (λ c κs. let s = c .before .before .before .before .before .before .before .before .before .before .before .before .before .before in
+    (omega (arith, s .pre .0, s .pre .1 .few), omega (arith, c .before .before .weight .ensures)))
     look-requires
     (λ c. search needs)
     (λ c. search needs)

@@ -1,8 +1,8 @@
 -- `search::search` meets its contract. The loop's invariant: the steps that are left, from the search now, come to what `n` steps come to from the
 -- search before its first. Assumes nothing.
-use Rattle.property.proofs.Basics.{_≡_, refl, sym, ap, subst, _∙_, inl, inr, ⊎-elim, not, List, ℕ, _-_, length, length-set, arith, needs}
+use Rattle.property.proofs.Basics.{_≡_, refl, sym, ap, _∙_, inl, inr, ⊎-elim, not, List, ℕ, _-_, length, length-set, arith, needs}
 use Rattle.graph.specs.Edge.{Edge}
-use Rattle.graph.specs.Index.{Fit, Own}
+use Rattle.graph.specs.Index.{Own}
 use Rattle.answers.specs.Routing.{eligible}
 use Rattle.search.specs.Search.{isUnfound, begun}
 use Rattle.search.specs.Search as spec
@@ -40,25 +40,6 @@ size l =
     let f = l .before .before .before in
     sym (l .loop .inv .1 ∙ length-set (f .fill .last .0) _ _ ∙ f .fill .kept .0)
 
-read-u : tie.Need-slice-read-u Inv-loop μ-loop
-read-u c =
-    let l = c .before .before .before .before in
-    let f = l .loop .inv .3 in
-    omega (arith, f .once, f .room)
-
-expand-requires : tie.Need-expand-requires Inv-loop μ-loop
-expand-requires c κs =
-    let l = c .before .before .before .before .before .before in
-    let s = l .before .before .before .before .before .before .before .before .before in
-    let f = l .loop .inv .3 in
-    let z = size l in
-    (f .inside (l .loop .i) (omega arith), subst (λ (k : ℕ). Fit k (s .args .index .now)) z (s .pre .2), s .pre .3 ∙ z, f)
-
-loop-less : tie.Need-loop-less Inv-loop μ-loop
-loop-less c =
-    let l = c .before .before .before .before .before .before .before .before .before .before .before in
-    omega (arith, l .loop .inv .3 .once)
-
 loop-again : tie.Need-loop-again Inv-loop μ-loop
 loop-again c =
     let x = c .before .before .before .before in
@@ -71,7 +52,7 @@ loop-again c =
       λ n h es o.
           let z : n ≡ length (at .via) = h ∙ x .expand .kept .1 .1 .1 .1 .1 .1 .1 .0 in
           sym (search-turn (eligible (g .p) (g .row .now) (g .v)) es (g .t) (at .i) (at .count) (at .queue) (at .via) (at .inv .3) n _ z (b .before .before .loop-test .taken) (b .if1 .taken)
-          (x .expand .ensures .0 es (subst (λ (k : ℕ). Own k (g .index .now) es) z o)))
+          (x .expand .ensures .0 es (rw z at o)))
           ∙ at .inv .0 n z es o,
       x .expand .kept .1 .1 .1 .1 .1 .1 .1 .0 ∙ at .inv .1,
       x .expand .kept .1 .1 .1 .1 .1 .0 ∙ at .inv .2,
@@ -107,11 +88,18 @@ search-spec =
     (λ c. search needs)
     (λ c. search needs)
     (λ c. search needs)
-    read-u
+    (λ c. let l = c .before .before .before .before in
+    let f = l .loop .inv .3 in
+    omega (arith, f .once, f .room))
     (λ c. omega (arith, c .slice-known5 .given (c .before .before .before .before .loop .i)))
-    expand-requires
+    (λ c κs. let l = c .before .before .before .before .before .before in
+    let s = l .before .before .before .before .before .before .before .before .before in
+    let f = l .loop .inv .3 in
+    let z = size l in
+    (f .inside (l .loop .i) (omega arith), rw z at (s .pre .2), s .pre .3 ∙ z, f))
     (λ c. search needs)
-    loop-less
+    (λ c. let l = c .before .before .before .before .before .before .before .before .before .before .before in
+    omega (arith, l .loop .inv .3 .once))
     loop-again
     (λ c. search needs)
     (λ c. search needs)

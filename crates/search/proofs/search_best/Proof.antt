@@ -5,21 +5,6 @@ use Rattle.search.proofs.Steps.{searched-best, searched-all, told-of}
 use Rattle.search.proofs.search_best.Statement.{statement}
 use Rattle.search.proofs.search_best.Tie as tie
 
-returns : tie.Need-returns
-returns c =
-    let x = c .before .before .before .before in
-    let w = x .before .before .before .before in
-    let g = w .before .before .before .before .before .args in
-    λ es o. told-of (g .t) _ _ _ _ (searched-all (length (g .via .now)) (g .s) (g .t) es (g .row .now) (g .p) (w .if1 .taken)) (x .search-by .ensures es o)
-
-search-by-requires-2 : tie.Need-search-by-requires-2
-search-by-requires-2 c κs =
-    let v = c .before .before .before .before .before .before in
-    let w = v .before .before in
-    let s = w .before .before .before .before .before in
-    let p = s .pre in
-    (p .0, eqb-false _ _ ((neither _ _ (w .if1 .left)) .0), p .1, p .2, p .3, omega (arith, v .values-from .ensures .1), p .5)
-
 returns-2 : tie.Need-returns-2
 returns-2 c =
     let x = c .before .before .before .before in
@@ -40,11 +25,18 @@ search-best-spec =
     (λ c. search needs)
     (λ c. search needs)
     (λ c. search needs)
-    returns
+    (λ c. let x = c .before .before .before .before in
+    let w = x .before .before .before .before in
+    let g = w .before .before .before .before .before .args in
+    λ es o. told-of (g .t) _ _ _ _ (searched-all (length (g .via .now)) (g .s) (g .t) es (g .row .now) (g .p) (w .if1 .taken)) (x .search-by .ensures es o))
     (λ c κs. search needs)
     (λ c. search needs)
     (λ c. search needs)
-    search-by-requires-2
+    (λ c κs. let v = c .before .before .before .before .before .before in
+    let w = v .before .before in
+    let s = w .before .before .before .before .before in
+    let p = s .pre in
+    (p .0, eqb-false _ _ ((neither _ _ (w .if1 .left)) .0), p .1, p .2, p .3, omega (arith, v .values-from .ensures .1), p .5))
     (λ c. search needs)
     (λ c. search needs)
     (λ c. search needs)

@@ -4,14 +4,6 @@ use Rattle.search.proofs.Steps.{search-rest, told-of}
 use Rattle.search.proofs.search_by.Statement.{statement}
 use Rattle.search.proofs.search_by.Tie as tie
 
-returns-4 : tie.Need-returns-4
-returns-4 c =
-    let x = c .before .before .before .before in
-    let m = x .before .before .before in
-    let s = m .before .before .before .before .before in
-    let g = s .args in
-    λ es o. told-of (g .t) _ _ _ _ (search-rest (length (g .via .now)) (g .s) (g .t) es (g .row .now) (g .p) (g .v) (s .pre .0) (s .pre .1) (m .match .rest)) (x .search4 .ensures es o)
-
 pub search-by-spec : {M : Type 1} → statement M
 search-by-spec =
     tie.close
@@ -31,4 +23,8 @@ search-by-spec =
     (λ c. let x = c .before .before .before .before in rw (x .before .before .before .match .keys3) (x .search3 .ensures))
     (λ c. search needs)
     (λ c. search needs)
-    returns-4)
+    (λ c. let x = c .before .before .before .before in
+    let m = x .before .before .before in
+    let s = m .before .before .before .before .before in
+    let g = s .args in
+    λ es o. told-of (g .t) _ _ _ _ (search-rest (length (g .via .now)) (g .s) (g .t) es (g .row .now) (g .p) (g .v) (s .pre .0) (s .pre .1) (m .match .rest)) (x .search4 .ensures es o)))

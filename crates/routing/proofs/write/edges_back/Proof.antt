@@ -23,19 +23,6 @@ more c ps h = at-other h (c .before .loop .inv ps h .1) (c .loop-test .taken)
 room : (c : tie.In-loop Inv-loop μ-loop) → c .before .loop .k + 1 < length (c .before .before .before .args .via .now)
 room c = let (ps, h) = c .before .before .before .pre in omega (arith, more c ps h, h .short)
 
-loop-again : tie.Need-loop-again Inv-loop μ-loop
-loop-again c =
-    let b = c .before .before in
-    let l = b .before in
-    λ ps h.
-    let z = more b ps h in
-    (omega arith, rw (c .head .ensures) (at-back h (l .loop .inv ps h .1) (length ps - (l .loop .k + 1)) (omega arith)))
-
-returns : tie.Need-returns Inv-loop μ-loop
-returns c =
-    let l = c .before in
-    λ ps h. omega (arith, at-source h (l .loop .inv ps h .1) (c .loop-test .left), l .loop .inv ps h .0)
-
 pub edges-back-spec : {M : Type 1} → statement M
 edges-back-spec =
     tie.close
@@ -49,5 +36,10 @@ edges-back-spec =
     (λ c κs. tt)
     (λ c. omega (arith, room (c .before .before)))
     (λ c. omega (arith, room (c .before .before)))
-    loop-again
-    returns)
+    (λ c. let b = c .before .before in
+    let l = b .before in
+    λ ps h.
+    let z = more b ps h in
+    (omega arith, rw (c .head .ensures) (at-back h (l .loop .inv ps h .1) (length ps - (l .loop .k + 1)) (omega arith))))
+    (λ c. let l = c .before in
+    λ ps h. omega (arith, at-source h (l .loop .inv ps h .1) (c .loop-test .left), l .loop .inv ps h .0)))

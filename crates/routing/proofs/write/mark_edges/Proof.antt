@@ -16,11 +16,6 @@ Inv-loop p k weights₀ v₀ i₀ weights v i =
 abbrev μ-loop : tie.MeasureT-loop
 μ-loop p k weights₀ v₀ i₀ weights v i = k - i
 
-loop-holds : tie.Need-loop-holds Inv-loop μ-loop
-loop-holds c =
-    let a = c .before .before .args in
-    ((λ ps ws l e. rw (c .start .ensures) (marking-start (a .p) (property (a .p) .start) (a .k) ps ws (a .weights .now) l e)), omega arith, refl)
-
 loop-again : tie.Need-loop-again Inv-loop μ-loop
 loop-again c =
     let l = c .before .before .before .before in
@@ -32,9 +27,6 @@ loop-again c =
       simp length-set (v .2),
     )
 
-returns : tie.Need-returns Inv-loop μ-loop
-returns c = λ ps ws q e. marking-done (c .before .loop .inv .0 ps ws q e) (c .loop-test .left)
-
 pub mark-edges-spec : {M : Type 1} → statement M
 mark-edges-spec =
     tie.close
@@ -42,7 +34,8 @@ mark-edges-spec =
     Inv-loop
     μ-loop
     (λ c κs. search needs)
-    loop-holds
+    (λ c. let a = c .before .before .args in
+    ((λ ps ws l e. rw (c .start .ensures) (marking-start (a .p) (property (a .p) .start) (a .k) ps ws (a .weights .now) l e)), omega arith, refl))
     (λ c. search needs)
     (λ c. search needs)
     (λ c κs. search needs)
@@ -53,4 +46,4 @@ mark-edges-spec =
     (λ c. search needs)
     loop-again
     (λ c. search needs)
-    returns)
+    (λ c. λ ps ws q e. marking-done (c .before .loop .inv .0 ps ws q e) (c .loop-test .left)))

@@ -8,19 +8,6 @@ use Rattle.routing.proofs.write.write_route.Tie as tie
 few : (c : tie.After-edges-back) → let n = length (c .before .before .before .before .args .via .now) in (c .edges-back .result < n) × (n ≤ maxVertices)
 few c = let (ps, h) = c .before .before .before .before .pre .0 in (omega (arith, h .short, c .edges-back .ensures ps h), h .few)
 
-write-back-requires : tie.Need-write-back-requires
-write-back-requires c κs =
-    let b = c .before .before in
-    let s = b .before .before .before .before in
-    let (ps, h) = s .pre .0 in
-    ((s .args .s, ps, h, b .edges-back .ensures ps h), s .pre .1, s .pre .2)
-
-mark-edges-requires : tie.Need-mark-edges-requires
-mark-edges-requires c κs =
-    let w = c .before .before .before .before .before in
-    let b = w .before .before .before in
-    omega (arith, few b, b .before .before .before .before .pre .2, w .write-back .kept .1 .1 .1 .1 .0)
-
 returns : tie.Need-returns
 returns c =
     let m = c .before .before in
@@ -37,8 +24,13 @@ write-route-spec =
     tie.close
     (tie.spec
     (λ c κs. search needs)
-    write-back-requires
-    mark-edges-requires
+    (λ c κs. let b = c .before .before in
+    let s = b .before .before .before .before in
+    let (ps, h) = s .pre .0 in
+    ((s .args .s, ps, h, b .edges-back .ensures ps h), s .pre .1, s .pre .2))
+    (λ c κs. let w = c .before .before .before .before .before in
+    let b = w .before .before .before in
+    omega (arith, few b, b .before .before .before .before .pre .2, w .write-back .kept .1 .1 .1 .1 .0))
     (λ c. omega (arith, few (c .before .before .before .before .before .before .before .before .before .before .before)))
     (λ c. omega (arith, few (c .before .before .before .before .before .before .before .before .before .before .before)))
     (λ c. search needs)
