@@ -1,6 +1,6 @@
 -- A landmark choice as number and words. Assumes nothing.
 use Rattle.property.proofs.Basics.{_≡_, refl, sym, ap, _∙_, List, [], _∷_, ℕ, _≤_, arith, length, set, getD}
-use Rattle.graph.specs.Refusal.{Verdict, accept, refuse, Reply, accepted, refused, over}
+use Rattle.graph.specs.Refusal.{refuse, Reply, accepted, refused, over}
 use Rattle.graph.specs.declared.Judged.the-variants.{Fine, Refused}
 use Rattle.graph.specs.Code.{told}
 use Rattle.graph.proofs.Verdicts.{not-accept}
@@ -18,22 +18,16 @@ four (a ∷ b ∷ c ∷ []) e = absurd (omega arith)
 four (a ∷ b ∷ c ∷ d ∷ []) e = refl
 four (a ∷ b ∷ c ∷ d ∷ x ∷ vs) e = absurd (omega arith)
 
-numberIn : Verdict → ℕ
-numberIn accept = 0
-numberIn (refuse k i) = k
-
-placeIn : Verdict → ℕ
-placeIn accept = 0
-placeIn (refuse k i) = i
-
 module _ (r : Chosen) (xs : List ℕ) (l : replyWords ≤ length xs) where
   pub choice-refused : (k i : ℕ) → r .verdict ≡ Refused k i → (x : Reply (List ℕ)) → choosing r ≡ chosenOf x → Tells choiceWords x k xs (set xs 0 i)
-  unfolding told chosenOf numberIn placeIn
+  unfolding told chosenOf
   choice-refused k i q (accepted us) e =
       absurd (not-accept (sym (ap told q) ∙ ap (λ (w : ChosenWords). w .verdict) e))
   choice-refused k i q (refused j p) e =
       let v : refuse k i ≡ refuse j p = sym (ap told q) ∙ ap (λ (w : ChosenWords). w .verdict) e in
-      rw (ap numberIn v, ap placeIn v) (refused-tells choiceWords xs l j p)
+      let a : k ≡ j = cc in
+      let b : i ≡ p = cc in
+      rw (a, b) (refused-tells choiceWords xs l j p)
 
   pub choice-accepted : r .verdict ≡ Fine → length (r .choice .vertices) ≡ 4 → (x : Reply (List ℕ)) → choosing r ≡ chosenOf x →
       let vs = r .choice .vertices in

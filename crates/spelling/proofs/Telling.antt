@@ -1,7 +1,7 @@
 -- Replies as number and words: what stores into a reply list spell. Assumes nothing.
 --
 --   setAll ys xs i   == xs after the words ys are stored one by one, from index i on
-use Rattle.property.proofs.Basics.{_≡_, refl, ap, _∙_, List, [], _∷_, ℕ, suc, _<_, _≤_, arith, length, set, length-set}
+use Rattle.property.proofs.Basics.{_≡_, refl, ap, _∙_, List, [], _∷_, ℕ, suc, _≤_, arith, length, set}
 use Rattle.graph.specs.Refusal.{accepted, refused, over}
 use Rattle.spelling.specs.Code.{replyWords, numberOf, wordsTold, Tells}
 
@@ -20,14 +20,6 @@ pub setAll-over : (ys xs : List ℕ) → length ys ≤ length xs → setAll ys x
 setAll-over [] xs l = refl
 setAll-over (y ∷ ys) [] l = absurd (omega arith)
 setAll-over (y ∷ ys) (x ∷ xs) l = setAll-cons ys xs y 0 ∙ ap (λ (zs : List ℕ). y ∷ zs) (setAll-over ys xs (omega arith))
-
-setAll-length : (ys xs : List ℕ) (i : ℕ) → length (setAll ys xs i) ≡ length xs
-setAll-length [] xs i = refl
-setAll-length (y ∷ ys) xs i = setAll-length ys (set xs i y) (suc i) ∙ length-set xs i y
-
--- an index of the list stays one
-pub setAll-within : (ys xs : List ℕ) (i : ℕ) → i < length xs → i < length (setAll ys xs 0)
-setAll-within ys xs i l = omega (arith, setAll-length ys xs 0)
 
 -- ---- what is told
 
