@@ -30,10 +30,10 @@ covered Good text (good s) f g = inl (f s refl)
 covered Good text (bad k) f g = inr (k, g k refl, λ j p. place-one Good text j k p (g k refl))
 
 pub network-cover : NetworkCover
-network-cover text = covered net.IsGood text (net.readNetwork text) (λ s h. let (n, es, p, g) = network.read-good text s h in (n, es, g)) (λ j. network-places text j .0)
+network-cover text = covered net.IsGood text (net.readNetwork text) (network.read-is-good text) (λ j. network-places text j .0)
 
 pub sources-cover : SourcesCover
-sources-cover n pos text = covered (src.IsGood n) text (src.readSources n text) (λ s h. let (ss, p, g) = sources.read-good n text s h in (ss, g)) (λ j. sources-places n pos text j .0)
+sources-cover n pos text = covered (src.IsGood n) text (src.readSources n text) (sources.read-is-good n text) (λ j. sources-places n pos text j .0)
 
 -- ---- outcomes of a judged text
 
@@ -60,9 +60,6 @@ call-refused r a new old v k i c p = (
   refused-old v a new old k i,
 )
 
-accepted-same : {A : Type 0} (a b : A) → accepted a ≡ accepted b → a ≡ b
-accepted-same a b h = cc
-
 pub judged-accept : {S : Type 0} (r : Read S) → judged r ≡ accept → (s : S) × (r ≡ good s)
 unfolding judged
 judged-accept (good s) h = (s, refl)
@@ -71,15 +68,13 @@ judged-accept (bad k) h = absurd (not-accept h)
 -- ---- reading network text
 
 -- the network that was read, from an accepted reply
-call-read : (text : List ℕ) (cs : Columns) → shortTable cs ≡ accept → (z : Size) → (readCall text cs) .reply ≡ accepted z
-    → (n : ℕ) × (es : List Edge) × net.Good text n es
+call-read : (text : List ℕ) (cs : Columns) (z : Size) → (readCall text cs) .reply ≡ accepted z → net.IsGood text
 unfolding readCall
-call-read text cs s z h =
+call-read text cs z h =
     let r = net.readNetwork text in
     let (v, w) = reply-accepted (shortTable cs ▷ judged r) (record { vertices = vertexCount r; count = length (edgesRead r) }) z h in
     let (st, e) = judged-accept r (then-accept (shortTable cs) (judged r) v .1) in
-    let (n, es, p, g) = network.read-good text st e in
-    (n, es, g)
+    network.read-is-good text st e
 
 -- edges in front of three lists can be told from others of the same number
 filled-same : (es fs : List Edge) (cs : Columns) → length es ≡ length fs → filled es cs ≡ filled fs cs → es ≡ fs
@@ -92,9 +87,10 @@ call-reads text cs s n es = (forth, λ g. read-call text n es (length es) cs (ne
   where
     forth : readCall text cs ≡ record { reply = accepted (record { vertices = n; count = length es }); memory = filled es cs } → net.Good text n es
     forth h =
-        let (v, fs, g) = call-read text cs s (record { vertices = n; count = length es }) (ap (λ (o : Outcome Size Columns). o .reply) h) in
+        let (v, fs, g) = call-read text cs (record { vertices = n; count = length es }) (ap (λ (o : Outcome Size Columns). o .reply) h) in
         let o = sym (read-call text v fs (length fs) cs (network.good-read text v fs g) refl s) ∙ h in
-        let z = accepted-same (record { vertices = v; count = length fs }) (record { vertices = n; count = length es }) (ap (λ (o : Outcome Size Columns). o .reply) o) in
+        let r = ap (λ (o : Outcome Size Columns). o .reply) o in
+        let z : _≡_ {A = Size} (record { vertices = v; count = length fs }) (record { vertices = n; count = length es }) = cc in
         let a : v ≡ n = ap (λ (x : Size). x .vertices) z in
         let l : length fs ≡ length es = ap (λ (x : Size). x .count) z in
         let b : fs ≡ es = filled-same fs es cs l (ap (λ (o : Outcome Size Columns). o .memory) o) in
@@ -119,20 +115,20 @@ module _ (n : ℕ) (text out : List ℕ) (s : size n ≡ accept) (l : src.maxSou
   unfolding sourcesCall judged sourcesRead replied choose
   good-call ss g = rw (short, sources.good-read n text ss g)
 
-  call-sources : (k : ℕ) → (sourcesCall n text out) .reply ≡ accepted k → (ss : List ℕ) × src.Good n text ss
+  call-sources : (k : ℕ) → (sourcesCall n text out) .reply ≡ accepted k → src.IsGood n text
   unfolding sourcesCall
   call-sources k h =
       let r = src.readSources n text in
       let (v, w) = reply-accepted chain (length (sourcesRead r)) k h in
       let (st, e) = judged-accept r (sym short ∙ v) in
-      let (ss, p, g) = sources.read-good n text st e in
-      (ss, g)
+      sources.read-is-good n text st e
 
   call-back : (ss : List ℕ) → sourcesCall n text out ≡ record { reply = accepted (length ss); memory = over ss out } → src.Good n text ss
   call-back ss h =
       let (vs, g) = call-sources (length ss) (ap (λ (o : Outcome ℕ (List ℕ)). o .reply) h) in
       let o = sym (good-call vs g) ∙ h in
-      let k : length vs ≡ length ss = accepted-same (length vs) (length ss) (ap (λ (o : Outcome ℕ (List ℕ)). o .reply) o) in
+      let r = ap (λ (o : Outcome ℕ (List ℕ)). o .reply) o in
+      let k : length vs ≡ length ss = cc in
       let m : over vs out ≡ over ss out = ap (λ (o : Outcome ℕ (List ℕ)). o .memory) o in
       let b : vs ≡ ss = sym (take-at vs (drop (length vs) out) (length ss) k) ∙ ap (λ (x : List ℕ). take (length ss) x) m ∙ take-at ss (drop (length ss) out) (length ss) refl in
       subst (λ (x : List ℕ). src.Good n text x) b g

@@ -14,7 +14,7 @@ use Rattle.dimacs.proofs.Reading.{acts, acts-some, speaks, Ends, ends-m
 use Rattle.dimacs.proofs.Count.{sound-length, unused}
 use Rattle.dimacs.specs.Lines.{plain, fieldsOf, Spelled}
 use Rattle.dimacs.specs.Read.{after, good}
-use Rattle.dimacs.specs.Network.{Item, problem, arc, problemMark, arcMark, itemOf, Distinct, Edges, sorted, problemFrom, arcOf, arcFrom, orElse, itemIn, State, start, within, opens, takes, act, complete, Good, readNetwork}
+use Rattle.dimacs.specs.Network.{Item, problem, arc, problemMark, arcMark, itemOf, Distinct, Edges, sorted, problemFrom, arcOf, arcFrom, orElse, itemIn, State, start, within, opens, takes, act, complete, Good, IsGood, readNetwork}
 
 -- ---- lines
 
@@ -161,7 +161,7 @@ unfolding acts complete
 fill zero n m es o h = record { items = []; end = within n m es; reached = refl; completed = eq-eqb (length es) m (omega arith) }
 fill (suc k) n m es o h =
     let (a, b, c, d) = opens-facts n m o in
-    let (e, p, q) = unused n es a (omega arith) in
+    let (e, p, q) = unused n es (omega arith) in
     ends-more act (within n m es) (arc e) (within n m (insert e es)) (act-takes n m es e (omega arith) p q) (fill k n m (insert e es) o (omega (arith, length-insert tableOrder e es)))
 
 -- before the p line, `p sp 1 0` completes the text
@@ -222,3 +222,6 @@ unfolding readNetwork complete
 read-good text s h =
     let (xs, d, p, c) = accepted network-spelling act complete start text s h in
     ⊎-elim (λ q. absurd (false≢true (rw q at c))) (λ o. opened-good text xs s d o c) (opened xs s p)
+
+pub read-is-good : (text : List ℕ) (s : State) → readNetwork text ≡ good s → IsGood text
+read-is-good text s h = let (n, es, p, g) = read-good text s h in (n, es, g)

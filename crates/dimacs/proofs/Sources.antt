@@ -8,7 +8,7 @@ use Rattle.dimacs.proofs.Reading.{acts, acts-some, speaks, Ends, ends-m
 use Rattle.dimacs.specs.Lines.{plain, fieldsOf, Spelled}
 use Rattle.dimacs.specs.Read.{after, good}
 use Rattle.dimacs.specs.Network.{orElse}
-use Rattle.dimacs.specs.Sources.{maxSources, Item, header, source, headerMark, sourceMark, itemOf, Vertices, Good, headerFrom, sourceFrom, itemIn, State, start, within, act, complete, readSources}
+use Rattle.dimacs.specs.Sources.{maxSources, Item, header, source, headerMark, sourceMark, itemOf, Vertices, Good, IsGood, headerFrom, sourceFrom, itemIn, State, start, within, act, complete, readSources}
 
 -- ---- lines
 
@@ -165,3 +165,6 @@ module _ (n : ℕ) where
   read-good text s h =
       let (xs, d, p, c) = accepted sources-spelling (act n) complete start text s h in
       ⊎-elim (λ q. absurd (false≢true (rw q at c))) (λ o. opened-good text xs s d o c) (opened xs s p)
+
+  pub read-is-good : (text : List ℕ) (s : State) → readSources n text ≡ good s → IsGood n text
+  read-is-good text s h = let (ss, p, g) = read-good text s h in (ss, g)

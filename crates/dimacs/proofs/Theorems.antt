@@ -58,14 +58,11 @@ place-only Good text k (bad j) f g p = ap bad (place-one Good text j k (g j refl
 network-placed : (text : List ℕ) (k : ℕ) → net.readNetwork text ≡ bad k → Place net.IsGood text k
 unfolding net.readNetwork
 network-placed text k h =
-    place-agrees (λ t z. let (n, es, p, g) = network.read-good t (z .0) (z .1) in (n, es, g)) (λ t z. (net.within (z .0) (length (z .1)) (z .1), network.good-read t (z .0) (z .1) (z .2)))
+    place-agrees (λ t z. network.read-is-good t (z .0) (z .1)) (λ t z. (net.within (z .0) (length (z .1)) (z .1), network.good-read t (z .0) (z .1) (z .2)))
     text k (refused network.network-spelling net.act net.complete net.start network.network-goes-on text k h)
 
 pub network-places : NetworkPlaces
-network-places text k = (
-  network-placed text k,
-  place-only net.IsGood text k (net.readNetwork text) (λ s h. let (n, es, p, g) = network.read-good text s h in (n, es, g)) (λ j. network-placed text j),
-)
+network-places text k = (network-placed text k, place-only net.IsGood text k (net.readNetwork text) (network.read-is-good text) (network-placed text))
 
 -- ---- written text
 
@@ -108,11 +105,8 @@ sources-whole n text s h = let (ss, p, g) = sources.read-good n text s h in (ss,
 sources-placed : (n : ℕ) → 0 < n → (text : List ℕ) (k : ℕ) → src.readSources n text ≡ bad k → Place (src.IsGood n) text k
 unfolding src.readSources
 sources-placed n pos text k h =
-    place-agrees (λ t z. let (ss, p, g) = sources.read-good n t (z .0) (z .1) in (ss, g)) (λ t z. (src.within (length (z .0)) (z .0), sources.good-read n t (z .0) (z .1)))
+    place-agrees (λ t z. sources.read-is-good n t (z .0) (z .1)) (λ t z. (src.within (length (z .0)) (z .0), sources.good-read n t (z .0) (z .1)))
     text k (refused sources.sources-spelling (src.act n) src.complete src.start (sources.sources-go-on n pos) text k h)
 
 pub sources-places : SourcesPlaces
-sources-places n pos text k = (
-  sources-placed n pos text k,
-  place-only (src.IsGood n) text k (src.readSources n text) (λ s h. let (ss, p, g) = sources.read-good n text s h in (ss, g)) (λ j. sources-placed n pos text j),
-)
+sources-places n pos text k = (sources-placed n pos text k, place-only (src.IsGood n) text k (src.readSources n text) (sources.read-is-good n text) (sources-placed n pos text))
