@@ -7,10 +7,9 @@
 --   Ends act complete s      == items lead from s to a complete state
 --   Spelling spell parse     == each item has one spelling, which is one line and no comment, and is read from that alone
 --   NoDeadEnd                == each state that is reached can be completed
---   left .. x at k s         == the reader with x left from at on, after k lines
 --   steps s ls               == the state after the lines ls
 --   Accepts text             == the reader accepts text
-use Rattle.property.proofs.Basics.{_≡_, refl, sym, ap, subst, _∙_, Bool, true, false, not, false≢true, List, [], _∷_, _++_, map, Option, none, some, bind, ℕ, suc, _+_, _-_, _≤_, _<_, add-one, arith, eqb, length, take, drop, drop-of-length-le, drop-cons, eqb-true, not-true}
+use Rattle.property.proofs.Basics.{_≡_, refl, sym, ap, subst, _∙_, Bool, true, false, not, false≢true, List, [], _∷_, _++_, map, Option, none, some, bind, ℕ, suc, _+_, _-_, _≤_, _<_, arith, eqb, length, take, eqb-true, not-true}
 use Rattle.property.proofs.Tests.{by-test}
 use Rattle.dimacs.proofs.Options.{none-some, some-same, by-option, bind-some}
 use Rattle.dimacs.proofs.Split.{Plains, joined-append, split-joined, split-spelled, split-plain, split-lines, plains-append, plains-take}
@@ -69,39 +68,14 @@ NoDeadEnd {A} {S} act complete start = (as′ : List A) (s : S) → acts act sta
 -- ---- one turn of the reader
 
 module _ {A S : Type 0} (parse : List ℕ → Option A) (act : S → A → Option S) (complete : S → Bool) where
-  pub reading-none : (l : List ℕ) (ls : List (List ℕ)) (r : List ℕ) (k : ℕ) (s : S) → step parse act complete s l ≡ none
-      → reading parse act complete (l ∷ ls) r k s ≡ bad (suc k)
-  unfolding reading
-  reading-none l ls r k s e = rw (e, reading)
+  module _ (l : List ℕ) (ls : List (List ℕ)) (r : List ℕ) (k : ℕ) (s : S) where
+    pub reading-none : step parse act complete s l ≡ none → reading parse act complete (l ∷ ls) r k s ≡ bad (suc k)
+    unfolding reading
+    reading-none e = rw (e, reading)
 
-  pub reading-some : (l : List ℕ) (ls : List (List ℕ)) (r : List ℕ) (k : ℕ) (s t : S) → step parse act complete s l ≡ some t
-      → reading parse act complete (l ∷ ls) r k s ≡ reading parse act complete ls r (suc k) t
-  unfolding reading
-  reading-some l ls r k s t e = rw (e, reading)
-
-  -- what is left of x from at on, after k lines
-  abbrev pub left : List ℕ → ℕ → ℕ → S → Read S
-  left x at k s = reading parse act complete (split (drop at x) .lines) (split (drop at x) .rest) k s
-
-  -- each way in which the text goes on or ends there
-  module _ (x : List ℕ) (at k : ℕ) (s : S) where
-    left-is : (q : Split) → q ≡ split (drop at x) → left x at k s ≡ reading parse act complete (q .lines) (q .rest) k s
-    left-is q e = ap (λ (p : Split). reading parse act complete (p .lines) (p .rest) k s) (sym e)
-
-    pub left-open : at < length x → record { lines = []; rest = drop at x } ≡ split (drop at x) → left x at k s ≡ bad (k + 1)
-    unfolding reading ended
-    left-open h e = left-is (record { lines = []; rest = drop at x }) e ∙ rw (drop-cons x at 0 h, add-one)
-
-    module _ (l : List ℕ) (ls : List (List ℕ)) (r : List ℕ) (e : record { lines = l ∷ ls; rest = r } ≡ split (drop at x)) where
-      pub left-stop : none ≡ step parse act complete s l → left x at k s ≡ bad (k + 1)
-      left-stop h = left-is (record { lines = l ∷ ls; rest = r }) e ∙ rw add-one (reading-none l ls r k s (sym h))
-
-      pub left-next : (t : S) → some t ≡ step parse act complete s l → left x at k s ≡ reading parse act complete ls r (k + 1) t
-      left-next t h = left-is (record { lines = l ∷ ls; rest = r }) e ∙ rw add-one (reading-some l ls r k s t (sym h))
-
-    pub left-end : length x ≤ at → left x at k s ≡ ended parse act complete [] k s
-    unfolding reading split
-    left-end h = rw (drop-of-length-le x h)
+    pub reading-some : (t : S) → step parse act complete s l ≡ some t → reading parse act complete (l ∷ ls) r k s ≡ reading parse act complete ls r (suc k) t
+    unfolding reading
+    reading-some t e = rw (e, reading)
 
 module _ {A S : Type 0} {spell : A → List ℕ} {parse : List ℕ → Option A} (laws : Spelling spell parse) (act : S → A → Option S) (complete : S → Bool) (start : S) where
   -- ---- one line
