@@ -76,8 +76,8 @@ read-in-spec =
     (λ c. search needs)
     copy-requires
     (λ c. omega (arith, count (c .before .before .before .before .before .before)))
-    (λ c. c .before .before .before .before .before .read-text .kept .1 .1 .0)
+    (λ c. omega arith)
     returns-3
-    (λ c. c .before .before .copy .kept .1 .1 .0)
-    (λ c. c .before .before .before .before .before .before .before .before .before .before .read-text .kept .1 .1 .0)
+    (λ c. omega arith)
+    (λ c. omega arith)
     returns-4)

@@ -52,7 +52,7 @@ loop-again c =
     let q = n .next .given .1 in (
       left-next (i .0) (e .before .before .line-feed .ensures) (e .end .given .1) (stepOf _) q (t .take-line .ensures .0) _ refl,
       rw q at (t .take-line .ensures .1),
-      t .take-line .kept .1 .1 .1 .0 ∙ i .2,
+      omega arith,
     )
 
 returns-3 : tie.Need-returns-3 Inv-loop μ-loop
@@ -71,7 +71,7 @@ read-text-spec =
     (λ c. search needs)
     (λ c. search needs)
     (λ c. omega arith)
-    (λ c. c .before .before .before .before .loop .inv .2)
+    (λ c. omega arith)
     (λ c. unfold readOf in let f = c .before .before in (left-open (f .before .before .loop .inv .0) (f .line-feed .ensures) (f .before .loop-test .taken) (c .enum-told .given .1), tt))
     (λ c. inside (c .before) .0)
     (λ c. inside (c .before) .0)
@@ -80,12 +80,12 @@ read-text-spec =
     (λ c. search needs)
     (λ c. search needs)
     (λ c. omega (arith, counted (turn (line (c .before .before .before .before)))))
-    (λ c. let t = c .before .before .before .before in t .take-line .kept .1 .1 .1 .0 ∙ turn (line t) .loop .inv .2)
+    (λ c. omega arith)
     returns-2
     (λ c. let e = line (c .before .before .before .before .before) in omega (arith, inside e, start (turn e) .good))
     (λ c. omega (arith, counted (turn (line (c .before .before .before .before .before)))))
     (λ c. let e = line (c .before .before .before .before .before) in omega (arith, inside e, e .before .before .before .loop-test .taken))
     loop-again
     (λ c κs. counted (c .before))
-    (λ c. c .before .before .loop .inv .2)
+    (λ c. omega arith)
     returns-3)

@@ -1,5 +1,5 @@
 -- `sources::take_line` meets its contract. Assumes nothing.
-use Rattle.property.proofs.Basics.{needs, true, false}
+use Rattle.property.proofs.Basics.{needs, arith, true, false}
 use Rattle.dimacs.specs.Sources.{itemIn, complete}
 use Rattle.sources.specs.Code.{stepOf}
 use Rattle.scanner.proofs.Steps.{step-comment, step-item}
@@ -30,5 +30,5 @@ take-line-spec =
     (λ c. unfold stepOf in let i = c .before in (step-comment itemIn _ complete _ _ false (i .before .before .holds .ensures) (i .is-comment .ensures) (i .before .if1 .taken) (c .if2 .left), tt))
     (λ c κs. search needs)
     (λ c κs. search needs)
-    (λ c. c .before .before .take-item .kept .1 .1 .1 .0)
+    (λ c. omega arith)
     returns-3)

@@ -63,5 +63,5 @@ put-number-spec =
     (λ c. omega arith)
     (λ c. omega arith)
     loop-again
-    (λ c. c .before .loop .inv .3)
+    (λ c. omega arith)
     returns)
