@@ -31,10 +31,6 @@ counted l = omega (arith, l .loop .inv .0 .counted, l .loop .inv .0 .inside, sta
 inside : (e : tie.After-end Inv-loop μ-loop) → (turn e .loop .at ≤ e .end .given .0 .0) × (e .end .given .0 .0 < length (start (turn e) .args .text .now))
 inside e = rw (e .end .given .1) at (e .before .before .line-feed .ensures .1)
 
-loop-holds : tie.Need-loop-holds Inv-loop μ-loop
-unfolding src.readSources read stateOf
-loop-holds c = (record { comes = refl; inside = omega arith; counted = omega arith }, record { room = c .before .before .pre .1; inside = tt }, refl)
-
 returns-2 : tie.Need-returns-2 Inv-loop μ-loop
 unfolding readOf stepOf
 returns-2 c =
@@ -66,7 +62,7 @@ read-text-spec =
     (tie.spec
     Inv-loop
     μ-loop
-    loop-holds
+    (λ c. unfold src.readSources read stateOf in (record { comes = refl; inside = omega arith; counted = omega arith }, record { room = c .before .before .pre .1; inside = tt }, refl))
     (λ c κs. search needs)
     (λ c. search needs)
     (λ c. search needs)

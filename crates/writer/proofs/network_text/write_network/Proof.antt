@@ -57,11 +57,6 @@ returns c =
     let a = begin j .args in
     rw (chain (a .n) (table (begin j)) (a .count) (a .text .now) _ (sym (j .judge-write .ensures) ∙ ap told (c .before .judged .given .1)))
 
-add-length : tie.Need-add-length
-add-length c =
-    let w = writable (c .before .before) in
-    omega (arith, w .count, c .before .problem-width .ensures .1, c .arcs-width .ensures .1)
-
 returns-2 : tie.Need-returns-2
 unfolding writeCall _▷_ refuseIf replied choose writing
 returns-2 c =
@@ -101,7 +96,7 @@ write-network-spec =
     (λ c. search needs)
     (λ c κs. search needs)
     (λ c κs. (writable (c .before) .count, writable (c .before) .room))
-    add-length
+    (λ c. let w = writable (c .before .before) in omega (arith, w .count, c .before .problem-width .ensures .1, c .arcs-width .ensures .1))
     returns-2
     (λ c κs. first-fits _ _ (lines (c .before .before .before .before)) (room (c .before)))
     put-arcs-requires

@@ -25,11 +25,6 @@ loop-again c =
     let vs = l .before .before .before .args .values .now in
     (pending-turn (l .loop .inv .0) _ (fieldsOf (drop (l .loop .i + 1) vs)) (fields-more vs (l .loop .i) (omega arith)) (f .put-field .ensures), omega arith)
 
-returns : tie.Need-returns Inv-loop μ-loop
-returns c =
-    let l = c .before in
-    pending-done (l .loop .inv .0) (fields-none (l .before .before .before .args .values .now) (l .loop .i) (omega arith))
-
 pub put-fields-spec : {M : Type 1} → statement M
 put-fields-spec =
     tie.close
@@ -44,4 +39,4 @@ put-fields-spec =
     (λ c. search needs)
     loop-again
     (λ c. c .before .loop .inv .0 .same)
-    returns)
+    (λ c. let l = c .before in pending-done (l .loop .inv .0) (fields-none (l .before .before .before .args .values .now) (l .loop .i) (omega arith))))
