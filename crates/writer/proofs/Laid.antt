@@ -83,9 +83,9 @@ module _ {text : List ℕ} (xs ys : List ℕ) (e : text ≡ xs ++ ys) {at : ℕ}
     both-wrote w = pending-last (pending-turn (pending-start f) xs ys e v) w
 
 -- a copy of all bytes
-pub paste-wrote : (text : List ℕ) (at : ℕ) (out : List ℕ) (i : ℕ) (new : List ℕ) → i ≡ length text → new ≡ paste out at text i → Wrote text at out (at + i) new
+pub paste-wrote : {text : List ℕ} {at : ℕ} {out : List ℕ} {i : ℕ} {new : List ℕ} → i ≡ length text → new ≡ paste out at text i → Wrote text at out (at + i) new
 unfolding laid
-paste-wrote text at out i new e h = record { next = rw e; bytes = rw (e, take-length) at h }
+paste-wrote e h = record { next = rw e; bytes = rw (e, take-length) at h }
 
 -- ---- the digits of a number, last first
 

@@ -20,8 +20,8 @@ pub record Writable (n : ℕ) (ts hs ws : List ℕ) (m : ℕ) : Type 0 where
   pub count : m ≤ maxEdges
   pub room : Room m ts hs ws
 
-pub write-accept : (n : ℕ) (ts hs ws : List ℕ) (m : ℕ) → judgedWrite n (columns ts hs ws) m ≡ accept → Writable n ts hs ws m
-write-accept n ts hs ws m e =
+pub write-accept : {n : ℕ} {ts hs ws : List ℕ} {m : ℕ} → judgedWrite n (columns ts hs ws) m ≡ accept → Writable n ts hs ws m
+write-accept {n} {ts} {hs} {ws} {m} e =
     let a = then-accept (size n) _ e in
     let s = then-accept (shortTable (columns ts hs ws)) _ (a .1) in
     let t = table-accept n (columns ts hs ws) m (s .1) in

@@ -18,4 +18,12 @@ returns-2 c =
 pub end-text-spec : {M : Type 1} → statement M
 end-text-spec =
     tie.close
-    (tie.spec (λ c. search needs) (λ c. search needs) (λ c. search needs) (λ c. unfold readOf stateOf ended complete in (λ n xs h. rw (c .enum-told .given .1, add-one), λ xs h. tt)) (λ c. search needs) returns-2 (λ c. search needs) (λ c. unfold readOf in let s = c .before .before in (λ n xs h. rw (end-within (s .state .given .1) h, ne-eqb _ _ (c .if1 .left)), λ xs h. tt)))
+    (tie.spec
+    (λ c. search needs)
+    (λ c. search needs)
+    (λ c. search needs)
+    (λ c. unfold readOf stateOf ended complete in (λ n xs h. rw (c .enum-told .given .1, add-one), λ xs h. tt))
+    (λ c. search needs)
+    returns-2
+    (λ c. search needs)
+    (λ c. unfold readOf in let s = c .before .before in (λ n xs h. rw (end-within (s .state .given .1) h, ne-eqb _ _ (c .if1 .left)), λ xs h. tt)))

@@ -19,4 +19,9 @@ returns-2 c =
 pub read-field-spec : {M : Type 1} → statement M
 read-field-spec =
     tie.close
-    (tie.spec (λ c κs. search needs) (λ c. unfold field bind capNumber in (rw (after-other 32 [] _ (sym (c .before .holds .ensures) ∙ not-true _ (c .if1 .taken))), omega arith)) (λ c. omega (arith, inside c)) (λ c κs. omega (arith, inside c)) returns-2)
+    (tie.spec
+    (λ c κs. search needs)
+    (λ c. unfold field bind capNumber in (rw (after-other 32 [] _ (sym (c .before .holds .ensures) ∙ not-true _ (c .if1 .taken))), omega arith))
+    (λ c. omega (arith, inside c))
+    (λ c κs. omega (arith, inside c))
+    returns-2)

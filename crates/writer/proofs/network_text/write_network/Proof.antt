@@ -31,14 +31,10 @@ fine : (c : tie.After-enum-told) → let s = begin (c .before .before) in judged
 fine c = fine-accept _ _ (c .before .before .judge-write .ensures) (c .enum-told .given .1)
 
 writable : (c : tie.After-enum-told) → let a = begin (c .before .before) .args in Writable (a .n) (a .tails .now) (a .heads .now) (a .weights .now) (a .count)
-writable c =
-    let a = begin (c .before .before) .args in
-    write-accept (a .n) (a .tails .now) (a .heads .now) (a .weights .now) (a .count) (fine c)
+writable c = write-accept (fine c)
 
 lines : (c : tie.After-enum-told) → let s = begin (c .before .before) in text s ≡ problemLine (s .args .n) (s .args .count) ++ arcs s
-lines c =
-    let a = begin (c .before .before) .args in
-    written-lines (a .n) (a .tails .now) (a .heads .now) (a .weights .now) (a .count) (writable c .room)
+lines c = written-lines (begin (c .before .before) .args .n) (writable c .room)
 
 -- the length that is measured is the text's
 whole : (c : tie.After-arcs-width) → c .before .problem-width .result + c .arcs-width .result ≡ length (text (begin (c .before .before .before .before)))

@@ -12,4 +12,13 @@ abbrev μ-loop : tie.MeasureT-loop
 μ-loop v n₀ w₀ n w = w
 
 pub width-spec : {M : Type 1} → statement M
-width-spec = tie.close (tie.spec Inv-loop μ-loop (λ c. (refl, omega arith)) (λ c. omega arith) (λ c. omega arith) (λ c. let l = c .before in let b : 10 ≤ l .loop .w = omega arith in (omega (arith, width-big (l .loop .w) b), omega arith)) (λ c. let l = c .before in let b : l .loop .w < 10 = omega arith in omega (arith, width-small (l .loop .w) b)))
+width-spec =
+    tie.close
+    (tie.spec
+    Inv-loop
+    μ-loop
+    (λ c. (refl, omega arith))
+    (λ c. omega arith)
+    (λ c. omega arith)
+    (λ c. let l = c .before in let b : 10 ≤ l .loop .w = omega arith in (omega (arith, width-big (l .loop .w) b), omega arith))
+    (λ c. let l = c .before in let b : l .loop .w < 10 = omega arith in omega (arith, width-small (l .loop .w) b)))
