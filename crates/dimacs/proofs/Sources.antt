@@ -63,48 +63,27 @@ module _ (n : ℕ) where
       ∙ sources-taken k (ss ++ (v ∷ [])) vs (a .1) (omega (arith, length-append ss (v ∷ [])))
       ∙ ap (λ (x : List ℕ). some (within k x)) (append-assoc ss (v ∷ []) vs)
 
-  record Taken (k : ℕ) (ss : List ℕ) (xs : List Item) (s : State) : Type 0 where
-    pub sources : List ℕ
-    pub items : xs ≡ map source sources
-    pub vertices : Vertices n sources
-    pub few : length ss ≤ k → length ss + length sources ≤ k
-    pub state : s ≡ within k (ss ++ sources)
-
-  taken-source : (k : ℕ) (ss : List ℕ) (v : ℕ) (xs : List Item) (s : State) → length ss < k → v < n → Taken k (ss ++ (v ∷ [])) xs s → Taken k ss (source v ∷ xs) s
-  taken-source k ss v xs s l p t =
-      let i = length-append ss (v ∷ []) in
-      record {
-        sources = v ∷ t .sources;
-        items = ap (λ (ys : List Item). source v ∷ ys) (t .items);
-        vertices = (p, t .vertices);
-        few = λ z. (let y = t .few (omega arith) in omega arith);
-        state = t .state ∙ ap (λ (x : List ℕ). within k x) (append-assoc ss (v ∷ []) (t .sources));
-      }
+  -- and what is taken is a vertex: the items xs are sources vs, which lead to s
+  abbrev Taken : ℕ → List ℕ → List Item → State → Type 0
+  Taken k ss xs s = (vs : List ℕ) × (xs ≡ map source vs) × Vertices n vs × (length ss ≤ k → length ss + length vs ≤ k) × (s ≡ within k (ss ++ vs))
 
   taken : (xs : List Item) (k : ℕ) (ss : List ℕ) (s : State) → acts (act n) (within k ss) xs ≡ some s → Taken k ss xs s
   unfolding acts act bind
-  taken [] k ss s h = record {
-    sources = [];
-    items = refl;
-    vertices = tt;
-    few = λ z. omega arith;
-    state = sym (some-same h) ∙ ap (λ (x : List ℕ). within k x) (sym (append-nil ss));
-  }
+  taken [] k ss s h = ([], refl, tt, λ z. omega arith, sym (some-same h) ∙ rw append-nil)
   taken (header j ∷ xs) k ss s h = absurd (none-some h)
   taken (source v ∷ xs) k ss s h =
       let (t, p, q) = bind-some (cond (ltb (length ss) k && ltb v n) (some (within k (ss ++ (v ∷ [])))) none) _ s h in
       let (b, w) = cond-some (ltb (length ss) k && ltb v n) (within k (ss ++ (v ∷ []))) t p in
       let (x, y) = both (ltb (length ss) k) (ltb v n) b in
-      taken-source k ss v xs s (ltb-true _ _ x) (ltb-true _ _ y) (taken xs k (ss ++ (v ∷ [])) s (subst (λ (u : State). acts (act n) u xs ≡ some s) (sym w) q))
+      let (vs, i, a, f, u) = taken xs k (ss ++ (v ∷ [])) s (subst (λ (u : State). acts (act n) u xs ≡ some s) (sym w) q) in
+      let l = ltb-true (length ss) k x in
+      let g = length-append ss (v ∷ []) in
+      (v ∷ vs, ap (λ (ys : List Item). source v ∷ ys) i, (ltb-true _ _ y, a), λ z. (let j = f (omega arith) in omega arith), u ∙ rw append-assoc)
 
   -- ---- all items
 
-  record Opened (xs : List Item) (s : State) : Type 0 where
-    pub k : ℕ
-    pub rest : List Item
-    pub items : xs ≡ header k ∷ rest
-    pub most : k ≤ maxSources
-    pub taken : Taken k [] rest s
+  abbrev Opened : List Item → State → Type 0
+  Opened xs s = (k : ℕ) × (ys : List Item) × (xs ≡ header k ∷ ys) × (k ≤ maxSources) × Taken k [] ys s
 
   opened : (xs : List Item) (s : State) → acts (act n) start xs ≡ some s → (s ≡ start) ⊎ Opened xs s
   unfolding acts act bind
@@ -113,7 +92,7 @@ module _ (n : ℕ) where
   opened (header k ∷ xs) s h =
       let (t, p, q) = bind-some (cond (leb k maxSources) (some (within k [])) none) _ s h in
       let (b, w) = cond-some (leb k maxSources) (within k []) t p in
-      inr (record { k = k; rest = xs; items = refl; most = leb-true _ _ b; taken = taken xs k [] s (subst (λ (u : State). acts (act n) u xs ≡ some s) (sym w) q) })
+      inr (k, xs, refl, leb-true _ _ b, taken xs k [] s (subst (λ (u : State). acts (act n) u xs ≡ some s) (sym w) q))
 
   -- ---- each state that is reached can be completed, where there is a vertex: lines `s 1` follow
 
@@ -127,9 +106,9 @@ module _ (n : ℕ) where
   sources-go-on pos xs s h = ⊎-elim
       (λ q. rw q record { items = header 0 ∷ []; end = within 0 []; reached = refl; completed = refl })
       (λ o.
-      let t = o .taken in
-      let f : length (t .sources) ≤ o .k = omega (arith, t .few (omega arith)) in
-      rw (t .state) (fill (o .k - length (t .sources)) (o .k) (t .sources) pos (omega arith)))
+      let (k, ys, i, m, (vs, j, a, f, u)) = o in
+      let l = f (omega arith) in
+      rw u (fill (k - length vs) k vs pos (omega arith)))
       (opened xs s h)
 
   -- ---- the items of a good file, and no others, lead to a complete state
@@ -147,18 +126,9 @@ module _ (n : ℕ) where
 
   opened-good : (text : List ℕ) (xs : List Item) (s : State) → Spelled itemOf text xs → Opened xs s → complete s ≡ true → (ss : List ℕ) × (s ≡ within (length ss) ss) × Good n text ss
   unfolding complete
-  opened-good text xs s d o c =
-      let t = o .taken in
-      let l : length (t .sources) ≡ o .k = eqb-true _ _ (subst (λ (u : State). complete u ≡ true) (t .state) c) in
-      let m = o .most in (
-        t .sources,
-        t .state ∙ ap (λ (j : ℕ). within j (t .sources)) (sym l),
-        record {
-          spelled = subst (λ (ys : List Item). Spelled itemOf text ys) (o .items ∙ ap (λ (ys : List Item). header (o .k) ∷ ys) (t .items) ∙ ap (λ (j : ℕ). header j ∷ map source (t .sources)) (sym l)) d;
-          few = omega arith;
-          vertices = t .vertices;
-        },
-      )
+  opened-good text xs s d (k, ys, i, m, (vs, j, a, f, u)) c =
+      let l : length vs ≡ k = eqb-true _ _ (rw u at c) in
+      (vs, u ∙ rw l, record { spelled = subst (λ (zs : List Item). Spelled itemOf text zs) (i ∙ rw (j, l)) d; few = omega arith; vertices = a })
 
   pub read-good : (text : List ℕ) (s : State) → readSources n text ≡ good s → (ss : List ℕ) × (s ≡ within (length ss) ss) × Good n text ss
   unfolding readSources complete
