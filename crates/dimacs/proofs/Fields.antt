@@ -34,11 +34,6 @@ unfolding fieldsOf fields after bind
 fields-of [] = refl
 fields-of (v ∷ vs) = rw (number-digits v (fieldsOf vs) (fields-stop vs), fields-of vs)
 
--- a space, a number and fields are fields
-fields-glue : (s r t us vs : List ℕ) (v : ℕ) → s ≡ 32 ∷ r → r ≡ digits v ++ t → t ≡ fieldsOf us → v ∷ us ≡ vs → s ≡ fieldsOf vs
-unfolding fieldsOf
-fields-glue s r t us vs v p q u w = rw (p, q, u, ← w)
-
 pub fields-spell : (k : ℕ) (s vs : List ℕ) → fields k s ≡ some vs → s ≡ fieldsOf vs
 unfolding fields fieldsOf
 fields-spell zero [] vs h = let w : [] ≡ vs = some-same h in rw (← w)
@@ -47,7 +42,7 @@ fields-spell (suc k) s vs h =
     let (r, p, h₁) = bind-some (after (32 ∷ []) s) _ vs h in
     let (q, p₁, h₂) = bind-some (number r) _ vs h₁ in
     let (us, p₂, h₃) = bind-some (fields k (q .1)) _ vs h₂ in
-    fields-glue s r (q .1) us vs (q .0) (after-spells (32 ∷ []) s r p) (number-spells r (q .1) (q .0) p₁) (fields-spell k (q .1) us p₂) (some-same h₃)
+    after-spells (32 ∷ []) s r p ∙ rw (number-spells r (q .1) (q .0) p₁, fields-spell k (q .1) us p₂) (ap fieldsOf (some-same h₃))
 
 -- ---- no line feed stands in a number or in fields
 
