@@ -1,6 +1,6 @@
 -- Code stops counting a number at a cap c while it goes on eating its digits. No reader can tell: neither what follows the
 -- number nor any limit below the cap. Assumes nothing.
-use Rattle.property.proofs.Basics.{_≡_, sym, ap, _∙_, Bool, true, _&&_, cond, none, some, List, [], _∷_, _++_, ℕ, _+_, _-_, _*_, _≤_, _<_, min, arith, leb, ltb, length, ltb-true, leb-true}
+use Rattle.property.proofs.Basics.{_≡_, sym, _∙_, Bool, true, _&&_, cond, none, some, List, [], _∷_, _++_, ℕ, _+_, _-_, _*_, _≤_, _<_, min, arith, leb, ltb, length, ltb-true, leb-true}
 use Rattle.property.proofs.Tests.{by-test}
 use Rattle.graph.specs.Limits.{maxVertices, maxEdges, maxWeight}
 use Rattle.graph.specs.Edge.{Edge, edge}
@@ -21,12 +21,12 @@ capped c q = (min (q .0) c, q .1)
 -- a number above the cap stays above it, whatever digits follow
 pub scan-capped : (c : ℕ) (s : List ℕ) (v : ℕ) → capped c (scan (min v c) s) ≡ capped c (scan v s)
 unfolding scan
-scan-capped c [] v = let e : min (min v c) c ≡ min v c = omega arith in ap (λ (x : ℕ). (x, [])) e
+scan-capped c [] v = let e : min (min v c) c ≡ min v c = omega arith in rw e
 scan-capped c (b ∷ s) v = by-test (isDigit b)
     (λ e.
     let w : min (min v c * 10 + (b - 48)) c ≡ min (v * 10 + (b - 48)) c = omega arith in
-    rw e (sym (scan-capped c s (min v c * 10 + (b - 48))) ∙ ap (λ (x : ℕ). capped c (scan x s)) w ∙ scan-capped c s (v * 10 + (b - 48))))
-    (λ e. let w : min (min v c) c ≡ min v c = omega arith in rw e (ap (λ (x : ℕ). (x, b ∷ s)) w))
+    rw e (sym (scan-capped c s (min v c * 10 + (b - 48))) ∙ rw w (scan-capped c s (v * 10 + (b - 48)))))
+    (λ e. let w : min (min v c) c ≡ min v c = omega arith in rw (e, w))
 
 -- ---- lines
 

@@ -76,7 +76,7 @@ pub fields-marked : {A : Type 0} (p : List ℕ) (k : ℕ) (f : List ℕ → Opti
 fields-marked p k f l a h =
     let (r, x, h₁) = bind-some (after p l) _ a h in
     let (vs, y, h₂) = bind-some (fields k r) f a h₁ in
-    (vs, after-spells p l r x ∙ ap (λ (s : List ℕ). p ++ s) (fields-spell k r vs y), h₂)
+    (vs, after-spells p l r x ∙ ap (_++_ p) (fields-spell k r vs y), h₂)
 
 -- a line of one of two kinds, each with a mark and so many fields, is spelled as what it says
 pub either-spells : {A : Type 0} (spell : A → List ℕ)

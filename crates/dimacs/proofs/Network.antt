@@ -1,6 +1,6 @@
 -- Network text is an instance of Reading: its items are spelled as lines, no state is a dead end, and the items that lead to a complete state are those of a good
 -- text. Assumes nothing.
-use Rattle.property.proofs.Basics.{_≡_, refl, sym, ap, subst, _∙_, _⊎_, inl, inr, ⊎-elim, true, false, not, cond, false≢true, List, [], _∷_, _++_, map, none, some, bind, ℕ, zero, suc, _+_, _-_, _*_, _≤_, _<_, arith, leb, ltb, length, lt-ltb, le-leb, ltb-true, leb-true, eqb-true, eq-eqb, not-true}
+use Rattle.property.proofs.Basics.{_≡_, refl, sym, ap, subst, _∙_, _⊎_, inl, inr, ⊎-elim, true, false, not, false≢true, List, [], _∷_, _++_, map, some, bind, ℕ, zero, suc, _+_, _-_, _*_, _≤_, _<_, arith, leb, ltb, length, lt-ltb, le-leb, ltb-true, leb-true, eqb-true, eq-eqb, not-true}
 use Rattle.graph.specs.Limits.{maxVertices, maxEdges}
 use Rattle.graph.specs.Edge.{Edge, edge, present}
 use Rattle.graph.specs.Table.{isEdge, tableOrder, insert}
@@ -8,7 +8,7 @@ use Rattle.graph.proofs.Tests.{both, and-true}
 use Rattle.graph.proofs.Sorted.{length-insert}
 use Rattle.graph.proofs.Gather.{into, length-sorted, Fresh, fresh-insert, insert-fresh, fresh-none, into-sorted}
 use Rattle.graph.proofs.Order.{table-ordered}
-use Rattle.dimacs.proofs.Options.{none-some, some-same, bind-some, cond-some}
+use Rattle.dimacs.proofs.Options.{none-some, some-same, bind-cond}
 use Rattle.dimacs.proofs.Fields.{plain-fields, marked-fields, either-spells}
 use Rattle.dimacs.proofs.Reading.{acts, acts-some, speaks, Ends, ends-more, Spelling, NoDeadEnd, accepts, accepted}
 use Rattle.dimacs.proofs.Count.{sound-length, unused}
@@ -109,13 +109,12 @@ unfolding acts act bind
 taken [] n m es s h = ([], refl, tt, tt, tt, λ z. omega arith, sym (some-same h))
 taken (problem v k ∷ xs) n m es s h = absurd (none-some h)
 taken (arc e ∷ xs) n m es s h =
-    let (t, p, q) = bind-some (cond (takes n m es e) (some (within n m (insert e es))) none) _ s h in
-    let (b, w) = cond-some (takes n m es e) (within n m (insert e es)) t p in
+    let (b, q) = bind-cond (takes n m es e) (within n m (insert e es)) _ s h in
     let (l, x, y) = takes-facts n m es e b in
-    let (fs, i, a, f, d, k, v) = taken xs n m (insert e es) s (subst (λ (u : State). acts act u xs ≡ some s) (sym w) q) in
+    let (fs, i, a, f, d, k, v) = taken xs n m (insert e es) s q in
     let (u, r) = insert-fresh table-ordered e es fs f in
     let g = length-insert tableOrder e es in
-    (e ∷ fs, ap (λ (ys : List Item). arc e ∷ ys) i, (x, a), (y, u), (r, d), λ z. (let j = k (omega arith) in omega arith), v)
+    (e ∷ fs, cc i, (x, a), (y, u), (r, d), λ z. (let j = k (omega arith) in omega arith), v)
 
 -- ---- all items
 
@@ -127,9 +126,8 @@ unfolding acts act bind
 opened [] s h = inl (sym (some-same h))
 opened (arc e ∷ xs) s h = absurd (none-some h)
 opened (problem n m ∷ xs) s h =
-    let (t, p, q) = bind-some (cond (opens n m) (some (within n m [])) none) _ s h in
-    let (b, w) = cond-some (opens n m) (within n m []) t p in
-    inr (n, m, xs, refl, b, taken xs n m [] s (subst (λ (u : State). acts act u xs ≡ some s) (sym w) q))
+    let (b, q) = bind-cond (opens n m) (within n m []) _ s h in
+    inr (n, m, xs, refl, b, taken xs n m [] s q)
 
 -- ---- each state that is reached can be completed
 
@@ -167,8 +165,7 @@ good-read text n es g =
     let l : length (g .arcs) ≡ length es = sym (length-sorted tableOrder (g .arcs)) ∙ ap length (sym (g .table)) in
     accepts network-spelling act complete start (within n (length es) es) (g .spelled)
     (good-acts n (g .arcs) (g .some-vertex) (g .vertices) (g .few) (g .edges) (g .distinct)
-    ∙ ap (λ (fs : List Edge). some (within n (length (g .arcs)) fs)) (sym (g .table))
-    ∙ ap (λ (m : ℕ). some (within n m es)) l)
+    ∙ rw (← (g .table), l))
     (eq-eqb (length es) (length es) refl)
 
 -- what an accepted text says

@@ -9,7 +9,7 @@
 --   NoDeadEnd                == each state that is reached can be completed
 --   steps s ls               == the state after the lines ls
 --   Accepts text             == the reader accepts text
-use Rattle.property.proofs.Basics.{_≡_, refl, sym, ap, subst, _∙_, Bool, true, false, not, false≢true, List, [], _∷_, _++_, map, Option, none, some, bind, ℕ, suc, _+_, _-_, _≤_, _<_, arith, eqb, length, take, eqb-true, not-true}
+use Rattle.property.proofs.Basics.{_≡_, refl, sym, subst, _∙_, Bool, true, false, not, false≢true, List, [], _∷_, _++_, map, Option, none, some, bind, ℕ, suc, _+_, _-_, _≤_, _<_, arith, eqb, length, take, eqb-true, not-true}
 use Rattle.property.proofs.Tests.{by-test}
 use Rattle.dimacs.proofs.Options.{none-some, some-same, by-option, bind-some}
 use Rattle.dimacs.proofs.Split.{Plains, joined-append, split-joined, split-spelled, split-plain, split-lines, plains-append, plains-take}
@@ -25,12 +25,12 @@ acts act s (a ∷ as′) = bind (act s a) (λ t. acts act t as′)
 pub spoken-says : {A : Type 0} (as′ : List A) → spoken (map says as′) ≡ as′
 unfolding spoken
 spoken-says [] = refl
-spoken-says (a ∷ as′) = ap (λ (bs : List _). a ∷ bs) (spoken-says as′)
+spoken-says (a ∷ as′) = rw (spoken-says as′)
 
 pub map-says : {A : Type 0} (f : A → List ℕ) (as′ : List A) → map (lineOf f) (map says as′) ≡ map f as′
 unfolding lineOf
 map-says f [] = refl
-map-says f (a ∷ as′) = ap (λ (ls : List (List ℕ)). f a ∷ ls) (map-says f as′)
+map-says f (a ∷ as′) = rw (map-says f as′)
 
 -- a line that is there and is no comment
 unfoldable pub speaks : List ℕ → Bool
@@ -162,7 +162,7 @@ module _ {A S : Type 0} {spell : A → List ℕ} {parse : List ℕ → Option A}
   reading-good : (ls : List (List ℕ)) (r : List ℕ) (k : ℕ) (s t : S) → reading parse act complete ls r k s ≡ good t
       → (steps s ls ≡ some t) × (r ≡ []) × (complete t ≡ true)
   unfolding reading steps bind
-  reading-good [] r k s t h = let (p, q, c) = ended-good r k s t h in (ap (λ (x : S). some x) p, q, c)
+  reading-good [] r k s t h = let (p, q, c) = ended-good r k s t h in (rw p, q, c)
   reading-good (l ∷ ls) r k s t h = by-option (step parse act complete s l)
       (λ e. absurd (good-bad (rw (e, reading) at h)))
       (λ u e. rw e (reading-good ls r (suc k) u t (rw (e, reading) at h)))

@@ -1,8 +1,8 @@
 -- Source files are an instance of Reading: their items are spelled as lines, no state is a dead end where there is a vertex, and
 -- the items that lead to a complete state are those of a good file. Assumes nothing.
-use Rattle.property.proofs.Basics.{_≡_, refl, sym, ap, subst, _∙_, _⊎_, inl, inr, ⊎-elim, Bool, true, _&&_, cond, false≢true, List, [], _∷_, _++_, map, append-assoc, append-nil, none, some, bind, ℕ, zero, suc, _+_, _-_, _≤_, _<_, arith, leb, ltb, length, length-append, lt-ltb, le-leb, ltb-true, leb-true, eqb-true, eq-eqb}
+use Rattle.property.proofs.Basics.{_≡_, refl, sym, subst, _∙_, _⊎_, inl, inr, ⊎-elim, true, _&&_, false≢true, List, [], _∷_, _++_, map, append-assoc, append-nil, some, bind, ℕ, zero, suc, _+_, _-_, _≤_, _<_, arith, leb, ltb, length, length-append, lt-ltb, le-leb, ltb-true, leb-true, eqb-true, eq-eqb}
 use Rattle.graph.proofs.Tests.{both}
-use Rattle.dimacs.proofs.Options.{none-some, some-same, bind-some, cond-some}
+use Rattle.dimacs.proofs.Options.{none-some, some-same, bind-cond}
 use Rattle.dimacs.proofs.Fields.{plain-fields, marked-fields, either-spells}
 use Rattle.dimacs.proofs.Reading.{acts, acts-some, speaks, Ends, ends-more, Spelling, NoDeadEnd, accepts, accepted}
 use Rattle.dimacs.specs.Lines.{plain, fieldsOf, Spelled}
@@ -57,11 +57,11 @@ module _ (n : ℕ) where
 
   sources-taken : (k : ℕ) (ss vs : List ℕ) → Vertices n vs → length ss + length vs ≤ k → acts (act n) (within k ss) (map source vs) ≡ some (within k (ss ++ vs))
   unfolding acts
-  sources-taken k ss [] a h = ap (λ (x : List ℕ). some (within k x)) (sym (append-nil ss))
+  sources-taken k ss [] a h = rw append-nil
   sources-taken k ss (v ∷ vs) a h =
       acts-some (act n) (within k ss) (source v) (within k (ss ++ (v ∷ []))) (act-takes k ss v (omega arith) (a .0)) (map source vs)
       ∙ sources-taken k (ss ++ (v ∷ [])) vs (a .1) (omega (arith, length-append ss (v ∷ [])))
-      ∙ ap (λ (x : List ℕ). some (within k x)) (append-assoc ss (v ∷ []) vs)
+      ∙ rw append-assoc
 
   -- and what is taken is a vertex: the items xs are sources vs, which lead to s
   abbrev Taken : ℕ → List ℕ → List Item → State → Type 0
@@ -72,13 +72,12 @@ module _ (n : ℕ) where
   taken [] k ss s h = ([], refl, tt, λ z. omega arith, sym (some-same h) ∙ rw append-nil)
   taken (header j ∷ xs) k ss s h = absurd (none-some h)
   taken (source v ∷ xs) k ss s h =
-      let (t, p, q) = bind-some (cond (ltb (length ss) k && ltb v n) (some (within k (ss ++ (v ∷ [])))) none) _ s h in
-      let (b, w) = cond-some (ltb (length ss) k && ltb v n) (within k (ss ++ (v ∷ []))) t p in
+      let (b, q) = bind-cond (ltb (length ss) k && ltb v n) (within k (ss ++ (v ∷ []))) _ s h in
       let (x, y) = both (ltb (length ss) k) (ltb v n) b in
-      let (vs, i, a, f, u) = taken xs k (ss ++ (v ∷ [])) s (subst (λ (u : State). acts (act n) u xs ≡ some s) (sym w) q) in
+      let (vs, i, a, f, u) = taken xs k (ss ++ (v ∷ [])) s q in
       let l = ltb-true (length ss) k x in
       let g = length-append ss (v ∷ []) in
-      (v ∷ vs, ap (λ (ys : List Item). source v ∷ ys) i, (ltb-true _ _ y, a), λ z. (let j = f (omega arith) in omega arith), u ∙ rw append-assoc)
+      (v ∷ vs, cc i, (ltb-true _ _ y, a), λ z. (let j = f (omega arith) in omega arith), u ∙ rw append-assoc)
 
   -- ---- all items
 
@@ -90,9 +89,8 @@ module _ (n : ℕ) where
   opened [] s h = inl (sym (some-same h))
   opened (source v ∷ xs) s h = absurd (none-some h)
   opened (header k ∷ xs) s h =
-      let (t, p, q) = bind-some (cond (leb k maxSources) (some (within k [])) none) _ s h in
-      let (b, w) = cond-some (leb k maxSources) (within k []) t p in
-      inr (k, xs, refl, leb-true _ _ b, taken xs k [] s (subst (λ (u : State). acts (act n) u xs ≡ some s) (sym w) q))
+      let (b, q) = bind-cond (leb k maxSources) (within k []) _ s h in
+      inr (k, xs, refl, leb-true _ _ b, taken xs k [] s q)
 
   -- ---- each state that is reached can be completed, where there is a vertex: lines `s 1` follow
 
@@ -116,8 +114,7 @@ module _ (n : ℕ) where
   good-acts : (ss : List ℕ) → length ss ≤ maxSources → Vertices n ss → acts (act n) start (header (length ss) ∷ map source ss) ≡ some (within (length ss) ss)
   unfolding acts act bind
   good-acts ss l a =
-      ap (λ (b : Bool). bind (cond b (some (within (length ss) [])) none) (λ s. acts (act n) s (map source ss))) (le-leb (length ss) maxSources l)
-      ∙ sources-taken (length ss) [] ss a (omega arith)
+      rw (le-leb (length ss) maxSources l) (sources-taken (length ss) [] ss a (omega arith))
 
   pub good-read : (text ss : List ℕ) → Good n text ss → readSources n text ≡ good (within (length ss) ss)
   unfolding readSources complete
