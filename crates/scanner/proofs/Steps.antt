@@ -34,8 +34,8 @@ module _ {A S : Type 0} (parse : List ℕ → Option A) (act : S → A → Optio
   pub step-item : (st : S) (l : List ℕ) {h : Bool} {x : Option S} {o p : Option A} → parse [] ≡ none → h ≡ starts 99 l → h ≡ false
       → x ≡ bind o (act st) → o ≡ p → bind p (act st) ≡ bind (parse l) (act st) → x ≡ step parse act complete st l
   unfolding step lineIn starts bind
-  step-item st [] e a f r u v = r ∙ ap (λ y. bind y (act st)) u ∙ v ∙ rw e
-  step-item st (b ∷ s) e a f r u v = r ∙ ap (λ y. bind y (act st)) u ∙ v ∙ rw (sym a ∙ f) (sym (spoken-heard st (parse (b ∷ s))))
+  step-item st [] e a f r u v = r ∙ rw (u, v, e)
+  step-item st (b ∷ s) e a f r u v = r ∙ rw (u, v, sym a ∙ f) (sym (spoken-heard st (parse (b ∷ s))))
 
 -- ---- a text line by line
 

@@ -37,7 +37,6 @@ module _ (r : Chosen) (xs : List ℕ) (l : replyWords ≤ length xs) where
   choice-accepted q h (accepted us) e =
       let vs = r .choice .vertices in
       let z : r .choice .count ∷ getD vs 0 0 ∷ getD vs 1 0 ∷ getD vs 2 0 ∷ getD vs 3 0 ∷ [] ≡ length us ∷ padded us =
-      ap (λ (ys : List ℕ). r .choice .count ∷ ys) (four vs h)
-      ∙ ap (λ (w : ChosenWords). w .count ∷ w .vertices) e in
+      rw (four vs h) (ap (λ (w : ChosenWords). w .count ∷ w .vertices) e) in
       accepted-tells choiceWords xs l us
       (setAll-over (r .choice .count ∷ getD vs 0 0 ∷ getD vs 1 0 ∷ getD vs 2 0 ∷ getD vs 3 0 ∷ []) xs (omega arith) ∙ ap (λ (ys : List ℕ). over ys xs) z)

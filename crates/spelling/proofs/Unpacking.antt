@@ -1,5 +1,5 @@
 -- Changes of four words each as four lists. Assumes nothing.
-use Rattle.property.proofs.Basics.{_≡_, refl, sym, ap, _∙_, List, [], _∷_, ℕ, _+_, _<_, zero-add, arith, length, getD, set, take, drop, length-map, List·getD-map, paste, take-at}
+use Rattle.property.proofs.Basics.{_≡_, refl, List, [], _∷_, ℕ, _+_, _<_, zero-add, arith, length, getD, set, take, drop, length-map, List·getD-map, paste, take-at}
 use Rattle.graph.proofs.Copies.{copy-turn}
 use Rattle.graph.specs.Limits.{maxBatch}
 use Rattle.graph.specs.Refusal.{over}
@@ -10,7 +10,6 @@ use Rattle.items.specs.Code.{changes}
 use Rattle.apply.specs.Code.{batchOutcome}
 use Rattle.plain_batch.proofs.Calling.{call-faulty, faults-long}
 use Rattle.spelling.specs.Code.{wordsAt, changeOf, changesOf}
-use Rattle.network.specs.Change.{Change}
 
 pub words-length : (j : ℕ) (cs : List (List ℕ)) → length (wordsAt j cs) ≡ length cs
 unfolding wordsAt
@@ -24,13 +23,12 @@ pub column-turn : (cs : List (List ℕ)) (j : ℕ) (d e : List ℕ) (i : ℕ) �
     set e i (getD (getD cs i []) j 0) ≡ paste d 0 (wordsAt j cs) (i + 1)
 column-turn cs j d e i l m h =
     let z = words-length j cs in
-    ap (λ (v : ℕ). set e i v) (sym (words-at j cs i))
-    ∙ (rw (zero-add i) at (copy-turn (wordsAt j cs) d e 0 i (omega arith) (omega arith) h))
+    rw (← words-at j cs i) (rw (zero-add i) at (copy-turn (wordsAt j cs) d e 0 i (omega arith) (omega arith) h))
 
 changes-words : (cs : List (List ℕ)) → changes (wordsAt 0 cs) (wordsAt 1 cs) (wordsAt 2 cs) (wordsAt 3 cs) ≡ changesOf cs
 unfolding changes wordsAt
 changes-words [] = refl
-changes-words (c ∷ cs) = ap (λ (ds : List Change). changeOf c ∷ ds) (changes-words cs)
+changes-words (c ∷ cs) = rw (← changes-words cs)
 
 module _ (cs : List (List ℕ)) (zs : List ℕ) where
   -- the words of a column, read back

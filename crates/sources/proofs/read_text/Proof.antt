@@ -51,11 +51,6 @@ loop-again c =
       omega arith,
     )
 
-returns-3 : tie.Need-returns-3 Inv-loop μ-loop
-returns-3 c =
-    let i = c .before .before .loop .inv in
-    (c .end-text .ensures .0 _ _ (i .1) ∙ left-end (i .0) (c .before .loop-test .left), c .end-text .ensures .1 _ (i .1))
-
 pub read-text-spec : {M : Type 1} → statement M
 read-text-spec =
     tie.close
@@ -84,4 +79,4 @@ read-text-spec =
     loop-again
     (λ c κs. counted (c .before))
     (λ c. omega arith)
-    returns-3)
+    (λ c. let i = c .before .before .loop .inv in (c .end-text .ensures .0 _ _ (i .1) ∙ left-end (i .0) (c .before .loop-test .left), c .end-text .ensures .1 _ (i .1))))

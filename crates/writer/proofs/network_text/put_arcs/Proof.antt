@@ -14,11 +14,6 @@ Inv-loop tails heads weights count at out₀ end₀ k₀ out end k =
 abbrev μ-loop : tie.MeasureT-loop
 μ-loop tails heads weights count at out₀ end₀ k₀ out end k = count - k
 
-put-arc-requires : tie.Need-put-arc-requires Inv-loop μ-loop
-put-arc-requires c κs =
-    let l = c .before .before .before .before .before in
-    pending-fits (l .loop .inv .0) _ _ (arcs-more (l .before .before .before .before .before .pre .0) (l .loop .k) (omega arith))
-
 loop-again : tie.Need-loop-again Inv-loop μ-loop
 loop-again c =
     let p = c .before .before in
@@ -38,7 +33,7 @@ put-arcs-spec =
     (λ c. search needs)
     (λ c. search needs)
     (λ c. search needs)
-    put-arc-requires
+    (λ c κs. let l = c .before .before .before .before .before in pending-fits (l .loop .inv .0) _ _ (arcs-more (l .before .before .before .before .before .pre .0) (l .loop .k) (omega arith)))
     (λ c. search needs)
     (λ c. search needs)
     loop-again

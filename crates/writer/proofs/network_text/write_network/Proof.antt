@@ -46,13 +46,6 @@ whole c =
 room : (c : tie.Else1) → let s = begin (c .before .before .before .before .before) in Fits (text s) 0 (s .args .text .now)
 room c = record { room = omega (arith, whole (c .before)) }
 
-returns : tie.Need-returns
-unfolding writeCall told _▷_ replied choose writing
-returns c =
-    let j = c .before .before .before in
-    let a = begin j .args in
-    rw (chain (a .n) (table (begin j)) (a .count) (a .text .now) _ (sym (j .judge-write .ensures) ∙ ap told (c .before .judged .given .1)))
-
 returns-2 : tie.Need-returns-2
 unfolding writeCall _▷_ refuseIf replied choose writing
 returns-2 c =
@@ -88,7 +81,7 @@ write-network-spec =
     (tie.spec
     (λ c κs. search needs)
     (λ c. search needs)
-    returns
+    (λ c. unfold writeCall told _▷_ replied choose writing in let j = c .before .before .before in let a = begin j .args in rw (chain (a .n) (table (begin j)) (a .count) (a .text .now) _ (sym (j .judge-write .ensures) ∙ ap told (c .before .judged .given .1))))
     (λ c. search needs)
     (λ c κs. search needs)
     (λ c κs. (writable (c .before) .count, writable (c .before) .room))

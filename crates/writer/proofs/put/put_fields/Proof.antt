@@ -12,11 +12,6 @@ Inv-loop values at out₀ end₀ i₀ out end i = Pending (fieldsOf values) at o
 abbrev μ-loop : tie.MeasureT-loop
 μ-loop values at out₀ end₀ i₀ out end i = length values - i
 
-put-field-requires : tie.Need-put-field-requires Inv-loop μ-loop
-put-field-requires c κs =
-    let l = c .before .before .before in
-    pending-fits (l .loop .inv .0) _ _ (fields-more (l .before .before .before .args .values .now) (l .loop .i) (omega arith))
-
 loop-again : tie.Need-loop-again Inv-loop μ-loop
 loop-again c =
     let f = c .before .before in
@@ -32,7 +27,7 @@ put-fields-spec =
     (λ c. (pending-start (c .before .before .pre), omega arith))
     (λ c. search needs)
     (λ c. search needs)
-    put-field-requires
+    (λ c κs. let l = c .before .before .before in pending-fits (l .loop .inv .0) _ _ (fields-more (l .before .before .before .args .values .now) (l .loop .i) (omega arith)))
     (λ c. search needs)
     (λ c. search needs)
     loop-again
