@@ -17,9 +17,8 @@ sets-append (x ∷ xs) ys l i =
     let e : suc i + length xs ≡ i + suc (length xs) = omega arith in
     sets-append xs ys (set l i x) (suc i) ∙ rw e
 
-module _ {text : List ℕ} {at : ℕ} {out : List ℕ} {r : ℕ} {new : List ℕ} where
-  pub wrote-length : Fits text at out → Wrote text at out r new → length new ≡ length out
-  wrote-length f w = ap length (w .bytes ∙ laid-sets at text out (f .room)) ∙ length-sets out at text
+pub wrote-length : {text : List ℕ} {at : ℕ} {out : List ℕ} {r : ℕ} {new : List ℕ} → Fits text at out → Wrote text at out r new → length new ≡ length out
+wrote-length {text} {at} {out} f w = rw (w .bytes, laid-sets at text out (f .room)) (length-sets out at text)
 
 fits-first : (xs ys : List ℕ) {at : ℕ} {out : List ℕ} → Fits (xs ++ ys) at out → Fits xs at out
 fits-first xs ys f = record { room = omega (arith, f .room, length-append xs ys) }
@@ -66,10 +65,6 @@ module _ {text : List ℕ} {at : ℕ} {out left : List ℕ} {r : ℕ} {mid : Lis
   unfolding laid
   pending-done e = p .ends r mid (rw e (record { next = sym (add-zero r); bytes = rw (add-zero, append-nil, take-append-drop) }))
 
-  -- the last piece
-  pub pending-last : {s : ℕ} {new : List ℕ} → Wrote left r mid s new → Wrote text at out s new
-  pending-last {s} {new} w = p .ends s new w
-
 -- two pieces, one after the other
 module _ {text : List ℕ} (xs ys : List ℕ) (e : text ≡ xs ++ ys) {at : ℕ} {out : List ℕ} (f : Fits text at out) where
   pub first-fits : Fits xs at out
@@ -80,7 +75,7 @@ module _ {text : List ℕ} (xs ys : List ℕ) (e : text ≡ xs ++ ys) {at : ℕ}
     second-fits = pending-turn (pending-start f) xs ys e v .fits
 
     pub both-wrote : {s : ℕ} {new : List ℕ} → Wrote ys r mid s new → Wrote text at out s new
-    both-wrote w = pending-last (pending-turn (pending-start f) xs ys e v) w
+    both-wrote w = pending-turn (pending-start f) xs ys e v .ends _ _ w
 
 -- a copy of all bytes
 pub paste-wrote : {text : List ℕ} {at : ℕ} {out : List ℕ} {i : ℕ} {new : List ℕ} → i ≡ length text → new ≡ paste out at text i → Wrote text at out (at + i) new

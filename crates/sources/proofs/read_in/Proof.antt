@@ -18,7 +18,7 @@ start j = j .before .before .before .before
 -- number 1 does not apply
 fine : (e : tie.After-enum-told) → accept ≡ size (start (e .before .before) .args .n)
 unfolding told
-fine e = ap told (sym (e .enum-told .given .1)) ∙ e .before .before .judge-size .ensures
+fine e = rw (e .enum-told .given .1) at (e .before .before .judge-size .ensures)
 
 abbrev readOn : tie.After-count → tie.After-read-text
 readOn k = k .before .before .before .before
