@@ -1,5 +1,5 @@
 -- The claims of specs/Calls.antt, one theorem each. Assumes nothing.
-use Rattle.property.proofs.Basics.{_≡_, refl, sym, ap, subst, _∙_, _↔_, _⊎_, inl, inr, List, ℕ, _≤_, _<_, arith, ltb, length, take, drop, take-at, drop-at, le-ltb}
+use Rattle.property.proofs.Basics.{_≡_, refl, sym, ap, _∙_, _↔_, _⊎_, inl, inr, List, ℕ, _≤_, arith, ltb, length, drop, take-at, drop-at, le-ltb}
 use Rattle.graph.specs.Limits.{maxEdges}
 use Rattle.graph.specs.Refusal.{Verdict, accept, refuse, _▷_, refuseIf, accepted, refused, replied, verdictOf, Outcome, choose, over}
 use Rattle.graph.specs.Edge.{Edge}
@@ -18,7 +18,6 @@ use Rattle.dimacs.specs.Read.{Read, good, bad}
 use Rattle.dimacs.specs.Network as net
 use Rattle.dimacs.specs.Sources as src
 use Rattle.dimacs.specs.Call.{judged, Size, vertexCount, edgesRead, sourcesRead, filled, readCall, writeCall, sourcesCall}
-use Rattle.dimacs.specs.Claims.{Canonical}
 use Rattle.dimacs.specs.Calls.{Writes, NetworkCover, SourcesCover, CallReads, CallRefuses, SourcesCallReads, SourcesCallRefuses, CallWrites, CallWritten, CallUnwritten, WrittenLength}
 
 -- ---- every text
@@ -30,10 +29,10 @@ covered Good text (good s) f g = inl (f s refl)
 covered Good text (bad k) f g = inr (k, g k refl, λ j p. place-one Good text j k p (g k refl))
 
 pub network-cover : NetworkCover
-network-cover text = covered net.IsGood text (net.readNetwork text) (λ s h. let (n, es, p, g) = network.read-good text s h in (n, es, g)) (λ j. network-places text j .0)
+network-cover text = covered net.IsGood text (net.readNetwork text) (network.read-is-good text) (λ j. network-places text j .0)
 
 pub sources-cover : SourcesCover
-sources-cover n pos text = covered (src.IsGood n) text (src.readSources n text) (λ s h. let (ss, p, g) = sources.read-good n text s h in (ss, g)) (λ j. sources-places n pos text j .0)
+sources-cover n pos text = covered (src.IsGood n) text (src.readSources n text) (sources.read-is-good n text) (λ j. sources-places n pos text j .0)
 
 -- ---- outcomes of a judged text
 
@@ -52,16 +51,8 @@ refused-old (refuse j p) a new old k i h = refl
 -- so a call with that chain is refused exactly where the text has its place, P, and lends what it lent
 call-refused : {S A L P : Type 0} (r : Read S) (a : A) (new old : L) (v : Verdict) (k i : ℕ) → v ≡ judged r → ((r ≡ bad i) ↔ P)
     → ((replied v a ≡ refused k i) ↔ ((k ≡ 14) × P)) × (replied v a ≡ refused k i → choose v new old ≡ old)
-call-refused r a new old v k i c p = (
-  (
-    λ h. let z = judged-refused r a k i .0 (ap (λ (w : Verdict). replied w a) (sym c) ∙ h) in (z .0, p .0 (z .1)),
-    λ h. ap (λ (w : Verdict). replied w a) c ∙ judged-refused r a k i .1 (h .0, p .1 (h .1)),
-  ),
-  refused-old v a new old k i,
-)
-
-accepted-same : {A : Type 0} (a b : A) → accepted a ≡ accepted b → a ≡ b
-accepted-same a b h = cc
+call-refused r a new old v k i c p =
+    ((λ h. let z = judged-refused r a k i .0 (rw c at h) in (z .0, p .0 (z .1)), λ h. rw c (judged-refused r a k i .1 (h .0, p .1 (h .1)))), refused-old v a new old k i)
 
 pub judged-accept : {S : Type 0} (r : Read S) → judged r ≡ accept → (s : S) × (r ≡ good s)
 unfolding judged
@@ -71,15 +62,13 @@ judged-accept (bad k) h = absurd (not-accept h)
 -- ---- reading network text
 
 -- the network that was read, from an accepted reply
-call-read : (text : List ℕ) (cs : Columns) → shortTable cs ≡ accept → (z : Size) → (readCall text cs) .reply ≡ accepted z
-    → (n : ℕ) × (es : List Edge) × net.Good text n es
+call-read : (text : List ℕ) (cs : Columns) (z : Size) → (readCall text cs) .reply ≡ accepted z → net.IsGood text
 unfolding readCall
-call-read text cs s z h =
+call-read text cs z h =
     let r = net.readNetwork text in
     let (v, w) = reply-accepted (shortTable cs ▷ judged r) (record { vertices = vertexCount r; count = length (edgesRead r) }) z h in
     let (st, e) = judged-accept r (then-accept (shortTable cs) (judged r) v .1) in
-    let (n, es, p, g) = network.read-good text st e in
-    (n, es, g)
+    network.read-is-good text st e
 
 -- edges in front of three lists can be told from others of the same number
 filled-same : (es fs : List Edge) (cs : Columns) → length es ≡ length fs → filled es cs ≡ filled fs cs → es ≡ fs
@@ -92,13 +81,14 @@ call-reads text cs s n es = (forth, λ g. read-call text n es (length es) cs (ne
   where
     forth : readCall text cs ≡ record { reply = accepted (record { vertices = n; count = length es }); memory = filled es cs } → net.Good text n es
     forth h =
-        let (v, fs, g) = call-read text cs s (record { vertices = n; count = length es }) (ap (λ (o : Outcome Size Columns). o .reply) h) in
+        let (v, fs, g) = call-read text cs (record { vertices = n; count = length es }) (ap (λ (o : Outcome Size Columns). o .reply) h) in
         let o = sym (read-call text v fs (length fs) cs (network.good-read text v fs g) refl s) ∙ h in
-        let z = accepted-same (record { vertices = v; count = length fs }) (record { vertices = n; count = length es }) (ap (λ (o : Outcome Size Columns). o .reply) o) in
+        let r = ap (λ (o : Outcome Size Columns). o .reply) o in
+        let z : _≡_ {A = Size} (record { vertices = v; count = length fs }) (record { vertices = n; count = length es }) = cc in
         let a : v ≡ n = ap (λ (x : Size). x .vertices) z in
         let l : length fs ≡ length es = ap (λ (x : Size). x .count) z in
         let b : fs ≡ es = filled-same fs es cs l (ap (λ (o : Outcome Size Columns). o .memory) o) in
-        subst (λ (x : ℕ). net.Good text x es) a (subst (λ (gs : List Edge). net.Good text v gs) b g)
+        rw (a, b) at g
 
 pub call-refuses : CallRefuses
 unfolding readCall
@@ -119,23 +109,23 @@ module _ (n : ℕ) (text out : List ℕ) (s : size n ≡ accept) (l : src.maxSou
   unfolding sourcesCall judged sourcesRead replied choose
   good-call ss g = rw (short, sources.good-read n text ss g)
 
-  call-sources : (k : ℕ) → (sourcesCall n text out) .reply ≡ accepted k → (ss : List ℕ) × src.Good n text ss
+  call-sources : (k : ℕ) → (sourcesCall n text out) .reply ≡ accepted k → src.IsGood n text
   unfolding sourcesCall
   call-sources k h =
       let r = src.readSources n text in
       let (v, w) = reply-accepted chain (length (sourcesRead r)) k h in
       let (st, e) = judged-accept r (sym short ∙ v) in
-      let (ss, p, g) = sources.read-good n text st e in
-      (ss, g)
+      sources.read-is-good n text st e
 
   call-back : (ss : List ℕ) → sourcesCall n text out ≡ record { reply = accepted (length ss); memory = over ss out } → src.Good n text ss
   call-back ss h =
       let (vs, g) = call-sources (length ss) (ap (λ (o : Outcome ℕ (List ℕ)). o .reply) h) in
       let o = sym (good-call vs g) ∙ h in
-      let k : length vs ≡ length ss = accepted-same (length vs) (length ss) (ap (λ (o : Outcome ℕ (List ℕ)). o .reply) o) in
+      let r = ap (λ (o : Outcome ℕ (List ℕ)). o .reply) o in
+      let k : length vs ≡ length ss = cc in
       let m : over vs out ≡ over ss out = ap (λ (o : Outcome ℕ (List ℕ)). o .memory) o in
-      let b : vs ≡ ss = sym (take-at vs (drop (length vs) out) (length ss) k) ∙ ap (λ (x : List ℕ). take (length ss) x) m ∙ take-at ss (drop (length ss) out) (length ss) refl in
-      subst (λ (x : List ℕ). src.Good n text x) b g
+      let b : vs ≡ ss = sym (take-at vs (drop (length vs) out) (length ss) k) ∙ rw m (take-at ss (drop (length ss) out) (length ss) refl) in
+      rw b at g
 
 pub sources-call-reads : SourcesCallReads
 sources-call-reads n text out s l ss = (call-back n text out s l ss, good-call n text out s l ss)
@@ -168,7 +158,7 @@ module _ (n : ℕ) (cs : Columns) (m : ℕ) (out : List ℕ) (k : ℕ) where
       let r : length text ≤ length out = omega (arith, e, w .room) in
       let c : table n cs m ≡ accept = accept-then (accept-if 4 0 (le-ltb maxEdges m (w .few))) ∙ w .table .rules in
       let v : verdict ≡ accept = accept-then (w .table .vertices) ∙ accept-then (w .long) ∙ accept-then c ∙ accept-if 2 0 (le-ltb (length out) (length text) r) in
-      outcome-accepted verdict (length text) (over text out) out v ∙ ap (λ (j : ℕ). record { reply = accepted j; memory = over text out }) e
+      outcome-accepted verdict (length text) (over text out) out v ∙ rw e
 
 pub call-writes : CallWrites
 call-writes n cs m out k = (writes n cs m out k, λ w. ap (λ (o : Outcome ℕ (List ℕ)). o .reply) (written-call n cs m out k w))
@@ -177,12 +167,12 @@ pub call-written : CallWritten
 call-written n cs m out k h =
     let (t, l, b, e, _, _, _) = write-verdict n cs m out k h in
     let es = edgesOf cs m in (
-      (λ x. (λ c. network-canonical x n es c ∙ sym e, λ p. subst (λ (y : List ℕ). Canonical y n es) (sym (p ∙ e)) (network-writes n es t))),
+      (λ x. (λ c. network-canonical x n es c ∙ sym e, λ p. rw (p ∙ e) (network-writes n es t))),
       ap (λ (o : Outcome ℕ (List ℕ)). drop k (o .memory)) (written-call n cs m out k (writes n cs m out k h)) ∙ rest (text n cs m out k) b,
     )
   where
     rest : (x : List ℕ) → length x ≡ k → drop k (over x out) ≡ drop k out
-    rest x q = drop-at x (drop (length x) out) k q ∙ ap (λ (j : ℕ). drop j out) q
+    rest x q = drop-at x (drop (length x) out) k q ∙ rw q
 
 pub written-length : WrittenLength
 written-length n cs m out k h = let (t, l, b, _, _, _, _) = write-verdict n cs m out k h in omega (arith, b, table-length n (edgesOf cs m) t)
@@ -196,5 +186,5 @@ call-unwritten n cs m out =
       a,
       b,
       c,
-      λ s l t y e h. d s l t (subst (λ (z : List ℕ). length out < length z) (network-canonical y n (edgesOf cs m) e) h),
+      λ s l t y e h. d s l t (rw (network-canonical y n (edgesOf cs m) e) at h),
     )

@@ -17,7 +17,7 @@ fuel (suc j) zero v false h hj hk = absurd (omega (arith, ltb-false v 10 h))
 fuel (suc j) (suc k) v true h hj hk = refl
 fuel (suc j) (suc k) v false h hj hk =
     let big : 10 ≤ v = ltb-false v 10 h in
-    ap (λ (l : List ℕ). l ++ ((48 + v % 10) ∷ [])) (fuel j k (v / 10) (ltb (v / 10) 10) refl (omega arith) (omega arith))
+    rw (fuel j k (v / 10) (ltb (v / 10) 10) refl (omega arith) (omega arith))
 
 pub digits-small : (v : ℕ) → v < 10 → digits v ≡ (48 + v) ∷ []
 unfolding digits digitsBy
@@ -27,7 +27,7 @@ digits-small (suc v) h = rw (lt-ltb (suc v) 10 h)
 pub digits-big : (v : ℕ) → 10 ≤ v → digits v ≡ digits (v / 10) ++ ((48 + v % 10) ∷ [])
 unfolding digits digitsBy
 digits-big zero h = absurd (omega arith)
-digits-big (suc v) h = rw (le-ltb (suc v) 10 h) (ap (λ (l : List ℕ). l ++ ((48 + suc v % 10) ∷ [])) (fuel v (suc v / 10) (suc v / 10) (ltb (suc v / 10) 10) refl (omega arith) (omega arith)))
+digits-big (suc v) h = rw (le-ltb (suc v) 10 h, fuel v (suc v / 10) (suc v / 10) (ltb (suc v / 10) 10) refl (omega arith) (omega arith))
 
 -- one digit more at the end
 pub digits-more : (v d : ℕ) → 0 < v → d < 10 → digits (v * 10 + d) ≡ digits v ++ ((48 + d) ∷ [])
@@ -78,24 +78,18 @@ scan-spells v (b ∷ s) h = by-test (isDigit b) (λ e. rw e (digits-take v b s h
 pub number-spells : (s r : List ℕ) (v : ℕ) → number s ≡ some (v, r) → s ≡ digits v ++ r
 unfolding number
 number-spells [] r v h = absurd (none-some h)
-number-spells (b ∷ s) r v h = pick (eqb b 48) (isDigit b) refl refl
+number-spells (b ∷ s) r v h = by-test (eqb b 48)
+    (λ e.
+    let q : _≡_ {A = ℕ × List ℕ} (0, s) (v, r) = some-same (rw e at h) in
+    let z : 0 ≡ v = ap (λ (x : ℕ × List ℕ). x .0) q in
+    rw (← z, digits-small 0 (omega arith), eqb-true b 48 e, ap (λ (x : ℕ × List ℕ). x .1) q))
+    (λ e. by-test (isDigit b) (λ f. digit f (eqb-false b 48 e) (some-same (rw (e, f) at h))) (λ f. absurd (none-some (rw (e, f) at h))))
   where
     digit : isDigit b ≡ true → (b ≡ 48 → ⊥) → scan (b - 48) s ≡ (v, r) → b ∷ s ≡ digits v ++ r
     digit e d q =
         let (x, y) = is-digit b e in
         let w : 48 + (b - 48) ≡ b = omega arith in
-        let f : digits (b - 48) ≡ b ∷ [] = digits-small (b - 48) (omega arith) ∙ ap (λ (c : ℕ). c ∷ []) w in
-        let g : digits (b - 48) ++ s ≡ digits (scan (b - 48) s .0) ++ scan (b - 48) s .1 = scan-spells (b - 48) s (omega arith) in
-        rw q at (rw f at g)
-
-    pick : (t u : Bool) → eqb b 48 ≡ t → isDigit b ≡ u → b ∷ s ≡ digits v ++ r
-    pick true u e f =
-        let q : _≡_ {A = ℕ × List ℕ} (0, s) (v, r) = some-same (rw e at h) in
-        let z : 0 ≡ v = ap (λ (x : ℕ × List ℕ). x .0) q in
-        let w : s ≡ r = ap (λ (x : ℕ × List ℕ). x .1) q in
-        rw (← z, digits-small 0 (omega arith), eqb-true b 48 e, w)
-    pick false true e f = digit f (eqb-false b 48 e) (some-same (rw (e, f) at h))
-    pick false false e f = absurd (none-some (rw (e, f) at h))
+        rw (digits-small (b - 48) (omega arith), w, q) at (scan-spells (b - 48) s (omega arith))
 
 -- ---- printed numbers are read back
 
@@ -111,10 +105,9 @@ number-in (suc k) v s h hv = by-test (ltb v 10)
     (λ e. number-small v s (ltb-true v 10 e) hv)
     (λ e. let l : 10 ≤ v = ltb-false v 10 e in
     let w : v / 10 * 10 + (48 + v % 10 - 48) ≡ v = omega arith in
-    rw (digits-big v l, append-assoc) (number-in k (v / 10) ((48 + v % 10) ∷ s) (omega arith) (omega arith)
-    ∙ ap (λ (q : ℕ × List ℕ). some q) (scan-digit (v / 10) (48 + v % 10) s (digit-is (v % 10) (omega arith)) ∙ ap (λ (x : ℕ). scan x s) w)))
+    rw (digits-big v l, append-assoc) (number-in k (v / 10) ((48 + v % 10) ∷ s) (omega arith) (omega arith) ∙ rw (scan-digit (v / 10) (48 + v % 10) s (digit-is (v % 10) (omega arith)), w)))
 
 pub number-digits : (v : ℕ) (s : List ℕ) → stops s ≡ true → number (digits v ++ s) ≡ some (v, s)
 unfolding number
 number-digits zero s h = rw (digits-small 0 (omega arith))
-number-digits (suc v) s h = number-in (suc v) (suc v) s (omega arith) (omega arith) ∙ ap (λ (q : ℕ × List ℕ). some q) (scan-stops (suc v) s h)
+number-digits (suc v) s h = number-in (suc v) (suc v) s (omega arith) (omega arith) ∙ rw (scan-stops (suc v) s h)

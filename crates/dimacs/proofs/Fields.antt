@@ -34,11 +34,6 @@ unfolding fieldsOf fields after bind
 fields-of [] = refl
 fields-of (v ∷ vs) = rw (number-digits v (fieldsOf vs) (fields-stop vs), fields-of vs)
 
--- a space, a number and fields are fields
-fields-glue : (s r t us vs : List ℕ) (v : ℕ) → s ≡ 32 ∷ r → r ≡ digits v ++ t → t ≡ fieldsOf us → v ∷ us ≡ vs → s ≡ fieldsOf vs
-unfolding fieldsOf
-fields-glue s r t us vs v p q u w = rw (p, q, u, ← w)
-
 pub fields-spell : (k : ℕ) (s vs : List ℕ) → fields k s ≡ some vs → s ≡ fieldsOf vs
 unfolding fields fieldsOf
 fields-spell zero [] vs h = let w : [] ≡ vs = some-same h in rw (← w)
@@ -47,7 +42,7 @@ fields-spell (suc k) s vs h =
     let (r, p, h₁) = bind-some (after (32 ∷ []) s) _ vs h in
     let (q, p₁, h₂) = bind-some (number r) _ vs h₁ in
     let (us, p₂, h₃) = bind-some (fields k (q .1)) _ vs h₂ in
-    fields-glue s r (q .1) us vs (q .0) (after-spells (32 ∷ []) s r p) (number-spells r (q .1) (q .0) p₁) (fields-spell k (q .1) us p₂) (some-same h₃)
+    after-spells (32 ∷ []) s r p ∙ rw (number-spells r (q .1) (q .0) p₁, fields-spell k (q .1) us p₂) (ap fieldsOf (some-same h₃))
 
 -- ---- no line feed stands in a number or in fields
 
@@ -81,7 +76,7 @@ pub fields-marked : {A : Type 0} (p : List ℕ) (k : ℕ) (f : List ℕ → Opti
 fields-marked p k f l a h =
     let (r, x, h₁) = bind-some (after p l) _ a h in
     let (vs, y, h₂) = bind-some (fields k r) f a h₁ in
-    (vs, after-spells p l r x ∙ ap (λ (s : List ℕ). p ++ s) (fields-spell k r vs y), h₂)
+    (vs, after-spells p l r x ∙ ap (_++_ p) (fields-spell k r vs y), h₂)
 
 -- a line of one of two kinds, each with a mark and so many fields, is spelled as what it says
 pub either-spells : {A : Type 0} (spell : A → List ℕ)

@@ -1,6 +1,6 @@
 -- Network text is an instance of Reading: its items are spelled as lines, no state is a dead end, and the items that lead to a complete state are those of a good
 -- text. Assumes nothing.
-use Rattle.property.proofs.Basics.{_≡_, refl, sym, ap, subst, _∙_, _⊎_, inl, inr, ⊎-elim, true, false, not, cond, false≢true, List, [], _∷_, _++_, map, none, some, bind, ℕ, zero, suc, _+_, _-_, _*_, _≤_, _<_, arith, leb, ltb, length, lt-ltb, le-leb, ltb-true, leb-true, eqb-true, eq-eqb, not-true}
+use Rattle.property.proofs.Basics.{_≡_, refl, sym, ap, subst, _∙_, _⊎_, inl, inr, ⊎-elim, true, false, not, false≢true, List, [], _∷_, _++_, map, some, bind, ℕ, zero, suc, _+_, _-_, _*_, _≤_, _<_, arith, leb, ltb, length, lt-ltb, le-leb, ltb-true, leb-true, eqb-true, eq-eqb, not-true}
 use Rattle.graph.specs.Limits.{maxVertices, maxEdges}
 use Rattle.graph.specs.Edge.{Edge, edge, present}
 use Rattle.graph.specs.Table.{isEdge, tableOrder, insert}
@@ -8,13 +8,13 @@ use Rattle.graph.proofs.Tests.{both, and-true}
 use Rattle.graph.proofs.Sorted.{length-insert}
 use Rattle.graph.proofs.Gather.{into, length-sorted, Fresh, fresh-insert, insert-fresh, fresh-none, into-sorted}
 use Rattle.graph.proofs.Order.{table-ordered}
-use Rattle.dimacs.proofs.Options.{none-some, some-same, bind-some, cond-some}
+use Rattle.dimacs.proofs.Options.{none-some, some-same, bind-cond}
 use Rattle.dimacs.proofs.Fields.{plain-fields, marked-fields, either-spells}
 use Rattle.dimacs.proofs.Reading.{acts, acts-some, speaks, Ends, ends-more, Spelling, NoDeadEnd, accepts, accepted}
 use Rattle.dimacs.proofs.Count.{sound-length, unused}
 use Rattle.dimacs.specs.Lines.{plain, fieldsOf, Spelled}
 use Rattle.dimacs.specs.Read.{after, good}
-use Rattle.dimacs.specs.Network.{Item, problem, arc, problemMark, arcMark, itemOf, Distinct, Edges, sorted, problemFrom, arcOf, arcFrom, orElse, itemIn, State, start, within, opens, takes, act, complete, Good, readNetwork}
+use Rattle.dimacs.specs.Network.{Item, problem, arc, problemMark, arcMark, itemOf, Distinct, Edges, sorted, problemFrom, arcOf, arcFrom, orElse, itemIn, State, start, within, opens, takes, act, complete, Good, IsGood, readNetwork}
 
 -- ---- lines
 
@@ -100,58 +100,34 @@ arcs-taken n m es (e ∷ fs) a f d h =
     acts-some act (within n m es) (arc e) (within n m (insert e es)) (act-takes n m es e (omega arith) (a .0) (f .0)) (map arc fs)
     ∙ arcs-taken n m (insert e es) fs (a .1) (fresh-insert table-ordered e es fs (f .1) (d .0)) (d .1) (omega (arith, length-insert tableOrder e es))
 
--- and what is taken keeps them
-record Taken (n m : ℕ) (es : List Edge) (xs : List Item) (s : State) : Type 0 where
-  pub arcs : List Edge
-  pub items : xs ≡ map arc arcs
-  pub edges : Edges n arcs
-  pub fresh : Fresh tableOrder es arcs
-  pub distinct : Distinct arcs
-  pub few : length es ≤ m → length es + length arcs ≤ m
-  pub state : s ≡ within n m (into tableOrder es arcs)
-
-taken-arc : (n m : ℕ) (es : List Edge) (e : Edge) (xs : List Item) (s : State) → length es < m → isEdge n e ≡ true → present es e ≡ false → Taken n m (insert e es) xs s → Taken n m es (arc e ∷ xs) s
-taken-arc n m es e xs s l p q t =
-    let i = length-insert tableOrder e es in
-    let (u, v) = insert-fresh table-ordered e es (t .arcs) (t .fresh) in
-    record {
-      arcs = e ∷ t .arcs;
-      items = ap (λ (ys : List Item). arc e ∷ ys) (t .items);
-      edges = (p, t .edges);
-      fresh = (q, u);
-      distinct = (v, t .distinct);
-      few = λ z. (let y = t .few (omega arith) in omega arith);
-      state = t .state;
-    }
+-- and what is taken keeps them: the items xs are edges fs, which lead to s
+abbrev Taken : ℕ → ℕ → List Edge → List Item → State → Type 0
+Taken n m es xs s = (fs : List Edge) × (xs ≡ map arc fs) × Edges n fs × Fresh tableOrder es fs × Distinct fs × (length es ≤ m → length es + length fs ≤ m) × (s ≡ within n m (into tableOrder es fs))
 
 taken : (xs : List Item) (n m : ℕ) (es : List Edge) (s : State) → acts act (within n m es) xs ≡ some s → Taken n m es xs s
 unfolding acts act bind
-taken [] n m es s h = record { arcs = []; items = refl; edges = tt; fresh = tt; distinct = tt; few = λ z. omega arith; state = sym (some-same h) }
+taken [] n m es s h = ([], refl, tt, tt, tt, λ z. omega arith, sym (some-same h))
 taken (problem v k ∷ xs) n m es s h = absurd (none-some h)
 taken (arc e ∷ xs) n m es s h =
-    let (t, p, q) = bind-some (cond (takes n m es e) (some (within n m (insert e es))) none) _ s h in
-    let (b, w) = cond-some (takes n m es e) (within n m (insert e es)) t p in
-    let (x, y, z) = takes-facts n m es e b in
-    taken-arc n m es e xs s x y z (taken xs n m (insert e es) s (subst (λ (u : State). acts act u xs ≡ some s) (sym w) q))
+    let (b, q) = bind-cond (takes n m es e) (within n m (insert e es)) _ s h in
+    let (l, x, y) = takes-facts n m es e b in
+    let (fs, i, a, f, d, k, v) = taken xs n m (insert e es) s q in
+    let (u, r) = insert-fresh table-ordered e es fs f in
+    let g = length-insert tableOrder e es in
+    (e ∷ fs, cc i, (x, a), (y, u), (r, d), λ z. (let j = k (omega arith) in omega arith), v)
 
 -- ---- all items
 
-record Opened (xs : List Item) (s : State) : Type 0 where
-  pub n : ℕ
-  pub m : ℕ
-  pub rest : List Item
-  pub items : xs ≡ problem n m ∷ rest
-  pub opens : opens n m ≡ true
-  pub taken : Taken n m [] rest s
+abbrev Opened : List Item → State → Type 0
+Opened xs s = (n : ℕ) × (m : ℕ) × (ys : List Item) × (xs ≡ problem n m ∷ ys) × (opens n m ≡ true) × Taken n m [] ys s
 
 opened : (xs : List Item) (s : State) → acts act start xs ≡ some s → (s ≡ start) ⊎ Opened xs s
 unfolding acts act bind
 opened [] s h = inl (sym (some-same h))
 opened (arc e ∷ xs) s h = absurd (none-some h)
 opened (problem n m ∷ xs) s h =
-    let (t, p, q) = bind-some (cond (opens n m) (some (within n m [])) none) _ s h in
-    let (b, w) = cond-some (opens n m) (within n m []) t p in
-    inr (record { n = n; m = m; rest = xs; items = refl; opens = b; taken = taken xs n m [] s (subst (λ (u : State). acts act u xs ≡ some s) (sym w) q) })
+    let (b, q) = bind-cond (opens n m) (within n m []) _ s h in
+    inr (n, m, xs, refl, b, taken xs n m [] s q)
 
 -- ---- each state that is reached can be completed
 
@@ -161,7 +137,7 @@ unfolding acts complete
 fill zero n m es o h = record { items = []; end = within n m es; reached = refl; completed = eq-eqb (length es) m (omega arith) }
 fill (suc k) n m es o h =
     let (a, b, c, d) = opens-facts n m o in
-    let (e, p, q) = unused n es a (omega arith) in
+    let (e, p, q) = unused n es (omega arith) in
     ends-more act (within n m es) (arc e) (within n m (insert e es)) (act-takes n m es e (omega arith) p q) (fill k n m (insert e es) o (omega (arith, length-insert tableOrder e es)))
 
 -- before the p line, `p sp 1 0` completes the text
@@ -170,10 +146,9 @@ unfolding acts act opens complete bind
 network-goes-on xs s h = ⊎-elim
     (λ q. rw q record { items = problem 1 0 ∷ []; end = within 1 0 []; reached = refl; completed = refl })
     (λ o.
-    let t = o .taken in
-    let l : length (into tableOrder [] (t .arcs)) ≡ length (t .arcs) = length-sorted tableOrder (t .arcs) in
-    let f : length (t .arcs) ≤ o .m = omega (arith, t .few (omega arith)) in
-    rw (t .state) (fill (o .m - length (t .arcs)) (o .n) (o .m) (into tableOrder [] (t .arcs)) (o .opens) (omega arith)))
+    let (n, m, ys, i, b, (fs, j, a, f, d, k, v)) = o in
+    let l = k (omega arith) in
+    rw v (fill (m - length fs) n m (into tableOrder [] fs) b (omega (arith, length-sorted tableOrder fs))))
     (opened xs s h)
 
 -- ---- the items of a good text, and no others, lead to a complete state
@@ -190,31 +165,20 @@ good-read text n es g =
     let l : length (g .arcs) ≡ length es = sym (length-sorted tableOrder (g .arcs)) ∙ ap length (sym (g .table)) in
     accepts network-spelling act complete start (within n (length es) es) (g .spelled)
     (good-acts n (g .arcs) (g .some-vertex) (g .vertices) (g .few) (g .edges) (g .distinct)
-    ∙ ap (λ (fs : List Edge). some (within n (length (g .arcs)) fs)) (sym (g .table))
-    ∙ ap (λ (m : ℕ). some (within n m es)) l)
+    ∙ rw (← (g .table), l))
     (eq-eqb (length es) (length es) refl)
 
 -- what an accepted text says
 opened-good : (text : List ℕ) (xs : List Item) (s : State) → Spelled itemOf text xs → Opened xs s → complete s ≡ true → (n : ℕ) × (es : List Edge) × (s ≡ within n (length es) es) × Good text n es
 unfolding complete
-opened-good text xs s d o c =
-    let t = o .taken in
-    let (a, b, m, z) = opens-facts (o .n) (o .m) (o .opens) in
-    let l : length (sorted (t .arcs)) ≡ o .m = eqb-true _ _ (subst (λ (u : State). complete u ≡ true) (t .state) c) in
-    let k : o .m ≡ length (t .arcs) = sym l ∙ length-sorted tableOrder (t .arcs) in (
-      o .n,
-      sorted (t .arcs),
-      t .state ∙ ap (λ (j : ℕ). within (o .n) j (sorted (t .arcs))) (sym l),
-      record {
-        arcs = t .arcs;
-        spelled = subst (λ (ys : List Item). Spelled itemOf text ys) (o .items ∙ ap (λ (ys : List Item). problem (o .n) (o .m) ∷ ys) (t .items) ∙ ap (λ (j : ℕ). problem (o .n) j ∷ map arc (t .arcs)) k) d;
-        some-vertex = a;
-        vertices = b;
-        few = omega arith;
-        edges = t .edges;
-        distinct = t .distinct;
-        table = refl;
-      },
+opened-good text xs s d (n, m, ys, i, b, (fs, j, a, f, e, k, v)) c =
+    let (x, y, z, w) = opens-facts n m b in
+    let l : length (sorted fs) ≡ m = eqb-true _ _ (rw v at c) in
+    let q : m ≡ length fs = sym l ∙ length-sorted tableOrder fs in (
+      n,
+      sorted fs,
+      v ∙ rw l,
+      record { arcs = fs; spelled = subst (λ (zs : List Item). Spelled itemOf text zs) (i ∙ rw (j, q)) d; some-vertex = x; vertices = y; few = omega arith; edges = a; distinct = e; table = refl },
     )
 
 pub read-good : (text : List ℕ) (s : State) → readNetwork text ≡ good s → (n : ℕ) × (es : List Edge) × (s ≡ within n (length es) es) × Good text n es
@@ -222,3 +186,6 @@ unfolding readNetwork complete
 read-good text s h =
     let (xs, d, p, c) = accepted network-spelling act complete start text s h in
     ⊎-elim (λ q. absurd (false≢true (rw q at c))) (λ o. opened-good text xs s d o c) (opened xs s p)
+
+pub read-is-good : (text : List ℕ) (s : State) → readNetwork text ≡ good s → IsGood text
+read-is-good text s h = let (n, es, p, g) = read-good text s h in (n, es, g)

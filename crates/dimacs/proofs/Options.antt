@@ -21,6 +21,7 @@ unfolding bind
 bind-bind none f g = refl
 bind-bind (some x) f g = refl
 
-pub cond-some : {A : Type 0} (b : Bool) (x y : A) → cond b (some x) none ≡ some y → (b ≡ true) × (x ≡ y)
-cond-some true x y h = (refl, some-same h)
-cond-some false x y h = absurd (none-some h)
+pub bind-cond : {A B : Type 0} (b : Bool) (x : A) (f : A → Option B) (y : B) → bind (cond b (some x) none) f ≡ some y → (b ≡ true) × (f x ≡ some y)
+unfolding bind
+bind-cond true x f y h = (refl, h)
+bind-cond false x f y h = absurd (none-some h)

@@ -1,5 +1,5 @@
 -- The place of a refusal, for any notion of a good text. Assumes nothing.
-use Rattle.property.proofs.Basics.{_≡_, ap, subst, _∙_, List, _++_, append-assoc, ℕ, _-_, _≤_, _<_, arith, ltb, ltb-true, ltb-false, take, drop}
+use Rattle.property.proofs.Basics.{_≡_, List, _++_, append-assoc, ℕ, _-_, _≤_, _<_, arith, ltb, ltb-true, ltb-false, take, drop}
 use Rattle.property.proofs.Tests.{by-test}
 use Rattle.dimacs.proofs.Split.{joined-take}
 use Rattle.dimacs.specs.Lines.{joined, split, Begins, Place}
@@ -19,7 +19,7 @@ module _ (Good : List ℕ → Type 0) (text : List ℕ) where
   begins-fewer : (i j : ℕ) → i ≤ j → Begins Good (joined (take j (split text .lines))) → Begins Good (joined (take i (split text .lines)))
   begins-fewer i j h (more, g) = (
     joined (take (j - i) (drop i (split text .lines))) ++ more,
-    subst Good (ap (λ (s : List ℕ). s ++ more) (joined-take i j (split text .lines) h) ∙ append-assoc (joined (take i (split text .lines))) (joined (take (j - i) (drop i (split text .lines)))) more) g,
+    rw (joined-take i j (split text .lines) h, append-assoc) at g,
   )
 
   place-first : (j k : ℕ) → Place Good text j → Place Good text k → j < k → ⊥

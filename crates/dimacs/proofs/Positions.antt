@@ -1,6 +1,7 @@
 -- Reading at a position of a text: one byte, one number, one line at a time. For code that walks a list of bytes.
 -- Assumes nothing.
 use Rattle.property.proofs.Basics.{_≡_, refl, ap, _∙_, true, false, not, List, [], _∷_, _++_, ℕ, suc, _+_, _-_, _*_, _≤_, _<_, add-one, arith, eqb, length, getD, take, drop, drop-of-length-le, length-drop, drop-cons, take-suc, take-all, getD-drop, drop-drop, ne-eqb, not-true}
+use native.Mathlib.Nat.{sub-self}
 use lib.Seq.{split-at}
 use Rattle.graph.proofs.Tests.{both}
 use Rattle.dimacs.proofs.Digits.{scan-digit, scan-other}
@@ -32,9 +33,7 @@ split-open (b ∷ s) h = let (p, q) = both (not (eqb b 10)) (plain s) h in rw (n
 
 pub feed-start : (s : List ℕ) (at : ℕ) → plain (take (at - at) (drop at s)) ≡ true
 unfolding plain
-feed-start s at =
-    let e : at - at ≡ 0 = omega arith in
-    rw e
+feed-start s at = rw (sub-self at)
 
 plain-one : (b : ℕ) → (b ≡ 10 → ⊥) → plain (b ∷ []) ≡ true
 unfolding plain
@@ -47,7 +46,7 @@ module _ (s : List ℕ) (at i : ℕ) (from : at ≤ i) where
   at-byte : getD (drop at s) (i - at) 0 ≡ getD s i 0
   at-byte =
       let e : at + (i - at) ≡ i = omega arith in
-      getD-drop at s (i - at) 0 ∙ ap (λ (k : ℕ). getD s k 0) e
+      rw (getD-drop, e)
 
   pub feed-more : i < length s → (getD s i 0 ≡ 10 → ⊥) → plain (take (i - at) (drop at s)) ≡ true → plain (take (i + 1 - at) (drop at s)) ≡ true
   feed-more h d p =
@@ -57,9 +56,7 @@ module _ (s : List ℕ) (at i : ℕ) (from : at ≤ i) where
   parts : i < length s → getD s i 0 ≡ 10 → drop at s ≡ take (i - at) (drop at s) ++ (10 ∷ drop (i + 1) s)
   parts h b =
       let e : at + suc (i - at) ≡ i + 1 = omega arith in
-      split-at (drop at s) (i - at) 0 (inside h)
-      ∙ ap (λ (c : ℕ). take (i - at) (drop at s) ++ (c ∷ drop (suc (i - at)) (drop at s))) (at-byte ∙ b)
-      ∙ ap (λ (t : List ℕ). take (i - at) (drop at s) ++ (10 ∷ t)) (drop-drop (suc (i - at)) at s ∙ ap (λ (k : ℕ). drop k s) e)
+      split-at (drop at s) (i - at) 0 (inside h) ∙ rw (at-byte, b, drop-drop, e)
 
   -- the line feed at i ends the line
   pub feed-ends : i < length s → getD s i 0 ≡ 10 → plain (take (i - at) (drop at s)) ≡ true

@@ -7,14 +7,13 @@
 --   Ends act complete s      == items lead from s to a complete state
 --   Spelling spell parse     == each item has one spelling, which is one line and no comment, and is read from that alone
 --   NoDeadEnd                == each state that is reached can be completed
---   left .. x at k s         == the reader with x left from at on, after k lines
 --   steps s ls               == the state after the lines ls
 --   Accepts text             == the reader accepts text
-use Rattle.property.proofs.Basics.{_≡_, refl, sym, ap, subst, _∙_, Bool, true, false, not, false≢true, List, [], _∷_, _++_, map, Option, none, some, bind, ℕ, suc, _+_, _-_, _≤_, _<_, add-one, arith, eqb, length, take, drop, drop-of-length-le, drop-cons, eqb-true, not-true}
+use Rattle.property.proofs.Basics.{_≡_, refl, sym, subst, _∙_, Bool, true, false, not, false≢true, List, [], _∷_, _++_, map, Option, none, some, bind, ℕ, suc, _+_, _-_, _≤_, _<_, arith, eqb, length, take, eqb-true, not-true}
 use Rattle.property.proofs.Tests.{by-test}
 use Rattle.dimacs.proofs.Options.{none-some, some-same, by-option, bind-some}
 use Rattle.dimacs.proofs.Split.{Plains, joined-append, split-joined, split-spelled, split-plain, split-lines, plains-append, plains-take}
-use Rattle.dimacs.specs.Lines.{joined, Split, split, plain, Line, bare, comment, says, lineOf, spoken, Plain, Spelled, Begins, Place}
+use Rattle.dimacs.specs.Lines.{joined, split, plain, Line, bare, comment, says, lineOf, spoken, Plain, Spelled, Begins, Place}
 use Rattle.dimacs.specs.Read.{commentOf, spokenBy, lineIn, Read, good, bad, heard, step, ended, reading, read}
 
 -- ---- items
@@ -26,12 +25,12 @@ acts act s (a ∷ as′) = bind (act s a) (λ t. acts act t as′)
 pub spoken-says : {A : Type 0} (as′ : List A) → spoken (map says as′) ≡ as′
 unfolding spoken
 spoken-says [] = refl
-spoken-says (a ∷ as′) = ap (λ (bs : List _). a ∷ bs) (spoken-says as′)
+spoken-says (a ∷ as′) = rw (spoken-says as′)
 
 pub map-says : {A : Type 0} (f : A → List ℕ) (as′ : List A) → map (lineOf f) (map says as′) ≡ map f as′
 unfolding lineOf
 map-says f [] = refl
-map-says f (a ∷ as′) = ap (λ (ls : List (List ℕ)). f a ∷ ls) (map-says f as′)
+map-says f (a ∷ as′) = rw (map-says f as′)
 
 -- a line that is there and is no comment
 unfoldable pub speaks : List ℕ → Bool
@@ -69,39 +68,14 @@ NoDeadEnd {A} {S} act complete start = (as′ : List A) (s : S) → acts act sta
 -- ---- one turn of the reader
 
 module _ {A S : Type 0} (parse : List ℕ → Option A) (act : S → A → Option S) (complete : S → Bool) where
-  pub reading-none : (l : List ℕ) (ls : List (List ℕ)) (r : List ℕ) (k : ℕ) (s : S) → step parse act complete s l ≡ none
-      → reading parse act complete (l ∷ ls) r k s ≡ bad (suc k)
-  unfolding reading
-  reading-none l ls r k s e = rw (e, reading)
+  module _ (l : List ℕ) (ls : List (List ℕ)) (r : List ℕ) (k : ℕ) (s : S) where
+    pub reading-none : step parse act complete s l ≡ none → reading parse act complete (l ∷ ls) r k s ≡ bad (suc k)
+    unfolding reading
+    reading-none e = rw (e, reading)
 
-  pub reading-some : (l : List ℕ) (ls : List (List ℕ)) (r : List ℕ) (k : ℕ) (s t : S) → step parse act complete s l ≡ some t
-      → reading parse act complete (l ∷ ls) r k s ≡ reading parse act complete ls r (suc k) t
-  unfolding reading
-  reading-some l ls r k s t e = rw (e, reading)
-
-  -- what is left of x from at on, after k lines
-  abbrev pub left : List ℕ → ℕ → ℕ → S → Read S
-  left x at k s = reading parse act complete (split (drop at x) .lines) (split (drop at x) .rest) k s
-
-  -- each way in which the text goes on or ends there
-  module _ (x : List ℕ) (at k : ℕ) (s : S) where
-    left-is : (q : Split) → q ≡ split (drop at x) → left x at k s ≡ reading parse act complete (q .lines) (q .rest) k s
-    left-is q e = ap (λ (p : Split). reading parse act complete (p .lines) (p .rest) k s) (sym e)
-
-    pub left-open : at < length x → record { lines = []; rest = drop at x } ≡ split (drop at x) → left x at k s ≡ bad (k + 1)
-    unfolding reading ended
-    left-open h e = left-is (record { lines = []; rest = drop at x }) e ∙ rw (drop-cons x at 0 h, add-one)
-
-    module _ (l : List ℕ) (ls : List (List ℕ)) (r : List ℕ) (e : record { lines = l ∷ ls; rest = r } ≡ split (drop at x)) where
-      pub left-stop : none ≡ step parse act complete s l → left x at k s ≡ bad (k + 1)
-      left-stop h = left-is (record { lines = l ∷ ls; rest = r }) e ∙ rw add-one (reading-none l ls r k s (sym h))
-
-      pub left-next : (t : S) → some t ≡ step parse act complete s l → left x at k s ≡ reading parse act complete ls r (k + 1) t
-      left-next t h = left-is (record { lines = l ∷ ls; rest = r }) e ∙ rw add-one (reading-some l ls r k s t (sym h))
-
-    pub left-end : length x ≤ at → left x at k s ≡ ended parse act complete [] k s
-    unfolding reading split
-    left-end h = rw (drop-of-length-le x h)
+    pub reading-some : (t : S) → step parse act complete s l ≡ some t → reading parse act complete (l ∷ ls) r k s ≡ reading parse act complete ls r (suc k) t
+    unfolding reading
+    reading-some t e = rw (e, reading)
 
 module _ {A S : Type 0} {spell : A → List ℕ} {parse : List ℕ → Option A} (laws : Spelling spell parse) (act : S → A → Option S) (complete : S → Bool) (start : S) where
   -- ---- one line
@@ -155,9 +129,9 @@ module _ {A S : Type 0} {spell : A → List ℕ} {parse : List ℕ → Option A}
   pub steps-lines : (xs : List (Line A)) (s : S) → steps s (map (lineOf spell) xs) ≡ acts act s (spoken xs)
   unfolding steps acts spoken heard bind
   steps-lines [] s = refl
-  steps-lines (bare ∷ xs) s = ap (λ (o : Option S). bind o (λ t. steps t (map (lineOf spell) xs))) (step-line s bare) ∙ steps-lines xs s
-  steps-lines (comment c ∷ xs) s = ap (λ (o : Option S). bind o (λ t. steps t (map (lineOf spell) xs))) (step-line s (comment c)) ∙ steps-lines xs s
-  steps-lines (says a ∷ xs) s = ap (λ (o : Option S). bind o (λ t. steps t (map (lineOf spell) xs))) (step-line s (says a)) ∙ by-option (act s a) (λ e. rw e) (λ t e. rw e (steps-lines xs t))
+  steps-lines (bare ∷ xs) s = rw (step-line s bare) (steps-lines xs s)
+  steps-lines (comment c ∷ xs) s = rw (step-line s (comment c)) (steps-lines xs s)
+  steps-lines (says a ∷ xs) s = rw (step-line s (says a)) (by-option (act s a) (λ e. rw e) (λ t e. rw e (steps-lines xs t)))
 
   -- lines that are read to the end say something
   pub steps-said : (ls : List (List ℕ)) (s t : S) → steps s ls ≡ some t → (xs : List (Line A)) × (ls ≡ map (lineOf spell) xs)
@@ -168,6 +142,9 @@ module _ {A S : Type 0} {spell : A → List ℕ} {parse : List ℕ → Option A}
       let (x, p₁, q₁) = bind-some (lineIn parse l) _ u p in
       let (xs, e) = steps-said ls u t q in
       (x ∷ xs, rw (← line-spells l x p₁, ← e))
+
+  said-acts : (ls : List (List ℕ)) (t : S) → steps start ls ≡ some t → (xs : List (Line A)) × (ls ≡ map (lineOf spell) xs) × (acts act start (spoken xs) ≡ some t)
+  said-acts ls t h = let (xs, e) = steps-said ls start t h in (xs, e, sym (steps-lines xs start) ∙ rw (← e) h)
 
   -- ---- the whole text
 
@@ -185,17 +162,17 @@ module _ {A S : Type 0} {spell : A → List ℕ} {parse : List ℕ → Option A}
   reading-good : (ls : List (List ℕ)) (r : List ℕ) (k : ℕ) (s t : S) → reading parse act complete ls r k s ≡ good t
       → (steps s ls ≡ some t) × (r ≡ []) × (complete t ≡ true)
   unfolding reading steps bind
-  reading-good [] r k s t h = let (p, q, c) = ended-good r k s t h in (ap (λ (x : S). some x) p, q, c)
+  reading-good [] r k s t h = let (p, q, c) = ended-good r k s t h in (rw p, q, c)
   reading-good (l ∷ ls) r k s t h = by-option (step parse act complete s l)
-      (λ e. absurd (good-bad (sym (reading-none parse act complete l ls r k s e) ∙ h)))
-      (λ u e. rw e (reading-good ls r (suc k) u t (sym (reading-some parse act complete l ls r k s u e) ∙ h)))
+      (λ e. absurd (good-bad (rw (e, reading) at h)))
+      (λ u e. rw e (reading-good ls r (suc k) u t (rw (e, reading) at h)))
 
   good-reading : (ls : List (List ℕ)) (k : ℕ) (s t : S) → steps s ls ≡ some t → complete t ≡ true → reading parse act complete ls [] k s ≡ good t
   unfolding reading steps ended bind
   good-reading [] k s t h c = let w : s ≡ t = some-same h in rw (w, c)
   good-reading (l ∷ ls) k s t h c = by-option (step parse act complete s l)
       (λ e. absurd (none-some (rw e at h)))
-      (λ u e. reading-some parse act complete l ls [] k s u e ∙ good-reading ls (suc k) u t (rw e at h) c)
+      (λ u e. rw (e, reading) (good-reading ls (suc k) u t (rw e at h) c))
 
   -- ---- exactly the good texts are accepted
 
@@ -213,21 +190,19 @@ module _ {A S : Type 0} {spell : A → List ℕ} {parse : List ℕ → Option A}
   -- what a reader says at the end of whole lines that lead to a complete state
   pub read-lines : (ls : List (List ℕ)) (t : S) → Plains ls → steps start ls ≡ some t → complete t ≡ true → read parse act complete start (joined ls) ≡ good t
   unfolding read
-  read-lines ls t p h c = ap (λ (q : Split). reading parse act complete (q .lines) (q .rest) 0 start) (split-lines ls p) ∙ good-reading ls 0 start t h c
+  read-lines ls t p h c = rw (split-lines ls p) (good-reading ls 0 start t h c)
 
   pub accepts : {text : List ℕ} {as′ : List A} (t : S) → Spelled spell text as′ → acts act start as′ ≡ some t → complete t ≡ true → read parse act complete start text ≡ good t
-  accepts t d h c =
-      ap (λ (s : List ℕ). read parse act complete start s) (d .spells)
-      ∙ read-lines (map (lineOf spell) (d .lines)) t (plains-of (d .lines) (d .plains)) (steps-lines (d .lines) start ∙ ap (λ (bs : List A). acts act start bs) (d .speaks) ∙ h) c
+  accepts t d h c = rw (d .spells) (read-lines (map (lineOf spell) (d .lines)) t (plains-of (d .lines) (d .plains)) (steps-lines (d .lines) start ∙ rw (d .speaks) h) c)
 
   pub accepted : (text : List ℕ) (t : S) → read parse act complete start text ≡ good t → (as′ : List A) × Spelled spell text as′ × (acts act start as′ ≡ some t) × (complete t ≡ true)
   unfolding read
   accepted text t h =
       let (p, q, c) = reading-good (split text .lines) (split text .rest) 0 start t h in
-      let (xs, e) = steps-said (split text .lines) start t p in (
+      let (xs, e, a) = said-acts (split text .lines) t p in (
         spoken xs,
         record { lines = xs; spells = split-spelled text (map (lineOf spell) xs) e q; plains = of-plains xs (subst Plains e (split-plain text)); speaks = refl },
-        sym (steps-lines xs start) ∙ ap (λ (ls : List (List ℕ)). steps start ls) (sym e) ∙ p,
+        a,
         c,
       )
 
@@ -236,13 +211,6 @@ module _ {A S : Type 0} {spell : A → List ℕ} {parse : List ℕ → Option A}
   abbrev pub Accepts : List ℕ → Type 0
   Accepts text = (t : S) × (read parse act complete start text ≡ good t)
 
-  -- where a reading is refused: after i lines that are read, at the line after them, or at the end
-  record Stopped (s : S) (ls : List (List ℕ)) (i : ℕ) : Type 0 where
-    pub inside : i ≤ length ls
-    pub state : S
-    pub reached : steps s (take i ls) ≡ some state
-    pub dead : i < length ls → steps s (take (suc i) ls) ≡ none
-
   ended-bad : (r : List ℕ) (k : ℕ) (s : S) (j : ℕ) → ended parse act complete r k s ≡ bad j → j ≡ suc k
   unfolding ended
   ended-bad (b ∷ r) k s j h = cc
@@ -250,21 +218,14 @@ module _ {A S : Type 0} {spell : A → List ℕ} {parse : List ℕ → Option A}
       (λ e. absurd (good-bad (sym (rw e at h))))
       (λ e. let q : _≡_ {A = Read S} (bad (suc k)) (bad j) = rw e at h in cc)
 
-  reading-stops : (ls : List (List ℕ)) (r : List ℕ) (k : ℕ) (s : S) (j : ℕ) → reading parse act complete ls r k s ≡ bad j → (i : ℕ) × (j ≡ suc (k + i)) × Stopped s ls i
+  -- where a reading is refused: after i lines that are read, at the line after them, or at the end
+  reading-stops : (ls : List (List ℕ)) (r : List ℕ) (k : ℕ) (s : S) (j : ℕ) → reading parse act complete ls r k s ≡ bad j
+      → (i : ℕ) × (j ≡ suc (k + i)) × (i ≤ length ls) × (t : S) × (steps s (take i ls) ≡ some t) × (i < length ls → steps s (take (suc i) ls) ≡ none)
   unfolding reading steps bind
-  reading-stops [] r k s j h = (
-    0,
-    omega (arith, ended-bad r k s j h),
-    record { inside = omega arith; state = s; reached = refl; dead = λ l. absurd (omega arith) },
-  )
+  reading-stops [] r k s j h = (0, omega (arith, ended-bad r k s j h), omega arith, s, refl, λ l. absurd (omega arith))
   reading-stops (l ∷ ls) r k s j h = by-option (step parse act complete s l)
-      (λ e.
-      let q : _≡_ {A = Read S} (bad (suc k)) (bad j) = sym (reading-none parse act complete l ls r k s e) ∙ h in
-      let w : suc k ≡ j = cc in
-      (0, omega arith, record { inside = omega arith; state = s; reached = refl; dead = λ z. rw e }))
-      (λ t e.
-      let (i, p, d) = reading-stops ls r (suc k) t j (sym (reading-some parse act complete l ls r k s t e) ∙ h) in
-      (suc i, omega arith, record { inside = omega (arith, d .inside); state = d .state; reached = rw e (d .reached); dead = λ q. rw e (d .dead (omega arith)) }))
+      (λ e. let q : _≡_ {A = Read S} (bad (suc k)) (bad j) = rw (e, reading) at h in let w : suc k ≡ j = cc in (0, omega arith, omega arith, s, refl, λ z. rw e))
+      (λ t e. let (i, p, a, u, q, d) = reading-stops ls r (suc k) t j (rw (e, reading) at h) in (suc i, omega arith, omega arith, u, rw e q, λ z. rw e (d (omega arith))))
 
   plains-spelled : (as′ : List A) → Plains (map spell as′)
   plains-spelled [] = tt
@@ -272,49 +233,23 @@ module _ {A S : Type 0} {spell : A → List ℕ} {parse : List ℕ → Option A}
 
   steps-spelled : (as′ : List A) (s : S) → steps s (map spell as′) ≡ acts act s as′
   unfolding lineOf
-  steps-spelled as′ s = ap (λ (ls : List (List ℕ)). steps s ls) (sym (map-says spell as′)) ∙ steps-lines (map says as′) s ∙ ap (λ (bs : List A). acts act s bs) (spoken-says as′)
+  steps-spelled as′ s = rw (← map-says spell as′) (steps-lines (map says as′) s ∙ rw (spoken-says as′))
 
   -- lines that were read can go on to a text that is accepted: the items that complete the state follow
-  alive : (ls : List (List ℕ)) (s : S) → Plains ls → steps start ls ≡ some s → Ends act complete s → Begins Accepts (joined ls)
+  alive : NoDeadEnd act complete start → (ls : List (List ℕ)) (s : S) → Plains ls → steps start ls ≡ some s → Begins Accepts (joined ls)
   unfolding bind
-  alive ls s p h d = (
-    joined (map spell (d .items)),
-    (
-      d .end,
-      ap (λ (x : List ℕ). read parse act complete start x) (sym (joined-append ls (map spell (d .items))))
-          ∙ read-lines (ls ++ map spell (d .items)) (d .end) (plains-append ls (map spell (d .items)) p (plains-spelled (d .items)))
-          (steps-append ls (map spell (d .items)) start ∙ ap (λ (o : Option S). bind o (λ t. steps t (map spell (d .items)))) h ∙ steps-spelled (d .items) s ∙ d .reached)
-          (d .completed),
-    ),
-  )
-
-  steps-ends : NoDeadEnd act complete start → (ls : List (List ℕ)) (s : S) → steps start ls ≡ some s → Ends act complete s
-  steps-ends goes-on ls s h =
-      let (xs, e) = steps-said ls start s h in
-      goes-on (spoken xs) s (sym (steps-lines xs start) ∙ ap (λ (ms : List (List ℕ)). steps start ms) (sym e) ∙ h)
+  alive goes-on ls s p h =
+      let (xs, e, a) = said-acts ls s h in
+      let d = goes-on (spoken xs) s a in
+      let ms = map spell (d .items) in
+      (joined ms, (d .end, rw (← joined-append ls ms) (read-lines (ls ++ ms) (d .end) (plains-append ls ms p (plains-spelled (d .items))) (steps-append ls ms start ∙ rw h (steps-spelled (d .items) s ∙ d .reached)) (d .completed))))
 
   -- lines of which one was refused cannot
   dead-end : (ls : List (List ℕ)) → Plains ls → steps start ls ≡ none → Begins Accepts (joined ls) → ⊥
   unfolding read bind
   dead-end ls p h (more, (t, g)) =
       let (q, r, c) = reading-good (split (joined ls ++ more) .lines) (split (joined ls ++ more) .rest) 0 start t g in
-      none-some
-      (ap (λ (o : Option S). bind o (λ u. steps u (split more .lines))) (sym h)
-      ∙ sym (steps-append ls (split more .lines) start)
-      ∙ ap (λ (z : Split). steps start (z .lines)) (sym (split-joined ls more p))
-      ∙ q)
-
-  place-at : NoDeadEnd act complete start → (text : List ℕ) (i k : ℕ) → k ≡ suc i → Stopped start (split text .lines) i → read parse act complete start text ≡ bad k → Place Accepts text k
-  place-at goes-on text i k e d h =
-      let p = split-plain text in
-      let w : k - 1 ≡ i = omega arith in
-      record {
-        from-one = omega arith;
-        inside = omega (arith, d .inside);
-        alive = rw w (alive (take i (split text .lines)) (d .state) (plains-take i (split text .lines) p) (d .reached) (steps-ends goes-on (take i (split text .lines)) (d .state) (d .reached)));
-        dead = λ l b. dead-end (take k (split text .lines)) (plains-take k (split text .lines) p) (rw e (d .dead (omega arith))) b;
-        not-good = λ g. good-bad (sym h ∙ g .1);
-      }
+      none-some (rw (split-joined ls more p, steps-append ls (split more .lines) start, h) at q)
 
   -- A refusal's place. The lines before it were read, so that they reached a state, from which items go on to a good text.
   -- The line itself has no meaning there, or the state takes it not: whatever follows, the reader stops there too, and it
@@ -322,5 +257,15 @@ module _ {A S : Type 0} {spell : A → List ℕ} {parse : List ℕ → Option A}
   pub refused : NoDeadEnd act complete start → (text : List ℕ) (k : ℕ) → read parse act complete start text ≡ bad k → Place Accepts text k
   unfolding read
   refused goes-on text k h =
-      let (i, e, d) = reading-stops (split text .lines) (split text .rest) 0 start k h in
-      place-at goes-on text i k (omega arith) d h
+      let ls = split text .lines in
+      let (i, e, l, t, a, d) = reading-stops ls (split text .rest) 0 start k h in
+      let p = split-plain text in
+      let v : k ≡ suc i = omega arith in
+      let w : k - 1 ≡ i = omega arith in
+      record {
+        from-one = omega arith;
+        inside = omega arith;
+        alive = rw w (alive goes-on (take i ls) t (plains-take i ls p) a);
+        dead = λ m b. dead-end (take k ls) (plains-take k ls p) (rw v (d (omega arith))) b;
+        not-good = λ g. good-bad (sym h ∙ g .1);
+      }

@@ -1,14 +1,14 @@
 -- Source files are an instance of Reading: their items are spelled as lines, no state is a dead end where there is a vertex, and
 -- the items that lead to a complete state are those of a good file. Assumes nothing.
-use Rattle.property.proofs.Basics.{_≡_, refl, sym, ap, subst, _∙_, _⊎_, inl, inr, ⊎-elim, Bool, true, _&&_, cond, false≢true, List, [], _∷_, _++_, map, append-assoc, append-nil, none, some, bind, ℕ, zero, suc, _+_, _-_, _≤_, _<_, arith, leb, ltb, length, length-append, lt-ltb, le-leb, ltb-true, leb-true, eqb-true, eq-eqb}
+use Rattle.property.proofs.Basics.{_≡_, refl, sym, subst, _∙_, _⊎_, inl, inr, ⊎-elim, true, _&&_, false≢true, List, [], _∷_, _++_, map, append-assoc, append-nil, some, bind, ℕ, zero, suc, _+_, _-_, _≤_, _<_, arith, leb, ltb, length, length-append, lt-ltb, le-leb, ltb-true, leb-true, eqb-true, eq-eqb}
 use Rattle.graph.proofs.Tests.{both}
-use Rattle.dimacs.proofs.Options.{none-some, some-same, bind-some, cond-some}
+use Rattle.dimacs.proofs.Options.{none-some, some-same, bind-cond}
 use Rattle.dimacs.proofs.Fields.{plain-fields, marked-fields, either-spells}
 use Rattle.dimacs.proofs.Reading.{acts, acts-some, speaks, Ends, ends-more, Spelling, NoDeadEnd, accepts, accepted}
 use Rattle.dimacs.specs.Lines.{plain, fieldsOf, Spelled}
 use Rattle.dimacs.specs.Read.{after, good}
 use Rattle.dimacs.specs.Network.{orElse}
-use Rattle.dimacs.specs.Sources.{maxSources, Item, header, source, headerMark, sourceMark, itemOf, Vertices, Good, headerFrom, sourceFrom, itemIn, State, start, within, act, complete, readSources}
+use Rattle.dimacs.specs.Sources.{maxSources, Item, header, source, headerMark, sourceMark, itemOf, Vertices, Good, IsGood, headerFrom, sourceFrom, itemIn, State, start, within, act, complete, readSources}
 
 -- ---- lines
 
@@ -57,63 +57,40 @@ module _ (n : ℕ) where
 
   sources-taken : (k : ℕ) (ss vs : List ℕ) → Vertices n vs → length ss + length vs ≤ k → acts (act n) (within k ss) (map source vs) ≡ some (within k (ss ++ vs))
   unfolding acts
-  sources-taken k ss [] a h = ap (λ (x : List ℕ). some (within k x)) (sym (append-nil ss))
+  sources-taken k ss [] a h = rw append-nil
   sources-taken k ss (v ∷ vs) a h =
       acts-some (act n) (within k ss) (source v) (within k (ss ++ (v ∷ []))) (act-takes k ss v (omega arith) (a .0)) (map source vs)
       ∙ sources-taken k (ss ++ (v ∷ [])) vs (a .1) (omega (arith, length-append ss (v ∷ [])))
-      ∙ ap (λ (x : List ℕ). some (within k x)) (append-assoc ss (v ∷ []) vs)
+      ∙ rw append-assoc
 
-  record Taken (k : ℕ) (ss : List ℕ) (xs : List Item) (s : State) : Type 0 where
-    pub sources : List ℕ
-    pub items : xs ≡ map source sources
-    pub vertices : Vertices n sources
-    pub few : length ss ≤ k → length ss + length sources ≤ k
-    pub state : s ≡ within k (ss ++ sources)
-
-  taken-source : (k : ℕ) (ss : List ℕ) (v : ℕ) (xs : List Item) (s : State) → length ss < k → v < n → Taken k (ss ++ (v ∷ [])) xs s → Taken k ss (source v ∷ xs) s
-  taken-source k ss v xs s l p t =
-      let i = length-append ss (v ∷ []) in
-      record {
-        sources = v ∷ t .sources;
-        items = ap (λ (ys : List Item). source v ∷ ys) (t .items);
-        vertices = (p, t .vertices);
-        few = λ z. (let y = t .few (omega arith) in omega arith);
-        state = t .state ∙ ap (λ (x : List ℕ). within k x) (append-assoc ss (v ∷ []) (t .sources));
-      }
+  -- and what is taken is a vertex: the items xs are sources vs, which lead to s
+  abbrev Taken : ℕ → List ℕ → List Item → State → Type 0
+  Taken k ss xs s = (vs : List ℕ) × (xs ≡ map source vs) × Vertices n vs × (length ss ≤ k → length ss + length vs ≤ k) × (s ≡ within k (ss ++ vs))
 
   taken : (xs : List Item) (k : ℕ) (ss : List ℕ) (s : State) → acts (act n) (within k ss) xs ≡ some s → Taken k ss xs s
   unfolding acts act bind
-  taken [] k ss s h = record {
-    sources = [];
-    items = refl;
-    vertices = tt;
-    few = λ z. omega arith;
-    state = sym (some-same h) ∙ ap (λ (x : List ℕ). within k x) (sym (append-nil ss));
-  }
+  taken [] k ss s h = ([], refl, tt, λ z. omega arith, sym (some-same h) ∙ rw append-nil)
   taken (header j ∷ xs) k ss s h = absurd (none-some h)
   taken (source v ∷ xs) k ss s h =
-      let (t, p, q) = bind-some (cond (ltb (length ss) k && ltb v n) (some (within k (ss ++ (v ∷ [])))) none) _ s h in
-      let (b, w) = cond-some (ltb (length ss) k && ltb v n) (within k (ss ++ (v ∷ []))) t p in
+      let (b, q) = bind-cond (ltb (length ss) k && ltb v n) (within k (ss ++ (v ∷ []))) _ s h in
       let (x, y) = both (ltb (length ss) k) (ltb v n) b in
-      taken-source k ss v xs s (ltb-true _ _ x) (ltb-true _ _ y) (taken xs k (ss ++ (v ∷ [])) s (subst (λ (u : State). acts (act n) u xs ≡ some s) (sym w) q))
+      let (vs, i, a, f, u) = taken xs k (ss ++ (v ∷ [])) s q in
+      let l = ltb-true (length ss) k x in
+      let g = length-append ss (v ∷ []) in
+      (v ∷ vs, cc i, (ltb-true _ _ y, a), λ z. (let j = f (omega arith) in omega arith), u ∙ rw append-assoc)
 
   -- ---- all items
 
-  record Opened (xs : List Item) (s : State) : Type 0 where
-    pub k : ℕ
-    pub rest : List Item
-    pub items : xs ≡ header k ∷ rest
-    pub most : k ≤ maxSources
-    pub taken : Taken k [] rest s
+  abbrev Opened : List Item → State → Type 0
+  Opened xs s = (k : ℕ) × (ys : List Item) × (xs ≡ header k ∷ ys) × (k ≤ maxSources) × Taken k [] ys s
 
   opened : (xs : List Item) (s : State) → acts (act n) start xs ≡ some s → (s ≡ start) ⊎ Opened xs s
   unfolding acts act bind
   opened [] s h = inl (sym (some-same h))
   opened (source v ∷ xs) s h = absurd (none-some h)
   opened (header k ∷ xs) s h =
-      let (t, p, q) = bind-some (cond (leb k maxSources) (some (within k [])) none) _ s h in
-      let (b, w) = cond-some (leb k maxSources) (within k []) t p in
-      inr (record { k = k; rest = xs; items = refl; most = leb-true _ _ b; taken = taken xs k [] s (subst (λ (u : State). acts (act n) u xs ≡ some s) (sym w) q) })
+      let (b, q) = bind-cond (leb k maxSources) (within k []) _ s h in
+      inr (k, xs, refl, leb-true _ _ b, taken xs k [] s q)
 
   -- ---- each state that is reached can be completed, where there is a vertex: lines `s 1` follow
 
@@ -127,9 +104,9 @@ module _ (n : ℕ) where
   sources-go-on pos xs s h = ⊎-elim
       (λ q. rw q record { items = header 0 ∷ []; end = within 0 []; reached = refl; completed = refl })
       (λ o.
-      let t = o .taken in
-      let f : length (t .sources) ≤ o .k = omega (arith, t .few (omega arith)) in
-      rw (t .state) (fill (o .k - length (t .sources)) (o .k) (t .sources) pos (omega arith)))
+      let (k, ys, i, m, (vs, j, a, f, u)) = o in
+      let l = f (omega arith) in
+      rw u (fill (k - length vs) k vs pos (omega arith)))
       (opened xs s h)
 
   -- ---- the items of a good file, and no others, lead to a complete state
@@ -137,8 +114,7 @@ module _ (n : ℕ) where
   good-acts : (ss : List ℕ) → length ss ≤ maxSources → Vertices n ss → acts (act n) start (header (length ss) ∷ map source ss) ≡ some (within (length ss) ss)
   unfolding acts act bind
   good-acts ss l a =
-      ap (λ (b : Bool). bind (cond b (some (within (length ss) [])) none) (λ s. acts (act n) s (map source ss))) (le-leb (length ss) maxSources l)
-      ∙ sources-taken (length ss) [] ss a (omega arith)
+      rw (le-leb (length ss) maxSources l) (sources-taken (length ss) [] ss a (omega arith))
 
   pub good-read : (text ss : List ℕ) → Good n text ss → readSources n text ≡ good (within (length ss) ss)
   unfolding readSources complete
@@ -147,21 +123,15 @@ module _ (n : ℕ) where
 
   opened-good : (text : List ℕ) (xs : List Item) (s : State) → Spelled itemOf text xs → Opened xs s → complete s ≡ true → (ss : List ℕ) × (s ≡ within (length ss) ss) × Good n text ss
   unfolding complete
-  opened-good text xs s d o c =
-      let t = o .taken in
-      let l : length (t .sources) ≡ o .k = eqb-true _ _ (subst (λ (u : State). complete u ≡ true) (t .state) c) in
-      let m = o .most in (
-        t .sources,
-        t .state ∙ ap (λ (j : ℕ). within j (t .sources)) (sym l),
-        record {
-          spelled = subst (λ (ys : List Item). Spelled itemOf text ys) (o .items ∙ ap (λ (ys : List Item). header (o .k) ∷ ys) (t .items) ∙ ap (λ (j : ℕ). header j ∷ map source (t .sources)) (sym l)) d;
-          few = omega arith;
-          vertices = t .vertices;
-        },
-      )
+  opened-good text xs s d (k, ys, i, m, (vs, j, a, f, u)) c =
+      let l : length vs ≡ k = eqb-true _ _ (rw u at c) in
+      (vs, u ∙ rw l, record { spelled = subst (λ (zs : List Item). Spelled itemOf text zs) (i ∙ rw (j, l)) d; few = omega arith; vertices = a })
 
   pub read-good : (text : List ℕ) (s : State) → readSources n text ≡ good s → (ss : List ℕ) × (s ≡ within (length ss) ss) × Good n text ss
   unfolding readSources complete
   read-good text s h =
       let (xs, d, p, c) = accepted sources-spelling (act n) complete start text s h in
       ⊎-elim (λ q. absurd (false≢true (rw q at c))) (λ o. opened-good text xs s d o c) (opened xs s p)
+
+  pub read-is-good : (text : List ℕ) (s : State) → readSources n text ≡ good s → IsGood n text
+  read-is-good text s h = let (ss, p, g) = read-good text s h in (ss, g)

@@ -31,7 +31,7 @@ before-whole false b (l ∷ ls) r h = refl
 pub split-whole : (s : List ℕ) → joined (split s .lines) ++ split s .rest ≡ s
 unfolding split joined
 split-whole [] = refl
-split-whole (b ∷ s) = before-whole (eqb b 10) b (split s .lines) (split s .rest) refl ∙ ap (λ (l : List ℕ). b ∷ l) (split-whole s)
+split-whole (b ∷ s) = before-whole (eqb b 10) b (split s .lines) (split s .rest) refl ∙ rw (split-whole s)
 
 before-plain : (t : Bool) (b : ℕ) (ls : List (List ℕ)) (r : List ℕ) → eqb b 10 ≡ t → Plains ls → Plains (before t b ls r .lines)
 unfolding before plain
@@ -68,4 +68,4 @@ split-spelled text ls p q = sym (split-whole text) ∙ rw (p, q) (append-nil (jo
 pub joined-take : (i j : ℕ) (ls : List (List ℕ)) → i ≤ j → joined (take j ls) ≡ joined (take i ls) ++ joined (take (j - i) (drop i ls))
 joined-take i j ls h =
     let e : j ≡ i + (j - i) = omega arith in
-    ap (λ (k : ℕ). joined (take k ls)) e ∙ ap joined (take-add i (j - i) ls) ∙ joined-append (take i ls) (take (j - i) (drop i ls))
+    ap (λ (k : ℕ). joined (take k ls)) e ∙ rw (take-add i (j - i) ls) (joined-append (take i ls) (take (j - i) (drop i ls)))

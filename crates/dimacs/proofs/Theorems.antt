@@ -1,8 +1,8 @@
 -- The claims of specs/Claims.antt, one theorem each. Assumes nothing.
-use Rattle.property.proofs.Basics.{_≡_, refl, ap, subst, _∙_, List, [], ℕ, _≤_, _<_, arith, length, ne-eqb, le-ltb}
-use Rattle.graph.specs.Limits.{maxVertices, maxEdges}
+use Rattle.property.proofs.Basics.{_≡_, refl, ap, List, [], ℕ, _≤_, _<_, arith, length, ne-eqb, le-ltb}
+use Rattle.graph.specs.Limits.{maxVertices}
 use Rattle.graph.specs.Refusal.{accept}
-use Rattle.graph.specs.Edge.{Edge, exists, same, among}
+use Rattle.graph.specs.Edge.{exists, same}
 use Rattle.graph.specs.Table.{edgesOf, isEdge, tableOrder, rules, size}
 use Rattle.graph.proofs.Verdicts.{accept-if}
 use Rattle.graph.proofs.Tests.{or-false}
@@ -17,8 +17,7 @@ use Rattle.dimacs.specs.Lines.{Place}
 use Rattle.dimacs.specs.Read.{Read, good, bad}
 use Rattle.dimacs.specs.Network as net
 use Rattle.dimacs.specs.Sources as src
-use Rattle.dimacs.specs.Call.{readCall}
-use Rattle.dimacs.specs.Claims.{Table, NetworkReads, NetworkWhole, NetworkTables, NetworkPlaces, NetworkReadsBack, NetworkWrites, NetworkRewrites, NetworkCanonical, CallsReadBack, SourcesRead, SourcesWhole, SourcesPlaces}
+use Rattle.dimacs.specs.Claims.{NetworkReads, NetworkWhole, NetworkTables, NetworkPlaces, NetworkReadsBack, NetworkWrites, NetworkRewrites, NetworkCanonical, CallsReadBack, SourcesRead, SourcesWhole, SourcesPlaces}
 
 -- ---- network text
 
@@ -33,7 +32,7 @@ network-reads text n es = (forth, network.good-read text n es)
         let (v, fs, p, g) = network.read-good text (net.within n (length es) es) h in
         let a : v ≡ n = cc in
         let b : fs ≡ es = cc in
-        subst (λ (x : ℕ). net.Good text x es) a (subst (λ (gs : List Edge). net.Good text v gs) b g)
+        rw (a, b) at g
 
 pub network-whole : NetworkWhole
 network-whole text s h = let (n, es, p, g) = network.read-good text s h in (n, es, p)
@@ -41,12 +40,17 @@ network-whole text s h = let (n, es, p, g) = network.read-good text s h in (n, e
 accept-size : (n : ℕ) → 0 < n → n ≤ maxVertices → size n ≡ accept
 accept-size n p q = accept-if 1 0 (or-false (ne-eqb n 0 (λ z. omega arith)) (le-ltb maxVertices n q))
 
-table-sorted : (n : ℕ) (fs es : List Edge) → es ≡ net.sorted fs → 0 < n → n ≤ maxVertices → length fs ≤ maxEdges → net.Edges n fs → net.Distinct fs → Table n es
-table-sorted n fs es e p q r a d = rw e record { vertices = accept-size n p q; few = omega (arith, length-sorted tableOrder fs); rules = accept-rules n (net.sorted fs) (into-sorted table-ordered (isEdge n) [] fs tt a (fresh-none tableOrder fs) d) }
-
 pub network-tables : NetworkTables
 unfolding exists
-network-tables text n es g = (table-sorted n (g .arcs) es (g .table) (g .some-vertex) (g .vertices) (g .few) (g .edges) (g .distinct), λ e. ap (λ (fs : List Edge). among fs e) (g .table) ∙ exists-into tableOrder (same e) [] (g .arcs))
+network-tables text n es g =
+    let fs = g .arcs in (
+      rw (g .table) record {
+        vertices = accept-size n (g .some-vertex) (g .vertices);
+        few = omega (arith, g .few, length-sorted tableOrder fs);
+        rules = accept-rules n (net.sorted fs) (into-sorted table-ordered (isEdge n) [] fs tt (g .edges) (fresh-none tableOrder fs) (g .distinct));
+      },
+      λ e. rw (g .table) (exists-into tableOrder (same e) [] fs),
+    )
 
 -- a text that has a place is not good, so that it is refused; and it has no second place
 place-only : {S : Type 0} (Good : List ℕ → Type 0) (text : List ℕ) (k : ℕ) (r : Read S) → ((s : S) → r ≡ good s → Good text) → ((j : ℕ) → r ≡ bad j → Place Good text j) → Place Good text k → r ≡ bad k
@@ -58,14 +62,11 @@ place-only Good text k (bad j) f g p = ap bad (place-one Good text j k (g j refl
 network-placed : (text : List ℕ) (k : ℕ) → net.readNetwork text ≡ bad k → Place net.IsGood text k
 unfolding net.readNetwork
 network-placed text k h =
-    place-agrees (λ t z. let (n, es, p, g) = network.read-good t (z .0) (z .1) in (n, es, g)) (λ t z. (net.within (z .0) (length (z .1)) (z .1), network.good-read t (z .0) (z .1) (z .2)))
+    place-agrees (λ t z. network.read-is-good t (z .0) (z .1)) (λ t z. (net.within (z .0) (length (z .1)) (z .1), network.good-read t (z .0) (z .1) (z .2)))
     text k (refused network.network-spelling net.act net.complete net.start network.network-goes-on text k h)
 
 pub network-places : NetworkPlaces
-network-places text k = (
-  network-placed text k,
-  place-only net.IsGood text k (net.readNetwork text) (λ s h. let (n, es, p, g) = network.read-good text s h in (n, es, g)) (λ j. network-placed text j),
-)
+network-places text k = (network-placed text k, place-only net.IsGood text k (net.readNetwork text) (network.read-is-good text) (network-placed text))
 
 -- ---- written text
 
@@ -86,7 +87,7 @@ network-canonical = canonical-written
 pub calls-read-back : CallsReadBack
 calls-read-back n cs m out k ds h s =
     let (t, l, w, e, _, _, _) = write-verdict n cs m out k h in (
-      ap (λ (x : List ℕ). readCall x ds) e ∙ read-call (net.written n (edgesOf cs m)) n (edgesOf cs m) m ds (network-reads-back n (edgesOf cs m) t) l s,
+      rw e (read-call (net.written n (edgesOf cs m)) n (edgesOf cs m) m ds (network-reads-back n (edgesOf cs m) t) l s),
       filled-edges (edgesOf cs m) m ds l,
     )
 
@@ -99,7 +100,7 @@ sources-read n text ss = (forth, sources.good-read n text ss)
     forth h =
         let (vs, p, g) = sources.read-good n text (src.within (length ss) ss) h in
         let b : vs ≡ ss = cc in
-        subst (λ (x : List ℕ). src.Good n text x) b g
+        rw b at g
 
 pub sources-whole : SourcesWhole
 sources-whole n text s h = let (ss, p, g) = sources.read-good n text s h in (ss, p)
@@ -108,11 +109,8 @@ sources-whole n text s h = let (ss, p, g) = sources.read-good n text s h in (ss,
 sources-placed : (n : ℕ) → 0 < n → (text : List ℕ) (k : ℕ) → src.readSources n text ≡ bad k → Place (src.IsGood n) text k
 unfolding src.readSources
 sources-placed n pos text k h =
-    place-agrees (λ t z. let (ss, p, g) = sources.read-good n t (z .0) (z .1) in (ss, g)) (λ t z. (src.within (length (z .0)) (z .0), sources.good-read n t (z .0) (z .1)))
+    place-agrees (λ t z. sources.read-is-good n t (z .0) (z .1)) (λ t z. (src.within (length (z .0)) (z .0), sources.good-read n t (z .0) (z .1)))
     text k (refused sources.sources-spelling (src.act n) src.complete src.start (sources.sources-go-on n pos) text k h)
 
 pub sources-places : SourcesPlaces
-sources-places n pos text k = (
-  sources-placed n pos text k,
-  place-only (src.IsGood n) text k (src.readSources n text) (λ s h. let (ss, p, g) = sources.read-good n text s h in (ss, g)) (λ j. sources-placed n pos text j),
-)
+sources-places n pos text k = (sources-placed n pos text k, place-only (src.IsGood n) text k (src.readSources n text) (sources.read-is-good n text) (sources-placed n pos text))

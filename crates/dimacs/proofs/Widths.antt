@@ -10,7 +10,7 @@ use Rattle.graph.proofs.Judging.{size-accept}
 use Rattle.dimacs.proofs.Digits.{digits-small, digits-big}
 use Rattle.dimacs.specs.Decimal.{digits}
 use Rattle.dimacs.specs.Lines.{joined, fieldsOf}
-use Rattle.dimacs.specs.Network.{problem, arc, problemMark, arcMark, itemOf, Edges, written}
+use Rattle.dimacs.specs.Network.{problem, arc, itemOf, Edges, written}
 use Rattle.dimacs.specs.Calls.{longestText}
 use Rattle.dimacs.specs.Claims.{Table}
 
@@ -44,35 +44,17 @@ arc-width : (n : ℕ) (e : Edge) → n ≤ maxVertices → isEdge n e ≡ true �
 unfolding itemOf
 arc-width n e m h =
     let a = edge-facts n e h in
-    let t : suc (e .tail) < 10 * 10 ^ 2 = omega (arith, a .tail-below) in
-    let u : suc (e .head) < 10 * 10 ^ 2 = omega (arith, a .head-below) in
-    let w : e .weight < 10 * 10 ^ 4 = omega (arith, a .weight-most) in
-    omega (
-      arith,
-      length-append arcMark (fieldsOf (suc (e .tail) ∷ suc (e .head) ∷ e .weight ∷ [])),
-      fields-width (suc (e .tail)) (suc (e .head) ∷ e .weight ∷ []),
-      fields-width (suc (e .head)) (e .weight ∷ []),
-      fields-width (e .weight) [],
-      no-width,
-      width-most 2 (suc (e .tail)) t,
-      width-most 2 (suc (e .head)) u,
-      width-most 4 (e .weight) w,
-    )
+    let t = width-most 2 (suc (e .tail)) (omega (arith, a .tail-below)) in
+    let u = width-most 2 (suc (e .head)) (omega (arith, a .head-below)) in
+    let w = width-most 4 (e .weight) (omega (arith, a .weight-most)) in
+    simp (fields-width, no-width) (omega arith)
 
 problem-width : (n m : ℕ) → n ≤ maxVertices → m ≤ maxEdges → length (itemOf (problem n m)) ≤ 13
 unfolding itemOf
 problem-width n m a b =
-    let t : n < 10 * 10 ^ 2 = omega arith in
-    let u : m < 10 * 10 ^ 3 = omega arith in
-    omega (
-      arith,
-      length-append problemMark (fieldsOf (n ∷ m ∷ [])),
-      fields-width n (m ∷ []),
-      fields-width m [],
-      no-width,
-      width-most 2 n t,
-      width-most 3 m u,
-    )
+    let t = width-most 2 n (omega arith) in
+    let u = width-most 3 m (omega arith) in
+    simp (fields-width, no-width) (omega arith)
 
 arcs-width : (n : ℕ) (es : List Edge) → n ≤ maxVertices → Edges n es → length (joined (map itemOf (map arc es))) ≤ 16 * length es
 unfolding joined

@@ -30,7 +30,7 @@ unfolding spoken
 says-uncommented [] u = refl
 says-uncommented (bare ∷ xs) u = absurd u
 says-uncommented (comment s ∷ xs) u = absurd u
-says-uncommented (says a ∷ xs) u = ap (λ (ys : List (Line _)). says a ∷ ys) (says-uncommented xs u)
+says-uncommented (says a ∷ xs) u = rw (← says-uncommented xs u)
 
 plain-says : (xs : List Item) → Plain itemOf (map says xs)
 unfolding lineOf
@@ -88,10 +88,7 @@ canonical-written text n es c =
     let g = c .good in
     let d = g .spelled in
     let w : es ≡ g .arcs = g .table ∙ into-ascending table-ordered (isEdge n) [] (g .arcs) (ascending-sound n (g .arcs) (c .ascends) (g .edges)) in
-    d .spells
-    ∙ ap (λ (xs : List (Line Item)). joined (map (lineOf itemOf) xs)) (says-uncommented (d .lines) (c .no-comment) ∙ ap (λ (xs : List Item). map says xs) (d .speaks))
-    ∙ ap joined (map-says itemOf (problem n (length (g .arcs)) ∷ map arc (g .arcs)))
-    ∙ ap (λ (fs : List Edge). joined (map itemOf (problem n (length fs) ∷ map arc fs))) (sym w)
+    d .spells ∙ rw (says-uncommented (d .lines) (c .no-comment), d .speaks, map-says itemOf (problem n (length (g .arcs)) ∷ map arc (g .arcs)), ← w)
 
 -- ---- what a call wrote
 

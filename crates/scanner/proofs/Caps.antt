@@ -15,7 +15,7 @@ module _ (s : List ℕ) (i v : ℕ) where
   unfolding capScan
   whole l e =
       let w : cap v ≡ v = omega arith in
-      ap (capped 65536) e ∙ ap (λ (x : ℕ). (x, drop i s)) w
+      rw (e, w)
 
   pub scan-stop : i < length s → isDigit (getD s i 0) ≡ false → v ≤ 65536 → capScan v (drop i s) ≡ (v, drop i s)
   scan-stop h e l = whole l (at.scan-stop s i v h e)

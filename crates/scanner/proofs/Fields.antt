@@ -75,7 +75,7 @@ fields-from k (some q) = sym (put-some (fields k (q .1)) (q .0))
 
 module _ (k : ℕ) (s x : List ℕ) {r : Parsed} (h : parsed s r ≡ capNumber (field x)) where
   first : (t : Parsed) → r ≡ t → rest k (parsed s t) ≡ capFields (fields (suc k) x)
-  first t q = ap (λ p. rest k (parsed s p)) (sym q) ∙ ap (rest k) h ∙ fields-from k (field x) ∙ ap capFields (sym (fields-field k x))
+  first t q = rw (← q, h, fields-field k x) (fields-from k (field x))
 
   pub fields-none : r ≡ Nothing → none ≡ capFields (fields (suc k) x)
   unfolding bind

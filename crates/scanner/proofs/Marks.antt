@@ -44,4 +44,4 @@ module _ {A : Type 0} (shown : Option A → Option A) (f g : List ℕ → Option
 -- what the fields of an answer say, where saying and capping may change places
 pub said-fields : {A R : Type 0} (f : List ℕ → Option A) (g : Option A → Option A) (of : R → Option (List ℕ)) → ((o : Option (List ℕ)) → bind (capFields o) f ≡ g (bind o f))
     → {r s : R} (o : Option (List ℕ)) → r ≡ s → of r ≡ capFields o → bind (of s) f ≡ g (bind o f)
-said-fields f g of h o q e = ap (λ x. bind (of x) f) (sym q) ∙ ap (λ x. bind x f) e ∙ h o
+said-fields f g of h o q e = rw (← q, e) (h o)

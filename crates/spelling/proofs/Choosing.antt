@@ -1,6 +1,6 @@
 -- A landmark choice as number and words. Assumes nothing.
 use Rattle.property.proofs.Basics.{_≡_, refl, sym, ap, _∙_, List, [], _∷_, ℕ, _≤_, arith, length, set, getD}
-use Rattle.graph.specs.Refusal.{Verdict, accept, refuse, Reply, accepted, refused, over}
+use Rattle.graph.specs.Refusal.{refuse, Reply, accepted, refused, over}
 use Rattle.graph.specs.declared.Judged.the-variants.{Fine, Refused}
 use Rattle.graph.specs.Code.{told}
 use Rattle.graph.proofs.Verdicts.{not-accept}
@@ -18,22 +18,16 @@ four (a ∷ b ∷ c ∷ []) e = absurd (omega arith)
 four (a ∷ b ∷ c ∷ d ∷ []) e = refl
 four (a ∷ b ∷ c ∷ d ∷ x ∷ vs) e = absurd (omega arith)
 
-numberIn : Verdict → ℕ
-numberIn accept = 0
-numberIn (refuse k i) = k
-
-placeIn : Verdict → ℕ
-placeIn accept = 0
-placeIn (refuse k i) = i
-
 module _ (r : Chosen) (xs : List ℕ) (l : replyWords ≤ length xs) where
   pub choice-refused : (k i : ℕ) → r .verdict ≡ Refused k i → (x : Reply (List ℕ)) → choosing r ≡ chosenOf x → Tells choiceWords x k xs (set xs 0 i)
-  unfolding told chosenOf numberIn placeIn
+  unfolding told chosenOf
   choice-refused k i q (accepted us) e =
       absurd (not-accept (sym (ap told q) ∙ ap (λ (w : ChosenWords). w .verdict) e))
   choice-refused k i q (refused j p) e =
       let v : refuse k i ≡ refuse j p = sym (ap told q) ∙ ap (λ (w : ChosenWords). w .verdict) e in
-      rw (ap numberIn v, ap placeIn v) (refused-tells choiceWords xs l j p)
+      let a : k ≡ j = cc in
+      let b : i ≡ p = cc in
+      rw (a, b) (refused-tells choiceWords xs l j p)
 
   pub choice-accepted : r .verdict ≡ Fine → length (r .choice .vertices) ≡ 4 → (x : Reply (List ℕ)) → choosing r ≡ chosenOf x →
       let vs = r .choice .vertices in
@@ -43,7 +37,6 @@ module _ (r : Chosen) (xs : List ℕ) (l : replyWords ≤ length xs) where
   choice-accepted q h (accepted us) e =
       let vs = r .choice .vertices in
       let z : r .choice .count ∷ getD vs 0 0 ∷ getD vs 1 0 ∷ getD vs 2 0 ∷ getD vs 3 0 ∷ [] ≡ length us ∷ padded us =
-      ap (λ (ys : List ℕ). r .choice .count ∷ ys) (four vs h)
-      ∙ ap (λ (w : ChosenWords). w .count ∷ w .vertices) e in
+      rw (four vs h) (ap (λ (w : ChosenWords). w .count ∷ w .vertices) e) in
       accepted-tells choiceWords xs l us
       (setAll-over (r .choice .count ∷ getD vs 0 0 ∷ getD vs 1 0 ∷ getD vs 2 0 ∷ getD vs 3 0 ∷ []) xs (omega arith) ∙ ap (λ (ys : List ℕ). over ys xs) z)

@@ -1,33 +1,19 @@
 -- Replies as number and words: what stores into a reply list spell. Assumes nothing.
 --
 --   setAll ys xs i   == xs after the words ys are stored one by one, from index i on
-use Rattle.property.proofs.Basics.{_≡_, refl, ap, _∙_, List, [], _∷_, ℕ, suc, _<_, _≤_, arith, length, set, length-set}
+use Rattle.property.proofs.Basics.{_≡_, refl, List, [], _∷_, ℕ, _≤_, zero-add, arith, length, set, sets}
+use lib.Seq.{sets-eq}
 use Rattle.graph.specs.Refusal.{accepted, refused, over}
 use Rattle.spelling.specs.Code.{replyWords, numberOf, wordsTold, Tells}
 
 -- ---- stores one after the other
 
 abbrev pub setAll : List ℕ → List ℕ → ℕ → List ℕ
-setAll [] xs i = xs
-setAll (y ∷ ys) xs i = setAll ys (set xs i y) (suc i)
-
-setAll-cons : (ys xs : List ℕ) (x i : ℕ) → setAll ys (x ∷ xs) (suc i) ≡ x ∷ setAll ys xs i
-setAll-cons [] xs x i = refl
-setAll-cons (y ∷ ys) xs x i = setAll-cons ys (set xs i y) x (suc i)
+setAll ys xs i = sets xs i ys
 
 -- from the front on, the stored words stand over the list
 pub setAll-over : (ys xs : List ℕ) → length ys ≤ length xs → setAll ys xs 0 ≡ over ys xs
-setAll-over [] xs l = refl
-setAll-over (y ∷ ys) [] l = absurd (omega arith)
-setAll-over (y ∷ ys) (x ∷ xs) l = setAll-cons ys xs y 0 ∙ ap (λ (zs : List ℕ). y ∷ zs) (setAll-over ys xs (omega arith))
-
-setAll-length : (ys xs : List ℕ) (i : ℕ) → length (setAll ys xs i) ≡ length xs
-setAll-length [] xs i = refl
-setAll-length (y ∷ ys) xs i = setAll-length ys (set xs i y) (suc i) ∙ length-set xs i y
-
--- an index of the list stays one
-pub setAll-within : (ys xs : List ℕ) (i : ℕ) → i < length xs → i < length (setAll ys xs 0)
-setAll-within ys xs i l = omega (arith, setAll-length ys xs 0)
+setAll-over ys xs l = rw zero-add at (sets-eq ys xs 0 (omega arith))
 
 -- ---- what is told
 

@@ -1,5 +1,5 @@
 -- Changes of four words each as four lists. Assumes nothing.
-use Rattle.property.proofs.Basics.{_≡_, refl, sym, ap, _∙_, List, [], _∷_, ℕ, _+_, _<_, zero-add, arith, length, getD, set, take, drop, length-map, List·getD-map, paste, take-at}
+use Rattle.property.proofs.Basics.{_≡_, refl, List, [], _∷_, ℕ, _+_, _<_, zero-add, arith, length, getD, set, take, drop, length-map, List·getD-map, paste, take-at}
 use Rattle.graph.proofs.Copies.{copy-turn}
 use Rattle.graph.specs.Limits.{maxBatch}
 use Rattle.graph.specs.Refusal.{over}
@@ -10,7 +10,6 @@ use Rattle.items.specs.Code.{changes}
 use Rattle.apply.specs.Code.{batchOutcome}
 use Rattle.plain_batch.proofs.Calling.{call-faulty, faults-long}
 use Rattle.spelling.specs.Code.{wordsAt, changeOf, changesOf}
-use Rattle.network.specs.Change.{Change}
 
 pub words-length : (j : ℕ) (cs : List (List ℕ)) → length (wordsAt j cs) ≡ length cs
 unfolding wordsAt
@@ -24,25 +23,21 @@ pub column-turn : (cs : List (List ℕ)) (j : ℕ) (d e : List ℕ) (i : ℕ) �
     set e i (getD (getD cs i []) j 0) ≡ paste d 0 (wordsAt j cs) (i + 1)
 column-turn cs j d e i l m h =
     let z = words-length j cs in
-    ap (λ (v : ℕ). set e i v) (sym (words-at j cs i))
-    ∙ (rw (zero-add i) at (copy-turn (wordsAt j cs) d e 0 i (omega arith) (omega arith) h))
+    rw (← words-at j cs i) (rw (zero-add i) at (copy-turn (wordsAt j cs) d e 0 i (omega arith) (omega arith) h))
 
-pub changes-words : (cs : List (List ℕ)) → changes (wordsAt 0 cs) (wordsAt 1 cs) (wordsAt 2 cs) (wordsAt 3 cs) ≡ changesOf cs
+changes-words : (cs : List (List ℕ)) → changes (wordsAt 0 cs) (wordsAt 1 cs) (wordsAt 2 cs) (wordsAt 3 cs) ≡ changesOf cs
 unfolding changes wordsAt
 changes-words [] = refl
-changes-words (c ∷ cs) = ap (λ (ds : List Change). changeOf c ∷ ds) (changes-words cs)
+changes-words (c ∷ cs) = rw (← changes-words cs)
 
--- the words of a column, read back
-pub column-read : (cs : List (List ℕ)) (j : ℕ) (zs : List ℕ) {ys : List ℕ} → ys ≡ over (wordsAt j cs) zs → take (length cs) ys ≡ wordsAt j cs
-column-read cs j zs e =
-    ap (λ (xs : List ℕ). take (length cs) xs) e ∙ take-at (wordsAt j cs) (drop (length (wordsAt j cs)) zs) (length cs) (words-length j cs)
+module _ (cs : List (List ℕ)) (zs : List ℕ) where
+  -- the words of a column, read back
+  column-read : (j : ℕ) → take (length cs) (over (wordsAt j cs) zs) ≡ wordsAt j cs
+  column-read j = take-at (wordsAt j cs) (drop (length (wordsAt j cs)) zs) (length cs) (words-length j cs)
 
-pub column-length : (cs : List (List ℕ)) (j : ℕ) (zs : List ℕ) {ys : List ℕ} → ys ≡ over (wordsAt j cs) zs → length cs ≡ length (take (length cs) ys)
-column-length cs j zs e = sym (ap (λ (xs : List ℕ). length xs) (column-read cs j zs e) ∙ words-length j cs)
-
-pub changes-read : (cs : List (List ℕ)) {ks bs ds es : List ℕ} → ks ≡ wordsAt 0 cs → bs ≡ wordsAt 1 cs → ds ≡ wordsAt 2 cs → es ≡ wordsAt 3 cs →
-    changes ks bs ds es ≡ changesOf cs
-changes-read cs p q r s = rw (p, q, r, s) (changes-words cs)
+  pub changes-read : {ks bs ds es : List ℕ} → ks ≡ over (wordsAt 0 cs) zs → bs ≡ over (wordsAt 1 cs) zs → ds ≡ over (wordsAt 2 cs) zs → es ≡ over (wordsAt 3 cs) zs →
+      let k = length cs in changes (take k ks) (take k bs) (take k ds) (take k es) ≡ changesOf cs
+  changes-read p q r s = rw (p, q, r, s, column-read 0, column-read 1, column-read 2, column-read 3) (changes-words cs)
 
 -- a batch that is too long is number 1, whatever the vertices are
 pub batch-large : (n : ℕ) (ls : List ℕ) (ts hs ws f b : List ℕ) (m : ℕ) (cs : List (List ℕ)) → maxBatch < length cs →

@@ -1,5 +1,5 @@
 -- Numbers in base ten from the last digit to the first. Assumes nothing.
-use Rattle.property.proofs.Basics.{_≡_, refl, ap, _∙_, List, [], _∷_, _++_, ℕ, zero, suc, _+_, _/_, _%_, _≤_, _<_, arith, ltb, length, length-append, ltb-true, ltb-false}
+use Rattle.property.proofs.Basics.{_≡_, refl, _∙_, List, [], _∷_, _++_, ℕ, zero, suc, _+_, _/_, _%_, _≤_, _<_, arith, ltb, length, length-append, ltb-true, ltb-false}
 use Rattle.property.proofs.Tests.{by-test}
 use Rattle.dimacs.specs.Decimal.{digits}
 use Rattle.dimacs.proofs.Digits.{digits-small, digits-big}
@@ -28,7 +28,7 @@ pad-in (suc j) v h = by-test (ltb v 10)
     rw (digits-small v l, e))
     (λ b.
     let l : 10 ≤ v = ltb-false v 10 b in
-    rw (width-big v l, digits-big v l) (ap (λ (x : List ℕ). x ++ ((48 + v % 10) ∷ [])) (pad-in j (v / 10) (omega arith))))
+    rw (width-big v l, digits-big v l, ← pad-in j (v / 10) (omega arith)))
 
 pub digits-pad : (v : ℕ) → digits v ≡ pad (length (digits v)) v
 digits-pad v = pad-in v v (omega arith)

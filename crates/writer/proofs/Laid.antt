@@ -15,11 +15,10 @@ sets-append : (xs ys l : List ℕ) (i : ℕ) → sets l i (xs ++ ys) ≡ sets (s
 sets-append [] ys l i = rw add-zero
 sets-append (x ∷ xs) ys l i =
     let e : suc i + length xs ≡ i + suc (length xs) = omega arith in
-    sets-append xs ys (set l i x) (suc i) ∙ ap (λ (j : ℕ). sets (sets (set l i x) (suc i) xs) j ys) e
+    sets-append xs ys (set l i x) (suc i) ∙ rw e
 
-module _ {text : List ℕ} {at : ℕ} {out : List ℕ} {r : ℕ} {new : List ℕ} where
-  pub wrote-length : Fits text at out → Wrote text at out r new → length new ≡ length out
-  wrote-length f w = ap length (w .bytes ∙ laid-sets at text out (f .room)) ∙ length-sets out at text
+pub wrote-length : {text : List ℕ} {at : ℕ} {out : List ℕ} {r : ℕ} {new : List ℕ} → Fits text at out → Wrote text at out r new → length new ≡ length out
+wrote-length {text} {at} {out} f w = rw (w .bytes, laid-sets at text out (f .room)) (length-sets out at text)
 
 fits-first : (xs ys : List ℕ) {at : ℕ} {out : List ℕ} → Fits (xs ++ ys) at out → Fits xs at out
 fits-first xs ys f = record { room = omega (arith, f .room, length-append xs ys) }
@@ -66,10 +65,6 @@ module _ {text : List ℕ} {at : ℕ} {out left : List ℕ} {r : ℕ} {mid : Lis
   unfolding laid
   pending-done e = p .ends r mid (rw e (record { next = sym (add-zero r); bytes = rw (add-zero, append-nil, take-append-drop) }))
 
-  -- the last piece
-  pub pending-last : {s : ℕ} {new : List ℕ} → Wrote left r mid s new → Wrote text at out s new
-  pending-last {s} {new} w = p .ends s new w
-
 -- two pieces, one after the other
 module _ {text : List ℕ} (xs ys : List ℕ) (e : text ≡ xs ++ ys) {at : ℕ} {out : List ℕ} (f : Fits text at out) where
   pub first-fits : Fits xs at out
@@ -80,12 +75,12 @@ module _ {text : List ℕ} (xs ys : List ℕ) (e : text ≡ xs ++ ys) {at : ℕ}
     second-fits = pending-turn (pending-start f) xs ys e v .fits
 
     pub both-wrote : {s : ℕ} {new : List ℕ} → Wrote ys r mid s new → Wrote text at out s new
-    both-wrote w = pending-last (pending-turn (pending-start f) xs ys e v) w
+    both-wrote w = pending-turn (pending-start f) xs ys e v .ends _ _ w
 
 -- a copy of all bytes
-pub paste-wrote : (text : List ℕ) (at : ℕ) (out : List ℕ) (i : ℕ) (new : List ℕ) → i ≡ length text → new ≡ paste out at text i → Wrote text at out (at + i) new
+pub paste-wrote : {text : List ℕ} {at : ℕ} {out : List ℕ} {i : ℕ} {new : List ℕ} → i ≡ length text → new ≡ paste out at text i → Wrote text at out (at + i) new
 unfolding laid
-paste-wrote text at out i new e h = record { next = rw e; bytes = rw (e, take-length) at h }
+paste-wrote e h = record { next = rw e; bytes = rw (e, take-length) at h }
 
 -- ---- the digits of a number, last first
 
@@ -94,16 +89,14 @@ sets-last : (xs l : List ℕ) (i d : ℕ) → sets (set l (i + length xs) d) i x
 sets-last [] l i d = rw add-zero
 sets-last (x ∷ xs) l i d =
     let e : i + suc (length xs) ≡ suc i + length xs = omega arith in
-    ap (λ (m : List ℕ). sets m (suc i) xs) (set-comm l (i + suc (length xs)) i d x (λ z. omega arith))
-    ∙ (ap (λ (j : ℕ). sets (set (set l i x) j d) (suc i) xs) e ∙ sets-last xs (set l i x) (suc i) d)
+    rw (set-comm l (i + suc (length xs)) i d x (λ z. omega arith), e) (sets-last xs (set l i x) (suc i) d)
 
 pub pad-turn : (l : List ℕ) (at i w : ℕ) → at < i → sets (set l (i - 1) (48 + w % 10)) at (pad (i - 1 - at) (w / 10)) ≡ sets l at (pad (i - at) w)
 unfolding pad
 pad-turn l at i w h =
     let e : suc (i - 1 - at) ≡ i - at = omega arith in
     let f : i - 1 ≡ at + length (pad (i - 1 - at) (w / 10)) = omega (arith, length-pad (i - 1 - at) (w / 10)) in
-    ap (λ (j : ℕ). sets (set l j (48 + w % 10)) at (pad (i - 1 - at) (w / 10))) f
-    ∙ (sets-last (pad (i - 1 - at) (w / 10)) l at (48 + w % 10) ∙ ap (λ (j : ℕ). sets l at (pad j w)) e)
+    ap (λ (j : ℕ). sets (set l j (48 + w % 10)) at (pad (i - 1 - at) (w / 10))) f ∙ rw (← e) (sets-last (pad (i - 1 - at) (w / 10)) l at (48 + w % 10))
 
 pub pad-done : (l : List ℕ) (at k w : ℕ) (z : List ℕ) → k ≡ 0 → sets l at (pad k w) ≡ z → l ≡ z
 unfolding pad

@@ -34,7 +34,7 @@ arcs-cons : (e : Edge) (es : List Edge) → arcsOf (e ∷ es) ≡ arcLine e ++ a
 unfolding arcsOf joined
 arcs-cons e es = rw append-assoc
 
-module _ (ts hs ws : List ℕ) (m : ℕ) (r : Room m ts hs ws) (k : ℕ) where
+module _ {ts hs ws : List ℕ} {m : ℕ} (r : Room m ts hs ws) (k : ℕ) where
   pub arcs-more : k < m → arcsOf (drop k (edges ts hs ws m)) ≡ arcLine (edgeAt ts hs ws k) ++ arcsOf (drop (k + 1) (edges ts hs ws m))
   arcs-more l = ap arcsOf (edges-more ts hs ws m r k l) ∙ arcs-cons (edgeAt ts hs ws k) (drop (k + 1) (edges ts hs ws m))
 
@@ -48,6 +48,6 @@ module _ (ts hs ws : List ℕ) (m : ℕ) (r : Room m ts hs ws) (k : ℕ) where
   pub arcs-all : (s z : ℕ) → m ≤ k → s + length (arcsOf (drop k (edges ts hs ws m))) ≡ z → s ≡ z
   arcs-all s z l h = omega (arith, ap length (arcs-none l))
 
-pub written-lines : (n : ℕ) (ts hs ws : List ℕ) (m : ℕ) → Room m ts hs ws → written n (edges ts hs ws m) ≡ problemLine n m ++ arcsOf (edges ts hs ws m)
+pub written-lines : (n : ℕ) {ts hs ws : List ℕ} {m : ℕ} → Room m ts hs ws → written n (edges ts hs ws m) ≡ problemLine n m ++ arcsOf (edges ts hs ws m)
 unfolding written joined arcsOf
-written-lines n ts hs ws m r = rw (append-assoc, edges-length ts hs ws m r)
+written-lines n {ts} {hs} {ws} {m} r = rw (append-assoc, edges-length ts hs ws m r)

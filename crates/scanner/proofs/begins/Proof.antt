@@ -28,12 +28,6 @@ loop-again c =
     let a = start l .args in
     (sym (mark-more (a .mark .now) (a .line .now) (l .loop .i) (omega arith) (sym (h .holds .ensures) ∙ not-false _ (c .if1 .left))) ∙ l .loop .inv .0, omega arith)
 
-returns-2 : tie.Need-returns-2 Inv-loop μ-loop
-returns-2 c =
-    let l = c .before in
-    let a = start l .args in
-    sym (mark-done (a .mark .now) (a .line .now) (l .loop .i) (omega arith)) ∙ l .loop .inv .0
-
 pub begins-spec : {M : Type 1} → statement M
 begins-spec =
     tie.close
@@ -47,4 +41,4 @@ begins-spec =
     (λ c. omega arith)
     (λ c. omega arith)
     loop-again
-    returns-2)
+    (λ c. let l = c .before in let a = start l .args in sym (mark-done (a .mark .now) (a .line .now) (l .loop .i) (omega arith)) ∙ l .loop .inv .0))

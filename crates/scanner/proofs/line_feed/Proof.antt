@@ -17,18 +17,6 @@ returns c =
     let a = l .before .args in
     (sym (feed-ends (a .text .now) (a .at) (l .loop .i) (l .loop .inv .1) (omega arith) (c .if1 .taken) (l .loop .inv .0)), (omega arith, omega arith))
 
-loop-again : tie.Need-loop-again Inv-loop μ-loop
-loop-again c =
-    let l = c .before .before .before in
-    let a = l .before .args in
-    (feed-more (a .text .now) (a .at) (l .loop .i) (l .loop .inv .1) (omega arith) (c .if1 .left) (l .loop .inv .0), omega arith)
-
-returns-2 : tie.Need-returns-2 Inv-loop μ-loop
-returns-2 c =
-    let l = c .before in
-    let a = l .before .args in
-    (sym (feed-open (a .text .now) (a .at) (l .loop .i) (l .loop .inv .1) (omega arith) (l .loop .inv .0)), tt)
-
 pub line-feed-spec : {M : Type 1} → statement M
 line-feed-spec =
     tie.close
@@ -40,5 +28,5 @@ line-feed-spec =
     returns
     (λ c. omega arith)
     (λ c. omega arith)
-    loop-again
-    returns-2)
+    (λ c. let l = c .before .before .before in let a = l .before .args in (feed-more (a .text .now) (a .at) (l .loop .i) (l .loop .inv .1) (omega arith) (c .if1 .left) (l .loop .inv .0), omega arith))
+    (λ c. let l = c .before in let a = l .before .args in (sym (feed-open (a .text .now) (a .at) (l .loop .i) (l .loop .inv .1) (omega arith) (l .loop .inv .0)), tt)))

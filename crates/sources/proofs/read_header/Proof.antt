@@ -8,13 +8,12 @@ use Rattle.sources.proofs.Items.{header-read}
 use Rattle.sources.proofs.read_header.Statement.{statement}
 use Rattle.sources.proofs.read_header.Tie as tie
 
-returns : tie.Need-returns
-unfolding bind
-returns c = said-fields headerFrom capSources oneOf header-read _ (c .enum-told .given .1) (c .before .before .read-one .ensures)
-
-returns-2 : tie.Need-returns-2
-unfolding bind headerFrom
-returns-2 c = said-fields headerFrom capSources oneOf header-read _ (c .before .k .given .1) (c .before .before .before .read-one .ensures)
-
 pub read-header-spec : {M : Type 1} → statement M
-read-header-spec = tie.close (tie.spec (λ c κs. search needs) (λ c. search needs) (λ c. search needs) returns returns-2)
+read-header-spec =
+    tie.close
+    (tie.spec
+    (λ c κs. search needs)
+    (λ c. search needs)
+    (λ c. search needs)
+    (λ c. unfold bind in said-fields headerFrom capSources oneOf header-read _ (c .enum-told .given .1) (c .before .before .read-one .ensures))
+    (λ c. unfold bind headerFrom in said-fields headerFrom capSources oneOf header-read _ (c .before .k .given .1) (c .before .before .before .read-one .ensures)))

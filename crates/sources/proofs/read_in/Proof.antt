@@ -18,7 +18,7 @@ start j = j .before .before .before .before
 -- number 1 does not apply
 fine : (e : tie.After-enum-told) → accept ≡ size (start (e .before .before) .args .n)
 unfolding told
-fine e = ap told (sym (e .enum-told .given .1)) ∙ e .before .before .judge-size .ensures
+fine e = rw (e .enum-told .given .1) at (e .before .before .judge-size .ensures)
 
 abbrev readOn : tie.After-count → tie.After-read-text
 readOn k = k .before .before .before .before
@@ -26,22 +26,6 @@ readOn k = k .before .before .before .before
 -- the file is good: how many sources there are
 count : (k : tie.After-count) → let t = readOn k in (k .count .given .0 .0 ≤ maxSources) × (maxSources ≤ length (t .read-text .last .1 .1 .0))
 count k = let t = readOn k .read-text in subst (λ r. Whole r (t .last .1 .1 .0)) (k .count .given .1) (t .ensures .1)
-
-returns-2 : tie.Need-returns-2
-unfolding sourcesCall reading _▷_ refuseIf replied choose
-returns-2 c = rw (← fine (c .before), lt-ltb (length (start (c .before .before .before) .args .sources .now)) maxSources (omega arith))
-
-read-text-requires : tie.Need-read-text-requires
-read-text-requires c κs =
-    let e = c .before .before in
-    (size-accept _ (sym (fine e)) .1, start (e .before .before) .pre)
-
-copy-requires : tie.Need-copy-requires
-copy-requires c κs =
-    let k = c .before .before .before in
-    let w = count k in
-    let l = readOn k .before .before .if1 .left in
-    (omega arith, omega arith)
 
 returns-3 : tie.Need-returns-3
 unfolding readOf sourcesCall reading _▷_ refuseIf replied choose judged
@@ -70,14 +54,14 @@ read-in-spec =
     (λ c. search needs)
     (λ c. unfold told sourcesCall reading _▷_ replied choose in rw (← (ap told (sym (c .before .size .given .1)) ∙ c .before .before .before .judge-size .ensures)))
     (λ c. search needs)
-    returns-2
-    read-text-requires
+    (λ c. unfold sourcesCall reading _▷_ refuseIf replied choose in rw (← fine (c .before), lt-ltb (length (start (c .before .before .before) .args .sources .now)) maxSources (omega arith)))
+    (λ c κs. let e = c .before .before in (size-accept _ (sym (fine e)) .1, start (e .before .before) .pre))
     (λ c. search needs)
     (λ c. search needs)
-    copy-requires
+    (λ c κs. let k = c .before .before .before in let w = count k in let l = readOn k .before .before .if1 .left in (omega arith, omega arith))
     (λ c. omega (arith, count (c .before .before .before .before .before .before)))
-    (λ c. c .before .before .before .before .before .read-text .kept .1 .1 .0)
+    (λ c. omega arith)
     returns-3
-    (λ c. c .before .before .copy .kept .1 .1 .0)
-    (λ c. c .before .before .before .before .before .before .before .before .before .before .read-text .kept .1 .1 .0)
+    (λ c. omega arith)
+    (λ c. omega arith)
     returns-4)

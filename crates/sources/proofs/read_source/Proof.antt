@@ -14,11 +14,6 @@ number : (k : tie.After-v) → sourceFrom (k .v .given .0 .0 ∷ []) ≡ capSour
 unfolding bind
 number k = said-fields sourceFrom capSources oneOf source-read _ (k .v .given .1) (k .before .before .read-one .ensures)
 
-returns-3 : tie.Need-returns-3
-returns-3 c =
-    let k = c .before .before in
-    source-vertex (k .v .given .0 .0) _ (omega arith) ∙ number k
-
 pub read-source-spec : {M : Type 1} → statement M
 read-source-spec =
     tie.close
@@ -29,4 +24,4 @@ read-source-spec =
     (λ c. unfold bind in said-fields sourceFrom capSources oneOf source-read _ (c .enum-told .given .1) (c .before .before .read-one .ensures))
     (λ c. source-zero _ (c .if1 .taken) ∙ number (c .before .before))
     (λ c. search needs)
-    returns-3)
+    (λ c. let k = c .before .before in source-vertex (k .v .given .0 .0) _ (omega arith) ∙ number k))

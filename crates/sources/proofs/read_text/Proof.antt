@@ -1,22 +1,15 @@
 -- `sources::read_text` meets its contract: what is left of the file, from the state so far, comes to the same answer. Assumes nothing.
-use Rattle.property.proofs.Basics.{needs, arith, _≡_, refl, sym, ap, subst, _∙_, _+_, _-_, _^_, _≤_, _<_, length, drop}
-use Rattle.dimacs.specs.Lines.{split}
+use Rattle.property.proofs.Basics.{needs, arith, _≡_, refl, _∙_, _+_, _-_, _^_, _≤_, _<_, length}
 use Rattle.dimacs.specs.Read.{read}
 use Rattle.dimacs.specs.Sources as src
-use Rattle.scanner.specs.declared.Feed.the-variants.{Ends}
-use Rattle.scanner.specs.Code.{splitBy, inText}
 use Rattle.sources.specs.Code.{Held, stateOf, stepOf, readOf}
-use Rattle.dimacs.proofs.Reading.{left, left-open, left-stop, left-next, left-end}
-use Rattle.scanner.proofs.Steps.{known}
+use Rattle.scanner.proofs.Steps.{Left, left-open, left-stop, left-next, left-end}
 use Rattle.sources.proofs.read_text.Statement.{statement}
 use Rattle.sources.proofs.read_text.Tie as tie
 
 abbrev Inv-loop : tie.InvT-loop
 Inv-loop n text list₀ state₀ at₀ k₀ list state at k =
-    (left src.itemIn (src.act n) src.complete text at k (stateOf list state) ≡ src.readSources n text)
-    × Held state list
-    × (at ≤ length text) × (k ≤ at)
-    × (length list ≡ length list₀)
+    Left src.itemIn (src.act n) src.complete text at k (stateOf list state) (src.readSources n text) × Held state list × (length list ≡ length list₀)
 
 abbrev μ-loop : tie.MeasureT-loop
 μ-loop n text list₀ state₀ at₀ k₀ list state at k = length text - at
@@ -32,46 +25,18 @@ line t = t .before .before .before .before
 
 -- one line more can be counted
 counted : (l : tie.At-loop Inv-loop μ-loop) → l .loop .k + 1 < 2 ^ 64
-counted l = omega (arith, l .loop .inv .3, l .loop .inv .2, start l .good)
+counted l = omega (arith, l .loop .inv .0 .counted, l .loop .inv .0 .inside, start l .good)
 
 -- the line ends inside the text
 inside : (e : tie.After-end Inv-loop μ-loop) → (turn e .loop .at ≤ e .end .given .0 .0) × (e .end .given .0 .0 < length (start (turn e) .args .text .now))
-inside e = subst (inText (start (turn e) .args .text .now) (turn e .loop .at)) (e .end .given .1) (e .before .before .line-feed .ensures .1)
-
--- the line, split off the text
-parted : (e : tie.After-end Inv-loop μ-loop) → let s = start (turn e) .args .text .now in let at = turn e .loop .at in
-    splitBy s at (Ends (e .end .given .0 .0)) ≡ split (drop at s)
-parted e =
-    let s = start (turn e) .args .text .now in
-    ap (splitBy s (turn e .loop .at)) (sym (e .end .given .1)) ∙ e .before .before .line-feed .ensures .0
-
-loop-holds : tie.Need-loop-holds Inv-loop μ-loop
-unfolding src.readSources read stateOf
-loop-holds c =
-    let s = c .before .before in
-    (refl, record { room = s .pre .1; inside = tt }, omega arith, omega arith, refl)
-
-returns : tie.Need-returns Inv-loop μ-loop
-unfolding readOf
-returns c =
-    let f = c .before .before in
-    let l = f .before .before in
-    let s = start l .args .text .now in
-    (sym (left-open src.itemIn (src.act _) src.complete s (l .loop .at) (l .loop .k) _ (f .before .loop-test .taken) (ap (splitBy s (l .loop .at)) (sym (c .enum-told .given .1)) ∙ f .line-feed .ensures .0)) ∙ l .loop .inv .0, tt)
-
-take-line-requires : tie.Need-take-line-requires Inv-loop μ-loop
-take-line-requires c κs =
-    let l = turn (c .before .before .before) in
-    (start l .pre .0, l .loop .inv .1)
+inside e = rw (e .end .given .1) at (e .before .before .line-feed .ensures .1)
 
 returns-2 : tie.Need-returns-2 Inv-loop μ-loop
 unfolding readOf stepOf
 returns-2 c =
     let t = c .before .before .before .before in
     let e = line t in
-    let l = turn e in
-    let s = start l .args .text .now in
-    (sym (left-stop src.itemIn (src.act _) src.complete s (l .loop .at) (l .loop .k) _ _ _ _ (parted e) (known (stepOf _) (c .enum-told2 .given .1) (t .take-line .ensures .0))) ∙ l .loop .inv .0, tt)
+    (left-stop (turn e .loop .inv .0) (e .before .before .line-feed .ensures) (e .end .given .1) (stepOf _) (c .enum-told2 .given .1) (t .take-line .ensures .0) refl, tt)
 
 loop-again : tie.Need-loop-again Inv-loop μ-loop
 unfolding stepOf
@@ -79,22 +44,12 @@ loop-again c =
     let n = c .before in
     let t = n .before .before .before .before in
     let e = line t in
-    let l = turn e in
-    let s = start l .args .text .now in
+    let i = turn e .loop .inv in
     let q = n .next .given .1 in (
-      sym (left-next src.itemIn (src.act _) src.complete s (l .loop .at) (l .loop .k) _ _ _ _ (parted e) _ (known (stepOf _) q (t .take-line .ensures .0))) ∙ l .loop .inv .0,
+      left-next (i .0) (e .before .before .line-feed .ensures) (e .end .given .1) (stepOf _) q (t .take-line .ensures .0) _ refl,
       rw q at (t .take-line .ensures .1),
-      omega (arith, inside e),
-      omega (arith, inside e, l .loop .inv .3),
-      t .take-line .kept .1 .1 .1 .0 ∙ l .loop .inv .4,
+      omega arith,
     )
-
-returns-3 : tie.Need-returns-3 Inv-loop μ-loop
-returns-3 c =
-    let l = c .before .before in
-    let h = l .loop .inv .1 in
-    let s = start l .args .text .now in
-    (c .end-text .ensures .0 _ _ h ∙ (sym (left-end src.itemIn (src.act _) src.complete s (l .loop .at) (l .loop .k) _ (c .before .loop-test .left)) ∙ l .loop .inv .0), c .end-text .ensures .1 _ h)
 
 pub read-text-spec : {M : Type 1} → statement M
 read-text-spec =
@@ -102,26 +57,26 @@ read-text-spec =
     (tie.spec
     Inv-loop
     μ-loop
-    loop-holds
+    (λ c. unfold src.readSources read stateOf in (record { comes = refl; inside = omega arith; counted = omega arith }, record { room = c .before .before .pre .1; inside = tt }, refl))
     (λ c κs. search needs)
     (λ c. search needs)
     (λ c. search needs)
     (λ c. omega arith)
-    (λ c. c .before .before .before .before .loop .inv .4)
-    returns
+    (λ c. omega arith)
+    (λ c. unfold readOf in let f = c .before .before in (left-open (f .before .before .loop .inv .0) (f .line-feed .ensures) (f .before .loop-test .taken) (c .enum-told .given .1), tt))
     (λ c. inside (c .before) .0)
     (λ c. inside (c .before) .0)
     (λ c. omega (arith, inside (c .before)))
-    take-line-requires
+    (λ c κs. let l = turn (c .before .before .before) in (start l .pre .0, l .loop .inv .1))
     (λ c. search needs)
     (λ c. search needs)
     (λ c. omega (arith, counted (turn (line (c .before .before .before .before)))))
-    (λ c. let t = c .before .before .before .before in t .take-line .kept .1 .1 .1 .0 ∙ turn (line t) .loop .inv .4)
+    (λ c. omega arith)
     returns-2
     (λ c. let e = line (c .before .before .before .before .before) in omega (arith, inside e, start (turn e) .good))
     (λ c. omega (arith, counted (turn (line (c .before .before .before .before .before)))))
     (λ c. let e = line (c .before .before .before .before .before) in omega (arith, inside e, e .before .before .before .loop-test .taken))
     loop-again
     (λ c κs. counted (c .before))
-    (λ c. c .before .before .loop .inv .4)
-    returns-3)
+    (λ c. omega arith)
+    (λ c. let i = c .before .before .loop .inv in (c .end-text .ensures .0 _ _ (i .1) ∙ left-end (i .0) (c .before .loop-test .left), c .end-text .ensures .1 _ (i .1))))

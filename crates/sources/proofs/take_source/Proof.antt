@@ -17,12 +17,6 @@ inside c =
     let r = start k .pre .room in
     omega arith
 
-returns-2 : tie.Need-returns-2
-unfolding stepOf
-returns-2 c =
-    let k = c .before .before in
-    (rw (act-source (k .state .given .1) (start k .pre), le-ltb _ _ (c .if1 .taken)), tt)
-
 returns-3 : tie.Need-returns-3
 unfolding stepOf
 returns-3 c =
@@ -50,7 +44,7 @@ take-source-spec =
     (λ c. search needs)
     (λ c. unfold stepOf stateOf act in (rw (c .enum-told .given .1), tt))
     (λ c. search needs)
-    returns-2
+    (λ c. unfold stepOf in let k = c .before .before in (rw (act-source (k .state .given .1) (start k .pre), le-ltb _ _ (c .if1 .taken)), tt))
     returns-3
     (λ c. search needs)
     (λ c. inside (c .before))

@@ -4,9 +4,9 @@ use Rattle.dimacs.specs.Decimal.{isDigit}
 use Rattle.scanner.proofs.numbers.is_digit.Statement.{statement}
 use Rattle.scanner.proofs.numbers.is_digit.Tie as tie
 
-returns-2 : tie.Need-returns-2
-unfolding isDigit
-returns-2 c = simp (le-leb 48 (c .before .args .b) (c .if1 .left))
-
 pub is-digit-spec : {M : Type 1} → statement M
-is-digit-spec = tie.close (tie.spec (λ c. unfold isDigit in simp (lt-leb 48 (c .before .args .b) (c .if1 .taken))) returns-2)
+is-digit-spec =
+    tie.close
+    (tie.spec
+    (λ c. unfold isDigit in simp (lt-leb 48 (c .before .args .b) (c .if1 .taken)))
+    (λ c. unfold isDigit in simp (le-leb 48 (c .before .args .b) (c .if1 .left))))

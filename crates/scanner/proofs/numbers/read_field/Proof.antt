@@ -10,10 +10,6 @@ use Rattle.scanner.proofs.numbers.read_field.Tie as tie
 inside : (c : tie.Else1) → c .before .before .before .args .at < length (c .before .before .before .args .s .now)
 inside c = starts-inside 32 _ _ (sym (c .before .holds .ensures) ∙ not-false _ (c .if1 .left))
 
-returns : tie.Need-returns
-unfolding field bind capNumber
-returns c = (rw (after-other 32 [] _ (sym (c .before .holds .ensures) ∙ not-true _ (c .if1 .taken))), omega arith)
-
 returns-2 : tie.Need-returns-2
 unfolding field bind after
 returns-2 c =
@@ -23,4 +19,9 @@ returns-2 c =
 pub read-field-spec : {M : Type 1} → statement M
 read-field-spec =
     tie.close
-    (tie.spec (λ c κs. search needs) returns (λ c. omega (arith, inside c)) (λ c κs. omega (arith, inside c)) returns-2)
+    (tie.spec
+    (λ c κs. search needs)
+    (λ c. unfold field bind capNumber in (rw (after-other 32 [] _ (sym (c .before .holds .ensures) ∙ not-true _ (c .if1 .taken))), omega arith))
+    (λ c. omega (arith, inside c))
+    (λ c κs. omega (arith, inside c))
+    returns-2)

@@ -6,12 +6,6 @@ use Rattle.scanner.specs.Capped.{capNumber, capScan}
 use Rattle.scanner.proofs.numbers.read_number.Statement.{statement}
 use Rattle.scanner.proofs.numbers.read_number.Tie as tie
 
-returns-2 : tie.Need-returns-2
-unfolding capNumber number
-returns-2 c =
-    let a = c .before .before .before .before .args in
-    (rw (drop-cons (a .s .now) (a .at) 0 (omega arith), eq-eqb _ 48 (c .if2 .taken), add-one), omega arith)
-
 returns-3 : tie.Need-returns-3
 unfolding capNumber number
 returns-3 c =
@@ -34,7 +28,7 @@ read-number-spec =
     (λ c. (unfold capNumber number in rw (drop-of-length-le (c .before .before .args .s .now) (c .if1 .taken)), omega arith))
     (λ c. search needs)
     (λ c. search needs)
-    returns-2
+    (λ c. unfold capNumber number in let a = c .before .before .before .before .args in (rw (drop-cons (a .s .now) (a .at) 0 (omega arith), eq-eqb _ 48 (c .if2 .taken), add-one), omega arith))
     (λ c κs. search needs)
     returns-3
     (λ c. search needs)

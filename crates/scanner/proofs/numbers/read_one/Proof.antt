@@ -4,18 +4,6 @@ use Rattle.scanner.proofs.Fields.{put, fields-none, fields-more, fields
 use Rattle.scanner.proofs.numbers.read_one.Statement.{statement}
 use Rattle.scanner.proofs.numbers.read_one.Tie as tie
 
-returns-2 : tie.Need-returns-2
-unfolding put
-returns-2 c =
-    let k = c .before .before in
-    fields-more 0 _ _ (k .before .before .read-field .ensures .0) (k .a .given .1) (fields-long _ _ (c .if1 .taken))
-
-returns-3 : tie.Need-returns-3
-unfolding put
-returns-3 c =
-    let k = c .before .before in
-    fields-more 0 _ _ (k .before .before .read-field .ensures .0) (k .a .given .1) (fields-over _ _ (c .if1 .left))
-
 pub read-one-spec : {M : Type 1} → statement M
 read-one-spec =
     tie.close
@@ -24,5 +12,5 @@ read-one-spec =
     (λ c. search needs)
     (λ c. search needs)
     (λ c. fields-none 0 _ _ (c .before .before .read-field .ensures .0) (c .enum-told .given .1))
-    returns-2
-    returns-3)
+    (λ c. unfold put in let k = c .before .before in fields-more 0 _ _ (k .before .before .read-field .ensures .0) (k .a .given .1) (fields-long _ _ (c .if1 .taken)))
+    (λ c. unfold put in let k = c .before .before in fields-more 0 _ _ (k .before .before .read-field .ensures .0) (k .a .given .1) (fields-over _ _ (c .if1 .left))))

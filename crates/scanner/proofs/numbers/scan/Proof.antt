@@ -28,12 +28,6 @@ loop-again c =
       omega (arith, c .push .ensures),
     )
 
-returns-2 : tie.Need-returns-2 Inv-loop μ-loop
-returns-2 c =
-    let l = c .before in
-    let a = l .before .before .args in
-    (sym (scan-end (a .s .now) (l .loop .i) (l .loop .value) (omega arith) (l .loop .inv .2)) ∙ l .loop .inv .0, l .loop .inv .1)
-
 pub scan-spec : {M : Type 1} → statement M
 scan-spec =
     tie.close
@@ -48,4 +42,4 @@ scan-spec =
     (λ c. search needs)
     (λ c. search needs)
     loop-again
-    returns-2)
+    (λ c. let l = c .before in let a = l .before .before .args in (sym (scan-end (a .s .now) (l .loop .i) (l .loop .value) (omega arith) (l .loop .inv .2)) ∙ l .loop .inv .0, l .loop .inv .1)))

@@ -1,8 +1,8 @@
 -- `spelling::spell::spell_check` meets its contract. Assumes nothing.
-use Rattle.property.proofs.Basics.{[], _∷_, needs, arith}
+use Rattle.property.proofs.Basics.{needs, arith, length-set}
 use Rattle.settled_check.specs.Code.{checking}
 use Rattle.spelling.specs.Code.{checkWords}
-use Rattle.spelling.proofs.Telling.{setAll-within, refused-tells, stored-tells}
+use Rattle.spelling.proofs.Telling.{refused-tells, stored-tells}
 use Rattle.spelling.proofs.spell.spell_check.Statement.{statement}
 use Rattle.spelling.proofs.spell.spell_check.Tie as tie
 
@@ -15,9 +15,9 @@ spell-check-spec =
     (λ c. search needs)
     (λ c. search needs)
     (λ c. search needs)
-    (λ c. setAll-within (0 ∷ []) (c .before .before .before .args .reply .now) 1 (omega arith))
-    (λ c. setAll-within (0 ∷ c .before .r .given .0 .0 ∷ []) (c .before .before .before .args .reply .now) 2 (omega arith))
-    (λ c. setAll-within (0 ∷ c .before .r .given .0 .0 ∷ c .before .r .given .0 .1 .0 ∷ []) (c .before .before .before .args .reply .now) 3 (omega arith))
+    (λ c. simp length-set (omega arith))
+    (λ c. simp length-set (omega arith))
+    (λ c. simp length-set (omega arith))
     (λ c. search needs)
     (λ c. search needs)
     (λ c. search needs)

@@ -6,14 +6,13 @@ use Rattle.spelling.proofs.Telling.{refused-tells, stored-tells}
 use Rattle.spelling.proofs.spell.spell_open.Statement.{statement}
 use Rattle.spelling.proofs.spell.spell_open.Tie as tie
 
-returns : tie.Need-returns
-unfolding opening
-returns c = rw (c .enum-told .given .1) (stored-tells openWords _ (c .before .before .pre) _ (omega arith))
-
-returns-2 : tie.Need-returns-2
-unfolding opening
-returns-2 c = rw (c .before .r .given .1) (refused-tells openWords _ (c .before .before .before .pre) _ _)
-
 pub spell-open-spec : {M : Type 1} → statement M
 spell-open-spec =
-    tie.close (tie.spec (λ c. search needs) (λ c. search needs) (λ c. search needs) returns (λ c. search needs) returns-2)
+    tie.close
+    (tie.spec
+    (λ c. search needs)
+    (λ c. search needs)
+    (λ c. search needs)
+    (λ c. unfold opening in rw (c .enum-told .given .1) (stored-tells openWords _ (c .before .before .pre) _ (omega arith)))
+    (λ c. search needs)
+    (λ c. unfold opening in rw (c .before .r .given .1) (refused-tells openWords _ (c .before .before .before .pre) _ _)))

@@ -1,8 +1,8 @@
 -- `spelling::spell::spell_query` meets its contract. Assumes nothing.
-use Rattle.property.proofs.Basics.{[], _∷_, needs, arith}
+use Rattle.property.proofs.Basics.{needs, arith, length-set}
 use Rattle.query.specs.Code.{answering}
 use Rattle.spelling.specs.Code.{tallyWords}
-use Rattle.spelling.proofs.Telling.{setAll-within, refused-tells, stored-tells}
+use Rattle.spelling.proofs.Telling.{refused-tells, stored-tells}
 use Rattle.spelling.proofs.spell.spell_query.Statement.{statement}
 use Rattle.spelling.proofs.spell.spell_query.Tie as tie
 
@@ -12,8 +12,8 @@ spell-query-spec =
     (tie.spec
     (λ c. search needs)
     (λ c. search needs)
-    (λ c. setAll-within (c .before .r .given .0 .0 .taken ∷ []) (c .before .before .before .args .reply .now) 1 (omega arith))
-    (λ c. setAll-within (c .before .r .given .0 .0 .taken ∷ c .before .r .given .0 .0 .rounds ∷ []) (c .before .before .before .args .reply .now) 2 (omega arith))
+    (λ c. simp length-set (omega arith))
+    (λ c. simp length-set (omega arith))
     (λ c. search needs)
     (λ c. search needs)
     (λ c. search needs)

@@ -1,8 +1,8 @@
 -- `spelling::spell::spell_read` meets its contract. Assumes nothing.
-use Rattle.property.proofs.Basics.{[], _∷_, needs, arith}
+use Rattle.property.proofs.Basics.{needs, arith, length-set}
 use Rattle.reader.specs.Code.{reading}
 use Rattle.spelling.specs.Code.{sizeWords}
-use Rattle.spelling.proofs.Telling.{setAll-within, refused-tells, stored-tells}
+use Rattle.spelling.proofs.Telling.{refused-tells, stored-tells}
 use Rattle.spelling.proofs.spell.spell_read.Statement.{statement}
 use Rattle.spelling.proofs.spell.spell_read.Tie as tie
 
@@ -14,7 +14,7 @@ spell-read-spec =
     (λ c. search needs)
     (λ c. search needs)
     (λ c. search needs)
-    (λ c. setAll-within (c .before .r .given .0 .0 ∷ []) (c .before .before .before .args .reply .now) 1 (omega arith))
+    (λ c. simp length-set (omega arith))
     (λ c. search needs)
     (λ c. search needs)
     (λ c. search needs)

@@ -1,5 +1,5 @@
 -- `spelling::unpack::column` meets its contract: the words below i are copied. Assumes nothing.
-use Rattle.property.proofs.Basics.{needs, arith, ℕ, _-_, _≤_, _≡_, refl, ap, _∙_, length, length-set, paste, paste-zero}
+use Rattle.property.proofs.Basics.{needs, arith, _-_, _≤_, _≡_, refl, _∙_, length, length-set, paste, paste-zero}
 use Rattle.graph.proofs.Copies.{paste-over}
 use Rattle.spelling.specs.Code.{wordsAt}
 use Rattle.spelling.proofs.Unpacking.{words-length, column-turn}
@@ -26,9 +26,7 @@ returns c =
     let a = c .before .before .args in
     let ws = wordsAt (a .j) (a .changes .now) in
     let e : c .before .loop .i ≡ length (a .changes .now) = omega arith in
-    c .before .loop .inv .0
-    ∙ ap (λ (k : ℕ). paste (a .out .now) 0 ws k) e
-    ∙ paste-over (a .out .now) ws (length (a .changes .now)) (words-length (a .j) (a .changes .now))
+    c .before .loop .inv .0 ∙ rw e (paste-over (a .out .now) ws (length (a .changes .now)) (words-length (a .j) (a .changes .now)))
 
 pub column-spec : {M : Type 1} → statement M
 column-spec =

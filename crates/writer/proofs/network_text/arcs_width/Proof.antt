@@ -16,18 +16,7 @@ abbrev μ-loop : tie.MeasureT-loop
 loop-again : tie.Need-loop-again Inv-loop μ-loop
 loop-again c =
     let l = c .before .before .before .before .before in
-    let s = l .before .before .before .before in (
-      arcs-sum (s .args .tails .now) (s .args .heads .now) (s .args .weights .now) (s .args .count) (s .pre .1) (l .loop .k) (l .loop .sum) _ _ (omega arith)
-          (c .arc-width .ensures .0) (l .loop .inv .0),
-      omega (arith, c .arc-width .ensures .1),
-      omega arith,
-    )
-
-returns : tie.Need-returns Inv-loop μ-loop
-returns c =
-    let l = c .before in
-    let s = l .before .before .before .before in
-    (arcs-all (s .args .tails .now) (s .args .heads .now) (s .args .weights .now) (s .args .count) (s .pre .1) (l .loop .k) (l .loop .sum) _ (omega arith) (l .loop .inv .0), omega arith)
+    (arcs-sum (l .before .before .before .before .pre .1) (l .loop .k) (l .loop .sum) _ _ (omega arith) (c .arc-width .ensures .0) (l .loop .inv .0), omega (arith, c .arc-width .ensures .1), omega arith)
 
 pub arcs-width-spec : {M : Type 1} → statement M
 arcs-width-spec =
@@ -47,4 +36,4 @@ arcs-width-spec =
     (λ c. search needs)
     (λ c. search needs)
     loop-again
-    returns)
+    (λ c. let l = c .before in (arcs-all (l .before .before .before .before .pre .1) (l .loop .k) (l .loop .sum) _ (omega arith) (l .loop .inv .0), omega arith)))

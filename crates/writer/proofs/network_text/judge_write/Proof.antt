@@ -12,19 +12,6 @@ use Rattle.writer.proofs.network_text.judge_write.Tie as tie
 sized : (c : tie.After-enum-told) (r : Judged) (w : Verdict) → told r ≡ w → told r ≡ (size (c .before .before .before .before .before .before .args .n) ▷ w)
 sized c r w e = then-judged _ r _ w (c .before .before .judge-size .ensures) (c .enum-told .given .1) e
 
-returns-2 : tie.Need-returns-2
-returns-2 c =
-    let l = c .before .before in
-    sized (l .before) _ _ (then-refused _ _ _ _ _ (l .judge-lengths .ensures) (c .enum-told4 .given .1))
-
-judge-table-plainly-requires : tie.Need-judge-table-plainly-requires
-judge-table-plainly-requires c κs = lengths-accept _ _ _ (fine-accept _ _ (c .before .before .judge-lengths .ensures) (c .enum-told3 .given .1))
-
-returns-3 : tie.Need-returns-3
-returns-3 c =
-    let l = c .before .before .before in
-    sized (l .before) _ _ (then-judged _ _ _ _ (l .judge-lengths .ensures) (c .before .enum-told3 .given .1) (c .judge-table-plainly .ensures))
-
 pub judge-write-spec : {M : Type 1} → statement M
 judge-write-spec =
     tie.close
@@ -36,6 +23,6 @@ judge-write-spec =
     (λ c κs. search needs)
     (λ c. search needs)
     (λ c. search needs)
-    returns-2
-    judge-table-plainly-requires
-    returns-3)
+    (λ c. let l = c .before .before in sized (l .before) _ _ (then-refused _ _ _ _ _ (l .judge-lengths .ensures) (c .enum-told4 .given .1)))
+    (λ c κs. lengths-accept _ _ _ (fine-accept _ _ (c .before .before .judge-lengths .ensures) (c .enum-told3 .given .1)))
+    (λ c. let l = c .before .before .before in sized (l .before) _ _ (then-judged _ _ _ _ (l .judge-lengths .ensures) (c .before .enum-told3 .given .1) (c .judge-table-plainly .ensures))))

@@ -4,17 +4,6 @@ use Rattle.writer.proofs.Text.{arc-fields}
 use Rattle.writer.proofs.network_text.put_arc.Statement.{statement}
 use Rattle.writer.proofs.network_text.put_arc.Tie as tie
 
-put-line-requires : tie.Need-put-line-requires
-put-line-requires c κs =
-    let s = c .before .before .before .before in
-    rw (arc-fields (s .args .t) (s .args .h) (s .args .w)) at (s .pre)
-
-returns : tie.Need-returns
-returns c =
-    let l = c .before .before in
-    let a = l .before .before .before .before .before .args in
-    rw (arc-fields (a .t) (a .h) (a .w)) (l .put-line .ensures)
-
 pub put-arc-spec : {M : Type 1} → statement M
 put-arc-spec =
     tie.close
@@ -23,6 +12,6 @@ put-arc-spec =
     (λ c. search needs)
     (λ c. search needs)
     (λ c. search needs)
-    put-line-requires
+    (λ c κs. let s = c .before .before .before .before in rw (arc-fields (s .args .t) (s .args .h) (s .args .w)) at (s .pre))
     (λ c. search needs)
-    returns)
+    (λ c. let l = c .before .before in let a = l .before .before .before .before .before .args in rw (arc-fields (a .t) (a .h) (a .w)) (l .put-line .ensures)))

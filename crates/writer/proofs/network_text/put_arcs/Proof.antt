@@ -1,10 +1,9 @@
 -- `writer::network_text::put_arcs` meets its contract: the lines from k on are still to be put. Assumes nothing.
-use Rattle.property.proofs.Basics.{needs, arith, _+_, _-_, _≤_, drop}
+use Rattle.property.proofs.Basics.{needs, arith, _-_, _≤_, drop}
 use Rattle.graph.specs.Edge.{edges}
-use Rattle.graph.specs.Code.{edgeAt}
 use Rattle.writer.specs.Code.{arcsOf}
 use Rattle.writer.proofs.Laid.{Pending, pending-start, pending-fits, pending-turn, pending-done}
-use Rattle.writer.proofs.Text.{arcLine, arcs-more, arcs-none}
+use Rattle.writer.proofs.Text.{arcs-more, arcs-none}
 use Rattle.writer.proofs.network_text.put_arcs.Statement.{statement}
 use Rattle.writer.proofs.network_text.put_arcs.Tie as tie
 
@@ -15,33 +14,11 @@ Inv-loop tails heads weights count at out₀ end₀ k₀ out end k =
 abbrev μ-loop : tie.MeasureT-loop
 μ-loop tails heads weights count at out₀ end₀ k₀ out end k = count - k
 
-put-arc-requires : tie.Need-put-arc-requires Inv-loop μ-loop
-put-arc-requires c κs =
-    let l = c .before .before .before .before .before in
-    let s = l .before .before .before .before .before in
-    let a = s .args in
-    pending-fits (l .loop .inv .0) (arcLine (edgeAt (a .tails .now) (a .heads .now) (a .weights .now) (l .loop .k)))
-    (arcsOf (drop (l .loop .k + 1) (edges (a .tails .now) (a .heads .now) (a .weights .now) (a .count))))
-    (arcs-more (a .tails .now) (a .heads .now) (a .weights .now) (a .count) (s .pre .0) (l .loop .k) (omega arith))
-
 loop-again : tie.Need-loop-again Inv-loop μ-loop
 loop-again c =
     let p = c .before .before in
     let l = p .before .before .before .before .before .before in
-    let s = l .before .before .before .before .before in
-    let a = s .args in (
-      pending-turn (l .loop .inv .0) (arcLine (edgeAt (a .tails .now) (a .heads .now) (a .weights .now) (l .loop .k)))
-          (arcsOf (drop (l .loop .k + 1) (edges (a .tails .now) (a .heads .now) (a .weights .now) (a .count))))
-          (arcs-more (a .tails .now) (a .heads .now) (a .weights .now) (a .count) (s .pre .0) (l .loop .k) (omega arith))
-          (p .put-arc .ensures),
-      omega arith,
-    )
-
-returns : tie.Need-returns Inv-loop μ-loop
-returns c =
-    let l = c .before in
-    let s = l .before .before .before .before .before in
-    pending-done (l .loop .inv .0) (arcs-none (s .args .tails .now) (s .args .heads .now) (s .args .weights .now) (s .args .count) (s .pre .0) (l .loop .k) (omega arith))
+    (pending-turn (l .loop .inv .0) _ _ (arcs-more (l .before .before .before .before .before .pre .0) (l .loop .k) (omega arith)) (p .put-arc .ensures), omega arith)
 
 pub put-arcs-spec : {M : Type 1} → statement M
 put-arcs-spec =
@@ -56,9 +33,9 @@ put-arcs-spec =
     (λ c. search needs)
     (λ c. search needs)
     (λ c. search needs)
-    put-arc-requires
+    (λ c κs. let l = c .before .before .before .before .before in pending-fits (l .loop .inv .0) _ _ (arcs-more (l .before .before .before .before .before .pre .0) (l .loop .k) (omega arith)))
     (λ c. search needs)
     (λ c. search needs)
     loop-again
     (λ c. c .before .loop .inv .0 .same)
-    returns)
+    (λ c. let l = c .before in pending-done (l .loop .inv .0) (arcs-none (l .before .before .before .before .before .pre .0) (l .loop .k) (omega arith))))

@@ -4,12 +4,6 @@ use Rattle.writer.proofs.Text.{problem-fields}
 use Rattle.writer.proofs.network_text.put_problem.Statement.{statement}
 use Rattle.writer.proofs.network_text.put_problem.Tie as tie
 
-returns : tie.Need-returns
-returns c =
-    let l = c .before .before in
-    let a = l .before .before .before .before .before .args in
-    rw (problem-fields (a .n) (a .count)) (l .put-line .ensures)
-
 pub put-problem-spec : {M : Type 1} → statement M
 put-problem-spec =
     tie.close
@@ -18,4 +12,4 @@ put-problem-spec =
     (λ c. search needs)
     (λ c κs. rw (problem-fields (c .before .before .before .before .args .n) (c .before .before .before .before .args .count)) at (c .before .before .before .before .pre))
     (λ c. search needs)
-    returns)
+    (λ c. let l = c .before .before in let a = l .before .before .before .before .before .args in rw (problem-fields (a .n) (a .count)) (l .put-line .ensures)))

@@ -31,14 +31,10 @@ fine : (c : tie.After-enum-told) → let s = begin (c .before .before) in judged
 fine c = fine-accept _ _ (c .before .before .judge-write .ensures) (c .enum-told .given .1)
 
 writable : (c : tie.After-enum-told) → let a = begin (c .before .before) .args in Writable (a .n) (a .tails .now) (a .heads .now) (a .weights .now) (a .count)
-writable c =
-    let a = begin (c .before .before) .args in
-    write-accept (a .n) (a .tails .now) (a .heads .now) (a .weights .now) (a .count) (fine c)
+writable c = write-accept (fine c)
 
 lines : (c : tie.After-enum-told) → let s = begin (c .before .before) in text s ≡ problemLine (s .args .n) (s .args .count) ++ arcs s
-lines c =
-    let a = begin (c .before .before) .args in
-    written-lines (a .n) (a .tails .now) (a .heads .now) (a .weights .now) (a .count) (writable c .room)
+lines c = written-lines (begin (c .before .before) .args .n) (writable c .room)
 
 -- the length that is measured is the text's
 whole : (c : tie.After-arcs-width) → c .before .problem-width .result + c .arcs-width .result ≡ length (text (begin (c .before .before .before .before)))
@@ -49,18 +45,6 @@ whole c =
 
 room : (c : tie.Else1) → let s = begin (c .before .before .before .before .before) in Fits (text s) 0 (s .args .text .now)
 room c = record { room = omega (arith, whole (c .before)) }
-
-returns : tie.Need-returns
-unfolding writeCall told _▷_ replied choose writing
-returns c =
-    let j = c .before .before .before in
-    let a = begin j .args in
-    rw (chain (a .n) (table (begin j)) (a .count) (a .text .now) _ (sym (j .judge-write .ensures) ∙ ap told (c .before .judged .given .1)))
-
-add-length : tie.Need-add-length
-add-length c =
-    let w = writable (c .before .before) in
-    omega (arith, w .count, c .before .problem-width .ensures .1, c .arcs-width .ensures .1)
 
 returns-2 : tie.Need-returns-2
 unfolding writeCall _▷_ refuseIf replied choose writing
@@ -97,11 +81,11 @@ write-network-spec =
     (tie.spec
     (λ c κs. search needs)
     (λ c. search needs)
-    returns
+    (λ c. unfold writeCall told _▷_ replied choose writing in let j = c .before .before .before in let a = begin j .args in rw (chain (a .n) (table (begin j)) (a .count) (a .text .now) _ (sym (j .judge-write .ensures) ∙ ap told (c .before .judged .given .1))))
     (λ c. search needs)
     (λ c κs. search needs)
     (λ c κs. (writable (c .before) .count, writable (c .before) .room))
-    add-length
+    (λ c. let w = writable (c .before .before) in omega (arith, w .count, c .before .problem-width .ensures .1, c .arcs-width .ensures .1))
     returns-2
     (λ c κs. first-fits _ _ (lines (c .before .before .before .before)) (room (c .before)))
     put-arcs-requires

@@ -25,11 +25,6 @@ loop-again c =
     let e : c .width .result ≡ length (digits (getD vs (l .loop .i) 0)) = c .width .ensures in
     (rw e (fields-sum vs (l .loop .i) (l .loop .sum) _ (omega arith) (l .loop .inv .0)), omega (arith, most c), omega arith)
 
-returns : tie.Need-returns Inv-loop μ-loop
-returns c =
-    let l = c .before in
-    (fields-all (l .before .before .args .values .now) (l .loop .i) (l .loop .sum) _ (omega arith) (l .loop .inv .0), omega arith)
-
 pub fields-width-spec : {M : Type 1} → statement M
 fields-width-spec =
     tie.close
@@ -45,4 +40,4 @@ fields-width-spec =
     (λ c. search needs)
     (λ c. search needs)
     loop-again
-    returns)
+    (λ c. let l = c .before in (fields-all (l .before .before .args .values .now) (l .loop .i) (l .loop .sum) _ (omega arith) (l .loop .inv .0), omega arith)))

@@ -4,8 +4,11 @@ use Rattle.writer.proofs.Laid.{laid-sets}
 use Rattle.writer.proofs.put.put_byte.Statement.{statement}
 use Rattle.writer.proofs.put.put_byte.Tie as tie
 
-returns : tie.Need-returns
-returns c = record { next = refl; bytes = sym (laid-sets (c .args .at) (c .args .b ∷ []) (c .args .out .now) (c .pre .room)) }
-
 pub put-byte-spec : {M : Type 1} → statement M
-put-byte-spec = tie.close (tie.spec (λ c. search needs) (λ c. search needs) (λ c. search needs) returns)
+put-byte-spec =
+    tie.close
+    (tie.spec
+    (λ c. search needs)
+    (λ c. search needs)
+    (λ c. search needs)
+    (λ c. record { next = refl; bytes = sym (laid-sets (c .args .at) (c .args .b ∷ []) (c .args .out .now) (c .pre .room)) }))

@@ -1,5 +1,5 @@
 -- `writer::put::put_number` meets its contract: what is still to store from here comes to the same. Assumes nothing.
-use Rattle.property.proofs.Basics.{arith, _≡_, refl, sym, ap, _∙_, List, ℕ, _+_, _-_, _≤_, length, length-set, sets}
+use Rattle.property.proofs.Basics.{arith, _≡_, refl, sym, _∙_, _+_, _-_, _≤_, length, length-set, sets}
 use Rattle.dimacs.specs.Decimal.{digits}
 use Rattle.writer.proofs.Digits.{pad, digits-pad}
 use Rattle.writer.proofs.Laid.{laid-sets, pad-turn, pad-done}
@@ -17,7 +17,7 @@ loop-holds : tie.Need-loop-holds Inv-loop μ-loop
 loop-holds c =
     let a = c .before .before .args in
     let e : a .at + c .width .result - a .at ≡ length (digits (a .v)) = omega (arith, c .width .ensures) in (
-      ap (λ (xs : List ℕ). sets (a .out .now) (a .at) xs) (ap (λ (k : ℕ). pad k (a .v)) e ∙ sym (digits-pad (a .v))),
+      rw (e, ← digits-pad (a .v)),
       omega arith,
       omega arith,
       refl,
@@ -63,5 +63,5 @@ put-number-spec =
     (λ c. omega arith)
     (λ c. omega arith)
     loop-again
-    (λ c. c .before .loop .inv .3)
+    (λ c. omega arith)
     returns)

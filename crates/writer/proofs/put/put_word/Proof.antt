@@ -20,12 +20,6 @@ loop-again c =
       simp length-set (l .loop .inv .2),
     )
 
-returns : tie.Need-returns Inv-loop μ-loop
-returns c =
-    let l = c .before in
-    let s = l .before in
-    paste-wrote (s .args .word .now) (s .args .at) (s .args .out .now) (l .loop .i) (l .loop .out) (omega arith) (l .loop .inv .0)
-
 pub put-word-spec : {M : Type 1} → statement M
 put-word-spec =
     tie.close
@@ -41,4 +35,4 @@ put-word-spec =
     loop-again
     (λ c. search needs)
     (λ c. search needs)
-    returns)
+    (λ c. paste-wrote (omega arith) (c .before .loop .inv .0)))

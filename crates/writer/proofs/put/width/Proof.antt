@@ -11,17 +11,14 @@ Inv-loop v n₀ w₀ n w = (n + length (digits w) ≡ 1 + length (digits v)) × 
 abbrev μ-loop : tie.MeasureT-loop
 μ-loop v n₀ w₀ n w = w
 
-loop-again : tie.Need-loop-again Inv-loop μ-loop
-loop-again c =
-    let l = c .before in
-    let b : 10 ≤ l .loop .w = omega arith in
-    (omega (arith, width-big (l .loop .w) b), omega arith)
-
-returns : tie.Need-returns Inv-loop μ-loop
-returns c =
-    let l = c .before in
-    let b : l .loop .w < 10 = omega arith in
-    omega (arith, width-small (l .loop .w) b)
-
 pub width-spec : {M : Type 1} → statement M
-width-spec = tie.close (tie.spec Inv-loop μ-loop (λ c. (refl, omega arith)) (λ c. omega arith) (λ c. omega arith) loop-again returns)
+width-spec =
+    tie.close
+    (tie.spec
+    Inv-loop
+    μ-loop
+    (λ c. (refl, omega arith))
+    (λ c. omega arith)
+    (λ c. omega arith)
+    (λ c. let l = c .before in let b : 10 ≤ l .loop .w = omega arith in (omega (arith, width-big (l .loop .w) b), omega arith))
+    (λ c. let l = c .before in let b : l .loop .w < 10 = omega arith in omega (arith, width-small (l .loop .w) b)))
