@@ -20,60 +20,21 @@ copied-more ys xs i = sym (ap (copied ys xs) (add-one i))
 skip3 : (xs : List ℕ) (i j k a b c m : ℕ) → m ≢ i → m ≢ j → m ≢ k → getD (set (set (set xs i a) j b) k c) m 0 ≡ getD xs m 0
 skip3 xs i j k a b c m p q r = getD-set-other (set (set xs i a) j b) k m c 0 r ∙ getD-set-other (set xs i a) j m b 0 q ∙ getD-set-other xs i m a 0 p
 
--- four places that differ: what is read there is what was put there
-module _ (xs : List ℕ) (i j k l a b c d : ℕ) (i-in : i < length xs) (j-in : j < length xs) (k-in : k < length xs) (l-in : l < length xs) (ij : i < j) (jk : j < k) (kl : k < l) where
-  abbrev put : List ℕ
-  put = set (set (set (set xs i a) j b) k c) l d
-
-  read-first : getD put i 0 ≡ a
-  read-first = skip3 (set xs i a) j k l b c d i (λ e. omega (arith, e, ij)) (λ e. omega (arith, e, ij, jk)) (λ e. omega (arith, e, ij, jk, kl)) ∙ getD-set-same xs i a 0 i-in
-
-  read-second : getD put j 0 ≡ b
-  read-second =
-      getD-set-other (set (set (set xs i a) j b) k c) l j d 0 (λ e. omega (arith, e, jk, kl)) ∙ getD-set-other (set (set xs i a) j b) k j c 0 (λ e. omega (arith, e, jk))
-      ∙ getD-set-same (set xs i a) j b 0 (simp length-set j-in)
-
-  read-third : getD put k 0 ≡ c
-  read-third = getD-set-other (set (set (set xs i a) j b) k c) l k d 0 (λ e. omega (arith, e, kl)) ∙ getD-set-same (set (set xs i a) j b) k c 0 (simp length-set k-in)
-
-  read-fourth : getD put l 0 ≡ d
-  read-fourth = getD-set-same (set (set (set xs i a) j b) k c) l d 0 (simp length-set l-in)
-
 pub put-there : (xs : List ℕ) (i : ℕ) (c : spec.Change) → i < maxBatch → length xs ≡ 4 * maxBatch → changeAt (putChange xs i c) i ≡ c
-put-there xs i c f e = rw (first, second, third, fourth)
-  where
-    a : i < length xs
-    a = omega (arith, f, e)
-
-    b : maxBatch + i < length xs
-    b = omega (arith, f, e)
-
-    d : 2 * maxBatch + i < length xs
-    d = omega (arith, f, e)
-
-    g : 3 * maxBatch + i < length xs
-    g = omega (arith, f, e)
-
-    ij : i < maxBatch + i
-    ij = omega arith
-
-    jk : maxBatch + i < 2 * maxBatch + i
-    jk = omega arith
-
-    kl : 2 * maxBatch + i < 3 * maxBatch + i
-    kl = omega arith
-
-    first : getD (putChange xs i c) i 0 ≡ c .kind
-    first = read-first xs i (maxBatch + i) (2 * maxBatch + i) (3 * maxBatch + i) (c .kind) (c .tail) (c .head) (c .weight) a b d g ij jk kl
-
-    second : getD (putChange xs i c) (maxBatch + i) 0 ≡ c .tail
-    second = read-second xs i (maxBatch + i) (2 * maxBatch + i) (3 * maxBatch + i) (c .kind) (c .tail) (c .head) (c .weight) a b d g ij jk kl
-
-    third : getD (putChange xs i c) (2 * maxBatch + i) 0 ≡ c .head
-    third = read-third xs i (maxBatch + i) (2 * maxBatch + i) (3 * maxBatch + i) (c .kind) (c .tail) (c .head) (c .weight) a b d g ij jk kl
-
-    fourth : getD (putChange xs i c) (3 * maxBatch + i) 0 ≡ c .weight
-    fourth = read-fourth xs i (maxBatch + i) (2 * maxBatch + i) (3 * maxBatch + i) (c .kind) (c .tail) (c .head) (c .weight) a b d g ij jk kl
+put-there xs i c f e =
+    let one = set xs i (c .kind) in
+    let two = set one (maxBatch + i) (c .tail) in
+    let three = set two (2 * maxBatch + i) (c .head) in
+    rw (
+      skip3 one (maxBatch + i) (2 * maxBatch + i) (3 * maxBatch + i) (c .tail) (c .head) (c .weight) i (λ h. omega arith) (λ h. omega arith) (λ h. omega arith),
+      getD-set-same xs i (c .kind) 0 (omega arith),
+      getD-set-other three (3 * maxBatch + i) (maxBatch + i) (c .weight) 0 (λ h. omega arith),
+      getD-set-other two (2 * maxBatch + i) (maxBatch + i) (c .head) 0 (λ h. omega arith),
+      getD-set-same one (maxBatch + i) (c .tail) 0 (simp length-set (omega arith)),
+      getD-set-other three (3 * maxBatch + i) (2 * maxBatch + i) (c .weight) 0 (λ h. omega arith),
+      getD-set-same two (2 * maxBatch + i) (c .head) 0 (simp length-set (omega arith)),
+      getD-set-same three (3 * maxBatch + i) (c .weight) 0 (simp length-set (omega arith)),
+    )
 
 skip4 : (xs : List ℕ) (i j k l a b c d m : ℕ) → m ≢ i → m ≢ j → m ≢ k → m ≢ l → getD (set (set (set (set xs i a) j b) k c) l d) m 0 ≡ getD xs m 0
 skip4 xs i j k l a b c d m p q r s = skip3 (set xs i a) j k l b c d m q r s ∙ getD-set-other xs i m a 0 p
