@@ -6,16 +6,18 @@
 --     meets            a function whose walk, with the machine values written out, ends in `walkOf` meets its contract
 --     gave             what a call has given back: the tokens, the result, the last values and what the contract says of them
 --     Many X n         n of X, as the lifetimes and the shares of a signature.       snoc, front, last     with one more; but the last; the last
---     held             a local that holds a value is freed.       downs n k, upto n k     the positions of n locals from k on, the first local first; n positions from k on
+--     var              a local is read, entry n of the context.       held     a local that holds a value is freed.       downs n k, upto n k     the positions of n locals from k on, the first local first; n positions from k on
 --     token-in, token-out      the token of a last lifetime joins the others; is taken off them
 -- Assumes `Given`.
-use Rattle.property.proofs.Basics.{refl, ℕ, zero, suc, _+_, _*_, _<_, _^_, List, [], _∷_}
-use Rattle.run.proofs.Kit.{URA, Val, Lft, Share, SProp, ent, sep, id⊢, Heap, Tables, WpFn, WpFn-mono, Atoms, Given, Item, ‵, raw, some, later, _⊛_, _$_, move, use1, split, pick, await, RattleType, owns, Is, w64, plain, slice-vals, ptr-vals, uint-vals, uint-tells, shr-slice-tells, mut-slice-tells, mut-tells, Contract, Meets, tripleOf, lasts, Stays, walkOf, walked, walk-meets, yes, flft, fullShare, fat, Ty, Env, forget, free1, _∵_, qed, !, join, frame, by, done}
-use mir.Syntax.{Fn, Width, named}
+use Rattle.property.proofs.Basics.{_≡_, refl, ℕ, zero, suc, _+_, _*_, _<_, _^_, List, [], _∷_}
+use Rattle.run.proofs.Kit.{URA, Val, Lft, Share, SProp, ent, sep, id⊢, Heap, Tables, WpFn, WpFn-mono, Atoms, Given, Item, ‵, raw, some, later, _⊛_, _$_, move, use1, split, pick, await, RattleType, owns, Is, w64, plain, slice-vals, ptr-vals, uint-vals, uint-tells, shr-slice-tells, mut-slice-tells, mut-tells, Contract, Meets, tripleOf, lasts, Stays, walkOf, walked, walk-meets, yes, flft, fullShare, fat, Ty, Env, forget, free1, load, from, stop, look, _∵_, qed, !, join, frame, by, done}
+use mir.Syntax.{Fn, Width, named, copy, place}
 use mir.Val.{Fits}
 use base.Logic.{emp}
 use base.Fml.{fdies}
-use types.Kit.{Goal, Seq, Soaks, Step, step, frees}
+use prog.Wp.{spotOf}
+use types.Kit.{Goal, Seq, Soaks, Step, step, frees, nth}
+use types.Run.{Opd}
 use contract.Lifetimes.{Lfts, Shares, Within, AllOutlive, lftAt}
 use denote.Plain.{UInt}
 use denote.Laws.{Are, Ises, Spells, valss, Tells, Tellss}
@@ -117,8 +119,8 @@ module _ {M : Type 1} (𝓤 : URA M) (H : Heap 𝓤) (A : Atoms 𝓤) (T : Ended
       (walked 𝓤 H A T (stays ss (T .kept) ps) c run (spells ss (T .kept) ps) (all-tell ss (T .kept) ps) (λ κs qs bounds a g are. k (boundAt κs qs bounds a g) are))
 
 -- ---- a call
-module _ {M : Type 1} {𝓤 : URA M} {H : Heap 𝓤} {A : Atoms 𝓤} {K : Type 0} {W : Given 𝓤 H A} {Γ : List (Item 𝓤)} {G : Goal 𝓤 H} where
-  pub gave : K → Soaks G → (T : Ended) (c : Clauses 𝓤 T) (y : tripleOf 𝓤 H A (T .signature) (closing 𝓤 H A T c) .Ghost) (w : Val)
+module _ {M : Type 1} {𝓤 : URA M} {H : Heap 𝓤} {A : Atoms 𝓤} {K : Type 0} {W : Given 𝓤 H A} {Γ : List (Item 𝓤)} where
+  pub gave : K → {G : Goal 𝓤 H} → Soaks G → (T : Ended) (c : Clauses 𝓤 T) (y : tripleOf 𝓤 H A (T .signature) (closing 𝓤 H A T c) .Ghost) (w : Val)
       → ((r : Res (T .signature) (y .0 .0)) (us : Lasts T (y .0 .0) (y .0 .3))
       → Seq K W (raw (alive 𝓤 H A (T .signature) (y .0 .0) (y .0 .1)) ∷ ‵ (typeAt (T .signature .result) (y .0 .0) .own r (w ∷ [])) ∷ ‵ (lasts T (y .0 .0) (y .0 .3) us) ∷ raw (c (y .0 .0) (y .0 .3) .ensures (y .1) r (atExit T (y .0 .0) (y .0 .3) us)) ∷ Γ) G)
       → Seq K W (raw (tripleOf 𝓤 H A (T .signature) (closing 𝓤 H A T c) .post y w) ∷ Γ) G
@@ -127,8 +129,11 @@ module _ {M : Type 1} {𝓤 : URA M} {H : Heap 𝓤} {A : Atoms 𝓤} {K : Type 
       ⊛ some (λ (us : Lasts T (y .0 .0) (y .0 .3)). ‵ (lasts T (y .0 .0) (y .0 .3) us) ⊛ raw (c (y .0 .0) (y .0 .3) .ensures (y .1) r (atExit T (y .0 .0) (y .0 .3) us)))))) (id⊢ 𝓤 _) $
       await t z $ pick t (λ r. split t $ move t (1 ∷ []) $ pick t (λ us. split t $ move t (2 ∷ []) $ split t $ k r us))
 
-  -- ---- the locals at the end
-  pub held : K → {τ : Ty} {b : ℕ} {v : Val} {E : Env 𝓤 H} → Step K W Γ (frees E G) (‵ (fat fullShare τ b zero v) ∷ ‵ (fdies τ b) ∷ Γ) (frees ((τ, b) ∷ E) G)
+  -- ---- the locals, and at the end
+  pub var : K → {E : Env 𝓤 H} {i : ℕ} (n : ℕ) {q : Share} {v : Val} → nth 𝓤 H A n Γ ≡ ‵ (fat q (spotOf 𝓤 H E i .0) (spotOf 𝓤 H E i .1) (spotOf 𝓤 H E i .2) v) → Opd K W Γ E (copy (place i [])) v
+  var t n e = load t (from t (stop t)) (look t n e)
+
+  pub held : K → {G : Goal 𝓤 H} {τ : Ty} {b : ℕ} {v : Val} {E : Env 𝓤 H} → Step K W Γ (frees E G) (‵ (fat fullShare τ b zero v) ∷ ‵ (fdies τ b) ∷ Γ) (frees ((τ, b) ∷ E) G)
   held t = step (λ s. forget t 0 refl $ free1 t $ s)
 
 abbrev pub downs : ℕ → ℕ → List ℕ

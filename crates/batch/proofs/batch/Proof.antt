@@ -3,7 +3,7 @@
 -- array's memory is room again. All that the proof knows of the three callees is that they meet their contracts. Assumes nothing.
 use Rattle.property.proofs.Basics.{_≡_, refl, sym, _∙_, subst, ℕ, min, arith, List, [], _∷_, map, lit<, length, length-replicate}
 use Rattle.run.proofs.Kit.{URA, fullShare, w32, w64, Val, vint, SProp, ent, id⊢, Lft, GName, Share, ftrue, froom, flft, flent, Memory, Routine, Heap, Env, WpFn, Tables, Atoms, Fun, givenOf, tables, tablesOf, Given, Item, ‵, raw, some, later, _⊛_, _$_, _∵_, !, qed, move, keep, drop, use1, use2, use3, split, join, pick, fsplit, fjoin, feqL, suffices, await, done, agg, whole, sub, look-in, look, init, store, stop, hop, fld, from, load, lit, addr, of-opd, and-then, no-more, assigns, land, returns, enter, alloc1, alloc0, params1, pass1, pass0, free1, free0, lft-new, lft-end, fmOf, RattleType, Is, shows, uint-vals, uint-makes, nothing-lawful, u32, usize, unit, RefT, sliceVal, Room, slice-vals, peeks, owned, heard, nothing, calls-at, onEntry, tripleOf, Contract, Triple, entered, cited, says, ends-at}
-use Rattle.run.proofs.Walking.{_⨾_, Params, number, shared, given, stays, Holds, walkFor, boundAt, entry, meets, gave, held, downs, upto, snoc, front, last, tokens, token-in, token-out, wide}
+use Rattle.run.proofs.Walking.{_⨾_, Params, number, shared, given, stays, Holds, walkFor, boundAt, entry, meets, gave, held, downs, upto, snoc, front, last, tokens, token-in, token-out, wide, var}
 use contract.Lifetimes.{Lfts, Shares}
 use denote.Triple.Entry.{Args}
 use denote.Triple.Clauses.{Clauses}
@@ -136,18 +136,18 @@ module _ {M : Type 1} (𝓤 : URA M) (H : Heap 𝓤) (A : Atoms 𝓤) (W : Given
         assigns ! (of-opd ! (load ! (from ! (fld ! refl (stop !))) (look-in ! 48 (sub ! 1 refl (whole !))))) (from ! (stop !)) (init ! 40 refl (tt, record { fits = are .1 .1 .1 .1 .1 .1 .1 .1 .0 .0 .1 .0 })) $
         owned ! usize (Is usize) (uint-makes 𝓤 H A W w64) 1024 (vint w64 1024 ∷ []) (refl, lit< tt) $ owned ! usize (Is usize) (uint-makes 𝓤 H A W w64) size (vint w64 size ∷ []) (refl, are .1 .1 .1 .1 .1 .1 .1 .1 .0 .0 .1 .0) $
         nothing ! $ move ! (2 ∷ 0 ∷ []) $ join ! $ move ! (1 ∷ 0 ∷ []) $ join ! $ nothing ! $ join ! $ nothing ! $ move ! (1 ∷ 0 ∷ []) $ use2 W (raw (Lesser 𝓤 H A at-mem run .pre to-lesser)) (id⊢ 𝓤 _) $
-        calls-at ! (fmOf 𝓤 H (W .laws) 𝓣) (Lesser 𝓤 H A at-mem run) known-l to-lesser (and-then ! (load ! (from ! (stop !)) (look ! 41 refl)) (and-then ! (big-lit ! (record { fits = lit< tt })) (no-more !))) (λ w.
+        calls-at ! (fmOf 𝓤 H (W .laws) 𝓣) (Lesser 𝓤 H A at-mem run) known-l to-lesser (and-then ! (var ! 41 refl) (and-then ! (big-lit ! (record { fits = lit< tt })) (no-more !))) (λ w.
         gave ! tt lesser.ended (lesser.clauses 𝓤 H A at-mem run) to-lesser w (λ k _. move ! (3 ∷ []) $ heard ! (k ≡ min size 1024) (λ ek. drop ! $ move ! (1 ∷ []) $ drop ! $
         peeks ! usize (Is usize) (shows 𝓤 H A usize) k (w ∷ []) (λ is. land ! (from ! (stop !)) (init ! 43 refl (uint-lawful 𝓤 H A W w64 .typed k _ is .0)) $
         -- [k's; the changes; κ; …; _27 at 13; …]: the zeros are lent for ν
         assigns ! (addr ! (from ! (stop !))) (from ! (stop !)) (init ! 39 refl (tt, tt)) $
-        assigns ! (agg ! (and-then ! (load ! (from ! (stop !)) (look ! 39 refl)) (and-then ! (big-lit ! (record { fits = lit< tt })) (no-more !)))) (from ! (stop !)) (init ! 37 refl (wide (lit< tt))) $
+        assigns ! (agg ! (and-then ! (var ! 39 refl) (and-then ! (big-lit ! (record { fits = lit< tt })) (no-more !)))) (from ! (stop !)) (init ! 37 refl (wide (lit< tt))) $
         move ! (47 ∷ []) $ lft-new ! tt (λ ν. move ! (1 ∷ []) $ use1 W (later (some (λ (γ : GName). ‵ (Zeros 𝓤 H A W 4096 l₁₀ ν 4096 γ) ⊛ ‵ (Kept 𝓤 H A W 4096 l₁₀ ν γ)))) (lends-zeros 𝓤 H A W 4096 l₁₀ ν (subst (Room u32) (sym (length-replicate {A = ℕ} 4096 0)) (lit< tt, lit< tt))) $ await ! tt $ pick ! (λ γ. split ! $
         -- [the `&mut [u32]`; the lender's part; ν; k's; the changes; κ; …]
         nothing ! $ move ! (1 ∷ 0 ∷ []) $ fjoin ! $ move ! (3 ∷ 0 ∷ []) $ fjoin ! $ move ! (3 ∷ 0 ∷ []) $ fjoin ! $ nothing ! $ move ! (3 ∷ 0 ∷ []) $ join ! $ move ! (3 ∷ 0 ∷ []) $ join ! $
         use2 W (raw (Copy 𝓤 H A at-mem run .pre (to-copy k w ν l₁₀ γ))) (goes-copy k ek w ν l₁₀ γ) $
         -- [the call's pre; the lender's part; the tokens; true; what the other parameters own; _27 at 12; …; that _10 dies, at 46; _9 at 47; …]
-        calls-at ! (fmOf 𝓤 H (W .laws) 𝓣) (Copy 𝓤 H A at-mem run) known-c (to-copy k w ν l₁₀ γ) (and-then ! (load ! (from ! (stop !)) (look ! 47 refl)) (and-then ! (load ! (from ! (stop !)) (look ! 42 refl)) (and-then ! (load ! (from ! (stop !)) (look ! 36 refl)) (no-more !)))) (λ w₁.
+        calls-at ! (fmOf 𝓤 H (W .laws) 𝓣) (Copy 𝓤 H A at-mem run) known-c (to-copy k w ν l₁₀ γ) (and-then ! (var ! 47 refl) (and-then ! (var ! 42 refl) (and-then ! (var ! 36 refl) (no-more !)))) (λ w₁.
         gave ! tt copy.ended (copy.clauses 𝓤 H A at-mem run) (to-copy k w ν l₁₀ γ) w₁ (λ r₁ us. move ! (3 ∷ []) $ heard ! (us .1 .1 .0 ≡ copied (ys .now) (zeros 4096) k) (λ ec.
         move ! (2 ∷ []) $ fsplit ! $ move ! (1 ∷ []) $ fsplit ! $ move ! (1 ∷ []) $ fsplit ! $ fsplit ! $ move ! (1 ∷ []) $ feqL ! (λ le.
         -- [the last words; three times true; the tokens; the result's; the lender's part; the other tokens; …; _27 at 17; …]
@@ -156,17 +156,17 @@ module _ {M : Type 1} (𝓤 : URA M) (H : Heap 𝓤) (A : Atoms 𝓤) (W : Given
         move ! (0 ∷ 8 ∷ 4 ∷ []) $ use3 W (later (‵ (Held 𝓤 H A W 4096 l₁₀ ν (us .1 .1 .0)))) (zeros-back 𝓤 H A W 4096 l₁₀ ν γ (us .1 .1 .0)) $ await ! tt $ keep ! (0 ∷ 2 ∷ upto 65 7 []) $
         -- [the array's words; κ; the tokens; true; what the other parameters own; _27 at 12; …; that _10 dies, at 46; _9 at 47; …]: the arguments of `batch_copied`
         assigns ! (addr ! (from ! (fld ! refl (hop ! (look-in ! 59 (sub ! 0 refl (whole !))) (stop !))))) (from ! (stop !)) (init ! 34 refl (tt, tt)) $
-        assigns ! (agg ! (and-then ! (load ! (from ! (stop !)) (look ! 34 refl)) (and-then ! (load ! (from ! (fld ! refl (stop !))) (look-in ! 59 (sub ! 1 refl (whole !)))) (no-more !)))) (from ! (stop !)) (init ! 32 refl (wide (are .1 .1 .0 .0 .1 .0))) $
+        assigns ! (agg ! (and-then ! (var ! 34 refl) (and-then ! (load ! (from ! (fld ! refl (stop !))) (look-in ! 59 (sub ! 1 refl (whole !)))) (no-more !)))) (from ! (stop !)) (init ! 32 refl (wide (are .1 .1 .0 .0 .1 .0))) $
         assigns ! (addr ! (from ! (fld ! refl (hop ! (look-in ! 57 (sub ! 0 refl (whole !))) (stop !))))) (from ! (stop !)) (init ! 30 refl (tt, tt)) $
-        assigns ! (agg ! (and-then ! (load ! (from ! (stop !)) (look ! 30 refl)) (and-then ! (load ! (from ! (fld ! refl (stop !))) (look-in ! 57 (sub ! 1 refl (whole !)))) (no-more !)))) (from ! (stop !)) (init ! 28 refl (wide (are .1 .1 .1 .0 .0 .1 .0))) $
+        assigns ! (agg ! (and-then ! (var ! 30 refl) (and-then ! (load ! (from ! (fld ! refl (stop !))) (look-in ! 57 (sub ! 1 refl (whole !)))) (no-more !)))) (from ! (stop !)) (init ! 28 refl (wide (are .1 .1 .1 .0 .0 .1 .0))) $
         assigns ! (addr ! (from ! (fld ! refl (hop ! (look-in ! 55 (sub ! 0 refl (whole !))) (stop !))))) (from ! (stop !)) (init ! 26 refl (tt, tt)) $
-        assigns ! (agg ! (and-then ! (load ! (from ! (stop !)) (look ! 26 refl)) (and-then ! (load ! (from ! (fld ! refl (stop !))) (look-in ! 55 (sub ! 1 refl (whole !)))) (no-more !)))) (from ! (stop !)) (init ! 24 refl (wide (are .1 .1 .1 .1 .0 .0 .1 .0))) $
+        assigns ! (agg ! (and-then ! (var ! 26 refl) (and-then ! (load ! (from ! (fld ! refl (stop !))) (look-in ! 55 (sub ! 1 refl (whole !)))) (no-more !)))) (from ! (stop !)) (init ! 24 refl (wide (are .1 .1 .1 .1 .0 .0 .1 .0))) $
         assigns ! (addr ! (from ! (fld ! refl (hop ! (look-in ! 51 (sub ! 0 refl (whole !))) (stop !))))) (from ! (stop !)) (init ! 22 refl (tt, tt)) $
-        assigns ! (agg ! (and-then ! (load ! (from ! (stop !)) (look ! 22 refl)) (and-then ! (load ! (from ! (fld ! refl (stop !))) (look-in ! 51 (sub ! 1 refl (whole !)))) (no-more !)))) (from ! (stop !)) (init ! 20 refl (wide (are .1 .1 .1 .1 .1 .1 .0 .0 .1 .0))) $
+        assigns ! (agg ! (and-then ! (var ! 22 refl) (and-then ! (load ! (from ! (fld ! refl (stop !))) (look-in ! 51 (sub ! 1 refl (whole !)))) (no-more !)))) (from ! (stop !)) (init ! 20 refl (wide (are .1 .1 .1 .1 .1 .1 .0 .0 .1 .0))) $
         assigns ! (addr ! (from ! (fld ! refl (hop ! (look-in ! 49 (sub ! 0 refl (whole !))) (stop !))))) (from ! (stop !)) (init ! 18 refl (tt, tt)) $
-        assigns ! (agg ! (and-then ! (load ! (from ! (stop !)) (look ! 18 refl)) (and-then ! (load ! (from ! (fld ! refl (stop !))) (look-in ! 49 (sub ! 1 refl (whole !)))) (no-more !)))) (from ! (stop !)) (init ! 16 refl (wide (are .1 .1 .1 .1 .1 .1 .1 .0 .0 .1 .0))) $
+        assigns ! (agg ! (and-then ! (var ! 18 refl) (and-then ! (load ! (from ! (fld ! refl (stop !))) (look-in ! 49 (sub ! 1 refl (whole !)))) (no-more !)))) (from ! (stop !)) (init ! 16 refl (wide (are .1 .1 .1 .1 .1 .1 .1 .0 .0 .1 .0))) $
         assigns ! (addr ! (from ! (stop !))) (from ! (stop !)) (init ! 14 refl (tt, tt)) $
-        assigns ! (agg ! (and-then ! (load ! (from ! (stop !)) (look ! 14 refl)) (and-then ! (big-lit ! (record { fits = lit< tt })) (no-more !)))) (from ! (stop !)) (init ! 12 refl (wide (lit< tt))) $
+        assigns ! (agg ! (and-then ! (var ! 14 refl) (and-then ! (big-lit ! (record { fits = lit< tt })) (no-more !)))) (from ! (stop !)) (init ! 12 refl (wide (lit< tt))) $
         assigns ! (of-opd ! (load ! (from ! (fld ! refl (stop !))) (look-in ! 47 (sub ! 1 refl (whole !))))) (from ! (stop !)) (store ! 42 refl (tt, record { fits = are .1 .1 .1 .1 .1 .1 .1 .1 .0 .0 .1 .0 })) $
         lft-new ! tt (λ ν′. move ! (1 ∷ []) $ use1 W (later (some (λ (γ′ : GName). ‵ (Words 𝓤 H A W 4096 l₁₀ ν′ (us .1 .1 .0) 4096 γ′) ⊛ ‵ (flent (ν′ ∷ []) (Held 𝓤 H A W 4096 l₁₀ ν′ (us .1 .1 .0)))))) (lends-words 𝓤 H A W 4096 l₁₀ ν′ (us .1 .1 .0) (long (us .1 .1 .0) le) (subst (Room u32) (sym (long (us .1 .1 .0) le)) (lit< tt, lit< tt))) $ await ! tt $ pick ! (λ γ′. split ! $
         -- [the `&[u32]`; the lender's part; ν′; κ; the tokens; true; what the other parameters own; _27 at 14; …]
@@ -174,7 +174,7 @@ module _ {M : Type 1} (𝓤 : URA M) (H : Heap 𝓤) (A : Atoms 𝓤) (W : Given
         move ! (4 ∷ 2 ∷ []) $ use2 W (raw (tokens 𝓤 H A W 7 (snoc 6 κs (ν′ ∷ [])) (snoc 6 qs fullShare))) (token-in 𝓤 H A W (ν′ ∷ []) fullShare 6 κs qs) $
         use2 W (raw (Core 𝓤 H A at-mem run .pre (to-core (us .1 .1 .0) ν′ l₁₀ γ′))) (goes-core (us .1 .1 .0) (long (us .1 .1 .0) le) ν′ l₁₀ γ′) $
         -- [the call's pre; the lender's part; κ; _27 at 3; …; that _10 dies, at 37; _9 at 38; …]
-        calls-at ! (fmOf 𝓤 H (W .laws) 𝓣) (Core 𝓤 H A at-mem run) known-b (to-core (us .1 .1 .0) ν′ l₁₀ γ′) (and-then ! (load ! (from ! (stop !)) (look ! 54 refl)) (and-then ! (load ! (from ! (stop !)) (look ! 52 refl)) (and-then ! (load ! (from ! (stop !)) (look ! 23 refl)) (and-then ! (load ! (from ! (stop !)) (look ! 19 refl)) (and-then ! (load ! (from ! (stop !)) (look ! 15 refl)) (and-then ! (load ! (from ! (stop !)) (look ! 44 refl)) (and-then ! (load ! (from ! (stop !)) (look ! 11 refl)) (and-then ! (load ! (from ! (stop !)) (look ! 7 refl)) (and-then ! (load ! (from ! (stop !)) (look ! 3 refl)) (and-then ! (load ! (from ! (stop !)) (look ! 33 refl)) (no-more !))))))))))) (λ w₂.
+        calls-at ! (fmOf 𝓤 H (W .laws) 𝓣) (Core 𝓤 H A at-mem run) known-b (to-core (us .1 .1 .0) ν′ l₁₀ γ′) (and-then ! (var ! 54 refl) (and-then ! (var ! 52 refl) (and-then ! (var ! 23 refl) (and-then ! (var ! 19 refl) (and-then ! (var ! 15 refl) (and-then ! (var ! 44 refl) (and-then ! (var ! 11 refl) (and-then ! (var ! 7 refl) (and-then ! (var ! 3 refl) (and-then ! (var ! 33 refl) (no-more !))))))))))) (λ w₂.
         gave ! tt core.ended (core.clauses 𝓤 H A at-mem run) (to-core (us .1 .1 .0) ν′ l₁₀ γ′) w₂ (λ r xs. move ! (3 ∷ []) $ heard ! (Told (us .1 .1 .0) r (xs .1 .1 .0) (xs .1 .1 .1 .0) (xs .1 .1 .1 .1 .0) (xs .1 .1 .1 .1 .1 .1 .0) (xs .1 .1 .1 .1 .1 .1 .1 .0)) (λ e.
         move ! (2 ∷ []) $ fsplit ! $ move ! (1 ∷ []) $ fsplit ! $ move ! (1 ∷ []) $ fsplit ! $ move ! (1 ∷ []) $ fsplit ! $ move ! (1 ∷ []) $ fsplit ! $ move ! (1 ∷ []) $ fsplit ! $ move ! (1 ∷ []) $ fsplit ! $ move ! (1 ∷ []) $ fsplit ! $ move ! (1 ∷ []) $ fsplit ! $ move ! (1 ∷ []) $ move ! (2 ∷ 0 ∷ []) $ fjoin ! $ move ! (2 ∷ 0 ∷ []) $ fjoin ! $ move ! (2 ∷ 0 ∷ []) $ fjoin ! $ move ! (2 ∷ 0 ∷ []) $ fjoin ! $ move ! (2 ∷ 0 ∷ []) $ fjoin ! $ move ! (2 ∷ 0 ∷ []) $ fjoin ! $ move ! (2 ∷ 0 ∷ []) $ fjoin ! $ move ! (2 ∷ 0 ∷ []) $ fjoin ! $
         -- [what is left of the parameters; true; the tokens; the reply's; the lender's part; κ; _27 at 6; …; _0 at 59; …]

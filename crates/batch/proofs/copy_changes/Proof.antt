@@ -9,7 +9,7 @@ use mathlib.Core.WellFounded.{WellFounded, InvImage·wf}
 use lib.WfN.{Nat·lt-wfRel}
 use lib.Dec.{T as Lies, ltb→lt, nltb→le}
 use Rattle.run.proofs.Kit.{URA, fullShare, Ty, named, w32, w64, tyInt, Val, vunit, vint, vptr, SProp, ent, sep, id⊢, Lft, GName, Share, Fml, ftrue, fat, froom, flft, fres, Memory, Routine, Heap, Env, WpFn, Tables, Atoms, sem, Fun, givenOf, tables, tablesOf, Given, Item, ‵, raw, some, later, _⊛_, _$_, _∵_, !, qed, move, keep, use1, use2, use3, split, join, pick, rewrite, fsplit, fjoin, feqL, feqI, suffices, frame, await, done, agg, whole, sub, look-in, look, look-raw, init, store, forget, stop, hop, fld, from, load, lit, unit-lit, addr, of-opd, and-then, no-more, assigns, land, returns, enter, alloc1, alloc0, params1, pass1, pass0, free1, free0, arr-parts, lft-new, lft-end, fmOf, RattleType, owns, Is, shows, shares, uint-makes, uint-vals, nothing-lawful, u32, usize, unit, RefT, sliceVal, ShrSlice, MutSlice, Room, at-slice, heres, codedHoleys, owned, peeks, heard, nothing, calls-at, onEntry, tripleOf, Contract, Triple, entered, cited, says, needs, ends-at}
-use Rattle.run.proofs.Walking.{_⨾_, Params, number, shared, kept-slice, stays, walkFor, boundAt, meets, gave, held, downs, upto, wide}
+use Rattle.run.proofs.Walking.{_⨾_, Params, number, shared, kept-slice, stays, walkFor, boundAt, meets, gave, held, downs, upto, wide, var}
 use denote.Triple.Clauses.{Clauses}
 use mir.Syntax.{Body, skip, seq, assign, block, loop, cond, switch, exit, return, call, erased, imm, mut, tyBool, tyPtr, tyRef, tyUnit}
 use base.Fml.{fdies, fshr-bor}
@@ -177,29 +177,29 @@ module _ {M : Type 1} (𝓤 : URA M) (H : Heap 𝓤) (A : Atoms 𝓤) (W : Given
     turns : (i : Upto) → Sq W (At i) (runs (𝓣 .C) (𝓣 .Λ) En turn (anyQ (Turned i)))
     unfolding afterTurn
     turns i =
-        assigns ! (bin ! (load ! (from ! (stop !)) (look ! 22 refl)) (load ! (from ! (stop !)) (look ! 26 refl)) tt) (from ! (stop !)) (init ! 18 refl (tt, tt)) $
-        first ! $ branches ! (load ! (from ! (stop !)) (look ! 18 refl))
+        assigns ! (bin ! (var ! 22 refl) (var ! 26 refl) tt) (from ! (stop !)) (init ! 18 refl (tt, tt)) $
+        first ! $ branches ! (var ! 18 refl)
         (λ less. skips ! $ exec ! (𝓣 .C) (𝓣 .Λ) En more (anyQ (Turned i)) $
         -- record i is copied
-        assigns ! (bin ! (load ! (from ! (stop !)) (look ! 22 refl)) (lit ! tt) (record { fits = before less })) (from ! (stop !)) (init ! 16 refl (tt, record { fits = before less })) $
-        assigns ! (bin ! (load ! (from ! (fld ! refl (stop !))) (look-in ! 28 (sub ! 0 refl (whole !)))) (load ! (from ! (stop !)) (look ! 16 refl)) tt) (from ! (stop !)) (init ! 14 refl (tt, tt)) $
+        assigns ! (bin ! (var ! 22 refl) (lit ! tt) (record { fits = before less })) (from ! (stop !)) (init ! 16 refl (tt, record { fits = before less })) $
+        assigns ! (bin ! (load ! (from ! (fld ! refl (stop !))) (look-in ! 28 (sub ! 0 refl (whole !)))) (var ! 16 refl) tt) (from ! (stop !)) (init ! 14 refl (tt, tt)) $
         rewrite ! 14 (λ (p : ℕ). ‵ (fat fullShare tyPtr l₈ 0 (vptr b p))) (sym (place-is 16 o (i .0))) refl $
         looks-slice ! tt R (Is R) (shows 𝓤 H A R) (LL.vals T.the-type T′.the-laws) (LL.tells T.the-type T′.the-laws) (LL.copy T.the-type T′.the-copy 𝓤 H A W) ys b o (λ t.
         elem-out ! R (Is R) (shows 𝓤 H A R) (LL.vals T.the-type T′.the-laws) (LL.tells T.the-type T′.the-laws) t ys (i .0) noChange b o (inside less) (λ g.
         -- [the record; what it owns; the others; what shuts; Frac; the lists; their token; Res; Said; _12 at 9; …]
         assigns ! (of-opd ! (load ! (from ! (hop ! (look ! 17 refl) (stop !))) (look-raw ! 0 refl))) (from ! (stop !)) (init ! 15 refl (LL.lawful T.the-type T′.the-laws 𝓤 H A W .typed (elem (i .0)) (mach (i .0) ∷ []) g .0)) $
-        assigns ! (of-opd ! (load ! (from ! (stop !)) (look ! 15 refl))) (from ! (stop !)) (init ! 23 refl (LL.lawful T.the-type T′.the-laws 𝓤 H A W .typed (elem (i .0)) (mach (i .0) ∷ []) g .0)) $
+        assigns ! (of-opd ! (var ! 15 refl)) (from ! (stop !)) (init ! 23 refl (LL.lawful T.the-type T′.the-laws 𝓤 H A W .typed (elem (i .0)) (mach (i .0) ∷ []) g .0)) $
         elem-back ! R t ys (i .0) noChange (mach (i .0) ∷ []) b o (inside less) $ shuts-slice ! tt R t ys b o $
         -- [the records' token; Frac; the lists; their token; Res; Said; _12 at 6; …]: the lists are lent again, for a lifetime ν of the call
         assigns ! (addr ! (from ! (fld ! refl (hop ! (look-in ! 24 (sub ! 0 refl (whole !))) (stop !))))) (from ! (stop !)) (init ! 8 refl (tt, tt)) $
-        assigns ! (agg ! (and-then ! (load ! (from ! (stop !)) (look ! 8 refl)) (and-then ! (load ! (from ! (fld ! refl (stop !))) (look-in ! 24 (sub ! 1 refl (whole !)))) (no-more !)))) (from ! (stop !)) (init ! 6 refl (wide (room′ .0))) $
+        assigns ! (agg ! (and-then ! (var ! 8 refl) (and-then ! (load ! (from ! (fld ! refl (stop !))) (look-in ! 24 (sub ! 1 refl (whole !)))) (no-more !)))) (from ! (stop !)) (init ! 6 refl (wide (room′ .0))) $
         rewrite ! 2 (λ (m : ℕ). ‵ (Flat (zs (i .0)) m)) (sym (copied-length ys fs (i .0))) refl $
         lft-new ! tt (λ ν. move ! (3 ∷ 4 ∷ []) $
         use2 W (later (some (λ (δ : GName). ‵ (MutSlice (named 0) (ν ∷ []) u32 .own (x′ δ (zs (i .0))) (s′ (length (zs (i .0))) ∷ [])) ⊛ ‵ (LentAgain u32 κ′ (ν ∷ []) q′ γ′ b′ o′ δ (zs (i .0)))))) (lends-again u32 κ′ (ν ∷ []) q′ γ′ b′ o′ 𝓤 H A W (named 1) (named 0) (zs (i .0))) $ await ! tt $ pick ! (λ δ. split ! $
         rewrite ! 0 (λ (m : ℕ). ‵ (MutSlice (named 0) (ν ∷ []) u32 .own (x′ δ (zs (i .0))) (s′ m ∷ []))) (copied-length ys fs (i .0)) refl $
         move ! (2 ∷ 0 ∷ []) $ use2 W (raw (Put 𝓤 H A mem run .pre (to-put (i .0) ν δ))) (goes (i .0) (small less) g ν δ) $
         -- [the call's pre; what is lent; the records' token; Frac; Res; Said; _12 at 6; …]
-        calls-at ! (fmOf 𝓤 H (W .laws) 𝓣) (Put 𝓤 H A mem run) known (to-put (i .0) ν δ) (and-then ! (load ! (from ! (stop !)) (look ! 6 refl)) (and-then ! (load ! (from ! (stop !)) (look ! 22 refl))
+        calls-at ! (fmOf 𝓤 H (W .laws) 𝓣) (Put 𝓤 H A mem run) known (to-put (i .0) ν δ) (and-then ! (var ! 6 refl) (and-then ! (var ! 22 refl)
         (and-then ! (load ! (from ! (fld ! refl (stop !))) (look-in ! 20 (sub ! 0 refl (whole !)))) (and-then ! (load ! (from ! (fld ! refl (stop !))) (look-in ! 20 (sub ! 1 refl (whole !)))) (and-then ! (load ! (from ! (fld ! refl (stop !))) (look-in ! 20 (sub ! 2 refl (whole !)))) (and-then ! (load ! (from ! (fld ! refl (stop !))) (look-in ! 20 (sub ! 3 refl (whole !)))) (no-more !))))))) (λ w.
         -- what `put_change` ensures, at some last words
         gave ! tt put.ended (put.clauses 𝓤 H A mem run) (to-put (i .0) ν δ) w (λ r ls. move ! (3 ∷ []) $ heard ! (ls .0 ≡ putChange (zs (i .0)) (i .0) (recorded (elem (i .0)))) (λ e. move ! (2 ∷ []) $ fsplit ! $ fsplit ! $ move ! (1 ∷ []) $ feqL ! (λ l.
@@ -210,7 +210,7 @@ module _ {M : Type 1} (𝓤 : URA M) (H : Heap 𝓤) (A : Atoms 𝓤) (W : Given
         use3 W (later (‵ (Flat (ls .0) (length (zs (i .0)))) ⊛ ‵ (flft κ′ q′))) (comes-back u32 κ′ (ν ∷ []) q′ γ′ b′ o′ 𝓤 H A W (named 1) (named 0) (zs (i .0)) δ (ls .0) (subst (Room u32) (sym (copied-length ys fs (i .0))) room′) l) $ await ! tt $ split ! $
         rewrite ! 0 (λ (m : ℕ). ‵ (Flat (ls .0) m)) (copied-length ys fs (i .0)) refl $ rewrite ! 0 (λ (us : List ℕ). ‵ (Flat us (length fs))) (e ∙ copied-more ys fs (i .0)) refl $
         -- [the lists; their token; true; the result's; the other last values; the records' token; Frac; Res; Said; _12 at 9; …; _4 at 25; …]
-        assigns-last ! (bin ! (load ! (from ! (stop !)) (look ! 25 refl)) (lit ! tt) (record { fits = fits (next less) })) (from ! (stop !)) (store ! 25 refl (tt, record { fits = fits (next less) })) $
+        assigns-last ! (bin ! (var ! 25 refl) (lit ! tt) (record { fits = fits (next less) })) (from ! (stop !)) (store ! 25 refl (tt, record { fits = fits (next less) })) $
         forget ! 9 refl $ forget ! 11 refl $ forget ! 13 refl $ forget ! 15 refl $ forget ! 17 refl $ forget ! 19 refl $ forget ! 21 refl $ forget ! 23 refl $
         keep ! (6 ∷ 5 ∷ 0 ∷ 1 ∷ upto 28 7 []) $
         again ! Nearer At i (next less) (add-one-dec k (i .0) (small less))))))))))))

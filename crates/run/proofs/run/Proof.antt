@@ -3,7 +3,7 @@
 -- All that the proof knows of `run_from` is that it meets its contract. Assumes nothing.
 use Rattle.property.proofs.Basics.{refl, ℕ, List, [], _∷_}
 use Rattle.run.proofs.Kit.{URA, fullShare, w32, w64, Val, vunit, vptr, SProp, ent, id⊢, Lft, Share, GName, flft, Memory, Routine, Heap, WpFn, Tables, Atoms, Fun, givenOf, tables, tablesOf, Given, ‵, raw, _⊛_, _$_, _∵_, !, qed, move, keep, drop, use1, use2, split, join, fsplit, fjoin, feqI, suffices, frame, done, agg, whole, sub, look-in, look, look-raw, init, stop, hop, fld, from, load, unit-lit, addr, of-opd, and-then, no-more, assigns, land, returns, enter, alloc1, alloc0, params1, pass1, pass0, free0, fmOf, RattleType, Array, mem, Is, shows, uint-vals, u32, u64, RefT, ptr-vals, slice-vals, peeks, spelt, tripleOf, Contract, Triple, calls-at, entered, cited, ends-at}
-use Rattle.run.proofs.Walking.{_⨾_, Params, number, shared, given, given-ref, kept-ref, stays, Holds, walkFor, boundAt, entry, meets, gave, held, downs, snoc, front, last, tokens, token-in, token-out, wide}
+use Rattle.run.proofs.Walking.{_⨾_, Params, number, shared, given, given-ref, kept-ref, stays, Holds, walkFor, boundAt, entry, meets, gave, held, downs, snoc, front, last, tokens, token-in, token-out, wide, var}
 use contract.Lifetimes.{Lfts, Shares}
 use denote.Triple.Entry.{Args}
 use denote.Triple.Clauses.{Clauses}
@@ -75,16 +75,16 @@ module _ {M : Type 1} (𝓤 : URA M) (H : Heap 𝓤) (A : Atoms 𝓤) (W : Given
       move ! (1 ∷ []) $ peeks ! R (Is R) (shows 𝓤 H A R) h (mach ∷ []) (λ g. move ! (1 ∷ 0 ∷ []) $
       -- [the tally's cell; what it owns; the open borrow; obs; auth; the tokens; true; bits at 7; …; _14 at 15; …]
       assigns ! (addr ! (from ! (fld ! refl (hop ! (look-in ! 29 (sub ! 0 refl (whole !))) (stop !))))) (from ! (stop !)) (init ! 21 refl (tt, tt)) $
-      assigns ! (agg ! (and-then ! (load ! (from ! (stop !)) (look ! 21 refl)) (and-then ! (load ! (from ! (fld ! refl (stop !))) (look-in ! 29 (sub ! 1 refl (whole !)))) (no-more !)))) (from ! (stop !)) (init ! 19 refl (wide (are .1 .1 .1 .1 .1 .1 .0 .0 .1 .0))) $
+      assigns ! (agg ! (and-then ! (var ! 21 refl) (and-then ! (load ! (from ! (fld ! refl (stop !))) (look-in ! 29 (sub ! 1 refl (whole !)))) (no-more !)))) (from ! (stop !)) (init ! 19 refl (wide (are .1 .1 .1 .1 .1 .1 .0 .0 .1 .0))) $
       assigns ! (addr ! (from ! (hop ! (look ! 27 refl) (stop !)))) (from ! (stop !)) (init ! 17 refl (tt, tt)) $
       assigns ! (of-opd ! (load ! (from ! (hop ! (look ! 25 refl) (stop !))) (look-raw ! 0 refl))) (from ! (stop !)) (init ! 15 refl (LL.lawful T.the-type T′.the-laws 𝓤 H A W .typed h (mach ∷ []) g .0)) $
       move ! (1 ∷ 6 ∷ []) $ fjoin ! $ move ! (6 ∷ 0 ∷ []) $ fjoin ! $ move ! (6 ∷ 0 ∷ []) $ fjoin ! $ move ! (6 ∷ 0 ∷ []) $ fjoin ! $ move ! (6 ∷ 0 ∷ []) $ fjoin ! $ move ! (6 ∷ 0 ∷ []) $ fjoin ! $ move ! (6 ∷ 0 ∷ []) $ fjoin ! $ move ! (6 ∷ 0 ∷ []) $ fjoin ! $ move ! (6 ∷ 0 ∷ []) $ fjoin ! $ move ! (5 ∷ 0 ∷ []) $ join ! $ move ! (0 ∷ 35 ∷ []) $ use2 W (raw (Inner 𝓤 H A at-mem run .pre inner)) (id⊢ 𝓤 _) $
       -- [the call's pre; the tally's cell; the open borrow; obs; auth; _14 at 5; …]
-      calls-at ! (fmOf 𝓤 H (W .laws) 𝓣) (Inner 𝓤 H A at-mem run) known inner (and-then ! (load ! (from ! (stop !)) (look ! 31 refl)) (and-then ! (load ! (from ! (stop !)) (look ! 29 refl)) (and-then ! (load ! (from ! (stop !)) (look ! 27 refl)) (and-then ! (load ! (from ! (stop !)) (look ! 25 refl)) (and-then ! (load ! (from ! (stop !)) (look ! 23 refl)) (and-then ! (load ! (from ! (stop !)) (look ! 21 refl)) (and-then ! (load ! (from ! (stop !)) (look ! 9 refl)) (and-then ! (load ! (from ! (stop !)) (look ! 7 refl)) (and-then ! (load ! (from ! (stop !)) (look ! 5 refl)) (no-more !)))))))))) (λ w.
+      calls-at ! (fmOf 𝓤 H (W .laws) 𝓣) (Inner 𝓤 H A at-mem run) known inner (and-then ! (var ! 31 refl) (and-then ! (var ! 29 refl) (and-then ! (var ! 27 refl) (and-then ! (var ! 25 refl) (and-then ! (var ! 23 refl) (and-then ! (var ! 21 refl) (and-then ! (var ! 9 refl) (and-then ! (var ! 7 refl) (and-then ! (var ! 5 refl) (no-more !)))))))))) (λ w.
       gave ! tt run-from.ended (run-from.clauses 𝓤 H A at-mem run) inner w (λ r us. move ! (1 ∷ []) $ peeks ! R (Is R) (shows 𝓤 H A R) r (w ∷ []) (λ is.
       -- [what the result owns; the tokens; what is left; what is said; the tally's cell; the open borrow; obs; auth; _14 at 8; …]
       land ! (from ! (stop !)) (init ! 16 refl (LL.lawful T.the-type T′.the-laws 𝓤 H A W .typed r _ is .0)) $
-      assigns ! (of-opd ! (load ! (from ! (stop !)) (look ! 16 refl))) (from ! (hop ! (look ! 18 refl) (stop !))) (store-raw ! 4 refl (LL.lawful T.the-type T′.the-laws 𝓤 H A W .typed r _ is .0)) $
+      assigns ! (of-opd ! (var ! 16 refl)) (from ! (hop ! (look ! 18 refl) (stop !))) (store-raw ! 4 refl (LL.lawful T.the-type T′.the-laws 𝓤 H A W .typed r _ is .0)) $
       assigns ! (of-opd ! (unit-lit !)) (from ! (stop !)) (init ! 36 refl (tt, tt)) $
       move ! (4 ∷ 0 ∷ 5 ∷ 6 ∷ 7 ∷ []) $ closes ! tt R r (w ∷ []) b o $
       -- [obs; the borrow; its token; the tokens; what is left; what is said; _14 at 6; …]

@@ -3,7 +3,7 @@
 -- All that the proof knows of `run` is that it meets its contract. Assumes nothing.
 use Rattle.property.proofs.Basics.{refl, false, ℕ, List, [], _∷_, lit<}
 use Rattle.run.proofs.Kit.{URA, fullShare, named, w32, w64, Val, vptr, SProp, ent, sep, ex, GName, Fml, fsep, fat, flft, fdead, flent, fres, Memory, Routine, Heap, WpFn, Tables, Atoms, sem, Fun, givenOf, tables, tablesOf, Given, ‵, raw, some, later, _⊛_, _$_, _∵_, !, qed, by, move, keep, use1, use2, use3, split, join, pick, fsplit, fjoin, fpick, fpack, suffices, frame, await, updating, at-once, done, agg, whole, sub, look-in, look, init, stop, hop, fld, from, load, lit, addr, of-opd, and-then, no-more, assigns, land, returns, enter, alloc1, alloc0, params1, pass1, pass0, free0, Body, lft-new, lft-end, fmOf, RattleType, Array, mem, cellAt, partOf, Is, shows, uint-vals, nothing-lawful, u32, u64, unit, RefT, MutRef, ptr-vals, slice-vals, owned, peeks, heard, spelt, onEntry, tripleOf, Contract, Triple, calls-at, entered, cited, says, ends-at}
-use Rattle.run.proofs.Walking.{_⨾_, Params, number, shared, given, given-ref, stays, Holds, walkFor, boundAt, entry, meets, gave, held, downs, upto, snoc, tokens, token-in, token-out, wide}
+use Rattle.run.proofs.Walking.{_⨾_, Params, number, shared, given, given-ref, stays, Holds, walkFor, boundAt, entry, meets, gave, held, downs, upto, snoc, tokens, token-in, token-out, wide, var}
 use contract.Lifetimes.{Lfts, Shares}
 use denote.Triple.Entry.{Args}
 use denote.Triple.Clauses.{Clauses}
@@ -104,7 +104,7 @@ module _ {M : Type 1} (𝓤 : URA M) (H : Heap 𝓤) (A : Atoms 𝓤) (W : Given
       -- [_14 at 0; …; local i at 2 (14 - i); the tokens and what the parameters own; what is asked]
       assigns ! (agg ! (and-then ! (lit ! tt) (and-then ! (lit ! tt) (and-then ! (lit ! tt) (no-more !))))) (from ! (stop !)) (init ! 10 refl (LL.lawful T.the-type T′.the-laws 𝓤 H A W .typed noCounts (val noCounts ∷ []) none-made .0)) $
       assigns ! (addr ! (from ! (fld ! refl (hop ! (look-in ! 14 (sub ! 0 refl (whole !))) (stop !))))) (from ! (stop !)) (init ! 6 refl (tt, tt)) $
-      assigns ! (agg ! (and-then ! (load ! (from ! (stop !)) (look ! 6 refl)) (and-then ! (load ! (from ! (fld ! refl (stop !))) (look-in ! 14 (sub ! 1 refl (whole !)))) (no-more !)))) (from ! (stop !)) (init ! 4 refl (wide (are .1 .1 .1 .1 .1 .1 .0 .0 .1 .0))) $
+      assigns ! (agg ! (and-then ! (var ! 6 refl) (and-then ! (load ! (from ! (fld ! refl (stop !))) (look-in ! 14 (sub ! 1 refl (whole !)))) (no-more !)))) (from ! (stop !)) (init ! 4 refl (wide (are .1 .1 .1 .1 .1 .1 .0 .0 .1 .0))) $
       assigns ! (addr ! (from ! (hop ! (look ! 12 refl) (stop !)))) (from ! (stop !)) (init ! 2 refl (tt, tt)) $
       assigns ! (addr ! (from ! (stop !))) (from ! (stop !)) (init ! 0 refl (tt, tt)) $
       -- the tally is lent for ν
@@ -113,7 +113,7 @@ module _ {M : Type 1} (𝓤 : URA M) (H : Heap 𝓤) (A : Atoms 𝓤) (W : Given
       move ! (32 ∷ []) $ split ! $ move ! (0 ∷ 4 ∷ []) $ use2 W (raw (tokens 𝓤 H A W 7 (snoc 6 κs (ν ∷ [])) (snoc 6 qs fullShare))) (token-in 𝓤 H A W (ν ∷ []) fullShare 6 κs qs) $ move ! (1 ∷ []) $ fsplit ! $ move ! (1 ∷ []) $ fsplit ! $ move ! (1 ∷ []) $ fsplit ! $ move ! (1 ∷ []) $ fsplit ! $ move ! (1 ∷ []) $ fsplit ! $ move ! (1 ∷ []) $ fsplit ! $ move ! (1 ∷ []) $ fsplit ! $ move ! (1 ∷ []) $ fsplit ! $ move ! (10 ∷ 1 ∷ []) $ fjoin ! $ move ! (1 ∷ 0 ∷ []) $ fjoin ! $ move ! (1 ∷ 0 ∷ []) $ fjoin ! $ move ! (1 ∷ 0 ∷ []) $ fjoin ! $ move ! (1 ∷ 0 ∷ []) $ fjoin ! $ move ! (1 ∷ 0 ∷ []) $ fjoin ! $ move ! (1 ∷ 0 ∷ []) $ fjoin ! $ move ! (1 ∷ 0 ∷ []) $ fjoin ! $ move ! (1 ∷ 0 ∷ []) $ fjoin ! $ move ! (1 ∷ 0 ∷ []) $ join ! $
       move ! (31 ∷ []) $ heard ! Asked (λ asked. use1 W (raw (Inner 𝓤 H A at-mem run .pre (inner ν l₉ γ))) (goes asked ν l₉ γ) $
       -- [the call's pre; the lender's part; _14 at 2; …; _10 at 10; that _9 dies, at 12; _8 at 13; …]
-      calls-at ! (fmOf 𝓤 H (W .laws) 𝓣) (Inner 𝓤 H A at-mem run) known (inner ν l₉ γ) (and-then ! (load ! (from ! (stop !)) (look ! 27 refl)) (and-then ! (load ! (from ! (stop !)) (look ! 25 refl)) (and-then ! (load ! (from ! (stop !)) (look ! 23 refl)) (and-then ! (load ! (from ! (stop !)) (look ! 21 refl)) (and-then ! (load ! (from ! (stop !)) (look ! 19 refl)) (and-then ! (load ! (from ! (stop !)) (look ! 17 refl)) (and-then ! (load ! (from ! (stop !)) (look ! 6 refl)) (and-then ! (load ! (from ! (stop !)) (look ! 4 refl)) (and-then ! (load ! (from ! (stop !)) (look ! 2 refl)) (no-more !)))))))))) (λ w.
+      calls-at ! (fmOf 𝓤 H (W .laws) 𝓣) (Inner 𝓤 H A at-mem run) known (inner ν l₉ γ) (and-then ! (var ! 27 refl) (and-then ! (var ! 25 refl) (and-then ! (var ! 23 refl) (and-then ! (var ! 21 refl) (and-then ! (var ! 19 refl) (and-then ! (var ! 17 refl) (and-then ! (var ! 6 refl) (and-then ! (var ! 4 refl) (and-then ! (var ! 2 refl) (no-more !)))))))))) (λ w.
       gave ! tt run′.ended (run′.clauses 𝓤 H A at-mem run) (inner ν l₉ γ) w (λ r us. let t : Tally = us .1 .1 .1 .1 .1 .1 .1 .1 .0 in
       use1 W (raw (tokens 𝓤 H A W 6 κs qs) ⊛ ‵ (flft (ν ∷ []) fullShare)) (token-out 𝓤 H A W (ν ∷ []) fullShare 6 κs qs) $ split ! $ move ! (3 ∷ []) $ fsplit ! $ move ! (1 ∷ []) $ fsplit ! $ move ! (1 ∷ []) $ fsplit ! $ move ! (1 ∷ []) $ fsplit ! $ move ! (1 ∷ []) $ fsplit ! $ move ! (1 ∷ []) $ fsplit ! $ move ! (1 ∷ []) $ fsplit ! $ move ! (1 ∷ []) $ fsplit ! $ move ! (1 ∷ []) $ fsplit ! $ move ! (1 ∷ []) $ move ! (2 ∷ 0 ∷ []) $ fjoin ! $ move ! (2 ∷ 0 ∷ []) $ fjoin ! $ move ! (2 ∷ 0 ∷ []) $ fjoin ! $ move ! (2 ∷ 0 ∷ []) $ fjoin ! $ move ! (2 ∷ 0 ∷ []) $ fjoin ! $ move ! (2 ∷ 0 ∷ []) $ fjoin ! $ move ! (2 ∷ 0 ∷ []) $ fjoin ! $ move ! (2 ∷ 0 ∷ []) $ fjoin ! $
       -- [what is left; the last tally; the tokens; ν; the result's; what is said; the lender's part; _14 at 7; …; _10 at 15; …]
@@ -122,7 +122,7 @@ module _ {M : Type 1} (𝓤 : URA M) (H : Heap 𝓤) (A : Atoms 𝓤) (W : Given
       -- [_9; the tally's; the result's; what is left; the tokens; what is said; _14 at 6; …; _10 at 14; that _9 dies, at 16; …]
       move ! (1 ∷ []) $ peeks ! R (Is R) (shows 𝓤 H A R) t (val t ∷ []) (λ it. keep ! (0 ∷ 3 ∷ 4 ∷ 5 ∷ upto 10 6 (1 ∷ upto 19 16 [])) $
       -- [the tally's; what is left; the tokens; what is said; _14 at 4; …; local i at 4 + 2 (14 - i)]
-      assigns ! (of-opd ! (load ! (from ! (stop !)) (look ! 14 refl))) (from ! (stop !)) (init ! 32 refl (LL.lawful T.the-type T′.the-laws 𝓤 H A W .typed t _ it .0)) $
+      assigns ! (of-opd ! (var ! 14 refl)) (from ! (stop !)) (init ! 32 refl (LL.lawful T.the-type T′.the-laws 𝓤 H A W .typed t _ it .0)) $
       returns ! (look ! 32 refl) $ move ! (downs 15 4) $ held ! $ held ! $ held ! $ held ! $ held ! $ held ! $ held ! $ held ! $ held ! $ held ! $ held ! $ held ! $ held ! $ held ! $ held ! $ free0 ! $
       suffices ! _ (ends-at 𝓤 H A counted.ended (stays (counted.ended .signature .params) (counted.ended .kept) params) c W bound (val t) t (tt ⨾ tt ⨾ tt ⨾ tt ⨾ tt ⨾ tt ⨾ us .1 .1 .1 .1 .1 .1 .0 ⨾ us .1 .1 .1 .1 .1 .1 .1 .0 ⨾ tt) (tt ⨾ tt ⨾ tt ⨾ tt ⨾ tt ⨾ tt ⨾ tt ⨾ tt ⨾ tt)) $
       move ! (1 ∷ 0 ∷ []) $ join ! $ move ! (1 ∷ 0 ∷ []) $ join ! $ frame ! $ done !))))))))))))))))))))))
