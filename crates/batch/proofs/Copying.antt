@@ -1,9 +1,11 @@
 -- The words of change records in four lists of 1,024, one after the other: what is put there is read there. Assumes nothing.
-use Rattle.property.proofs.Basics.{_≡_, refl, sym, ap, subst, _∙_, _≢_, List, [], _∷_, map, ℕ, zero, suc, _+_, _-_, _*_, _<_, _≤_, min, add-one, arith, decLt, length, getD, set, take, drop, length-set, length-drop, List·getD-map, length-map, getD-set-same, getD-set-other, getD-take, getD-drop, length-take-le}
+use Rattle.property.proofs.Basics.{_≡_, refl, sym, ap, subst, _∙_, _≢_, List, [], _∷_, map, ℕ, zero, suc, _+_, _-_, _*_, _<_, _≤_, min, add-one, add-zero, arith, decLt, length, getD, set, take, drop, length-set, length-drop, List·getD-map, length-map, getD-set-same, getD-set-other, getD-take, getD-drop, length-take-le}
+use lib.Seq.{ext-getD}
 use native.Mathlib.Nat.{add-sub-cancel-left}
 use Rattle.graph.specs.Limits.{maxBatch}
 use Rattle.network.specs.Change as spec
 use Rattle.items.specs.Code.{change, changes}
+use Rattle.items.proofs.Editing.{changes-length, changes-more}
 use Rattle.batch.specs.Code.{recorded, noChange, putChange, changeAt, copied, Laid}
 use Rattle.batch.specs.declared.Change.{Change}
 
@@ -74,16 +76,11 @@ copied-laid ys xs us k s c e = record {
 -- lists that are as long as the changes, and hold their words place by place, are these changes
 changes-are : (ks ts hs ws : List ℕ) (cs : List spec.Change) → length ks ≡ length cs → length ts ≡ length cs → length hs ≡ length cs → length ws ≡ length cs
     → ((i : ℕ) → i < length cs → change (getD ks i 0) (getD ts i 0) (getD hs i 0) (getD ws i 0) ≡ getD cs i (recorded noChange)) → changes ks ts hs ws ≡ cs
-unfolding changes
-changes-are [] ts hs ws [] a b d e f = refl
-changes-are [] ts hs ws (c ∷ cs) a b d e f = absurd (omega arith)
-changes-are (k ∷ ks) ts hs ws [] a b d e f = absurd (omega arith)
-changes-are (k ∷ ks) [] hs ws (c ∷ cs) a b d e f = absurd (omega arith)
-changes-are (k ∷ ks) (t ∷ ts) [] ws (c ∷ cs) a b d e f = absurd (omega arith)
-changes-are (k ∷ ks) (t ∷ ts) (h ∷ hs) [] (c ∷ cs) a b d e f = absurd (omega arith)
-changes-are (k ∷ ks) (t ∷ ts) (h ∷ hs) (w ∷ ws) (c ∷ cs) a b d e f =
-    let r : changes ks ts hs ws ≡ cs = changes-are ks ts hs ws cs (omega arith) (omega arith) (omega arith) (omega arith) (λ i l. f (suc i) (omega arith)) in
-    rw (f 0 (omega arith), r)
+changes-are ks ts hs ws cs a b d e f =
+    let xs = changes ks ts hs ws in
+    let m : length xs ≡ length cs = omega (arith, changes-length ks ts hs ws) in
+    ext-getD (recorded noChange) xs cs m
+    (λ i l. sym (ap (λ k. getD xs k (recorded noChange)) (add-zero i)) ∙ sym (getD-drop i xs 0 (recorded noChange)) ∙ ap (λ zs. getD zs 0 (recorded noChange)) (changes-more ks ts hs ws i l) ∙ f i (omega arith))
 
 -- a list of the four, from place m of xs on
 abbrev listAt : ℕ → ℕ → List ℕ → List ℕ

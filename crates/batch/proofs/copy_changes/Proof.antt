@@ -64,14 +64,8 @@ then (exit n) = skip
 then return = skip
 then (call f xs d) = skip
 
-abbrev turn : Body
-turn = Mir.turn-1
-
 abbrev more : Body
-more = then (then turn)
-
-abbrev rest : Body
-rest = Mir.t-3
+more = then (then Mir.turn-1)
 
 -- the types of the locals
 abbrev word : Ty
@@ -172,9 +166,9 @@ module _ {M : Type 1} (𝓤 : URA M) (H : Heap 𝓤) (A : Atoms 𝓤) (W : Given
         ∷ ‵ (fat fullShare slice l₁ 0 s) ∷ ‵ (fdies slice l₁) ∷ ‵ (froom tyUnit l₀ 0) ∷ ‵ (fdies tyUnit l₀) ∷ []
 
     abbrev Turned : Upto → Out → SProp 𝓤
-    Turned i = afterTurn 𝓤 H (Below 𝓤 H A Nearer At i) (afterBlock 𝓤 H (afterSeq 𝓤 H (Wp 𝓤 H (𝓣 .C) (𝓣 .Λ) En rest (atReturn 𝓤 H En (Walk .post bound))) (atReturn 𝓤 H En (Walk .post bound))))
+    Turned i = afterTurn 𝓤 H (Below 𝓤 H A Nearer At i) (afterBlock 𝓤 H (afterSeq 𝓤 H (Wp 𝓤 H (𝓣 .C) (𝓣 .Λ) En Mir.t-3 (atReturn 𝓤 H En (Walk .post bound))) (atReturn 𝓤 H En (Walk .post bound))))
 
-    turns : (i : Upto) → Sq W (At i) (runs (𝓣 .C) (𝓣 .Λ) En turn (anyQ (Turned i)))
+    turns : (i : Upto) → Sq W (At i) (runs (𝓣 .C) (𝓣 .Λ) En Mir.turn-1 (anyQ (Turned i)))
     unfolding afterTurn
     turns i =
         assigns ! (bin ! (var ! 22 refl) (var ! 26 refl) tt) (from ! (stop !)) (init ! 18 refl (tt, tt)) $
@@ -214,7 +208,7 @@ module _ {M : Type 1} (𝓤 : URA M) (H : Heap 𝓤) (A : Atoms 𝓤) (W : Given
         forget ! 9 refl $ forget ! 11 refl $ forget ! 13 refl $ forget ! 15 refl $ forget ! 17 refl $ forget ! 19 refl $ forget ! 21 refl $ forget ! 23 refl $
         keep ! (6 ∷ 5 ∷ 0 ∷ 1 ∷ upto 28 7 []) $
         again ! Nearer At i (next less) (add-one-dec k (i .0) (small less))))))))))))
-        (λ over. jumps ! $ exec ! (𝓣 .C) (𝓣 .Λ) En rest (atRet En (Walk .post bound)) $
+        (λ over. jumps ! $ exec ! (𝓣 .C) (𝓣 .Λ) En Mir.t-3 (atRet En (Walk .post bound)) $
         assigns ! (of-opd ! (unit-lit !)) (from ! (stop !)) (init ! 30 refl (tt, tt)) $
         returns ! (look ! 30 refl) $ move ! (downs 13 6) $ held ! $ held ! $ held ! $ held ! $ held ! $ free1 ! $ held ! $ free1 ! $ free1 ! $ free1 ! $ free1 ! $ free1 ! $ free1 ! $ free0 ! $
         let e : i .0 ≡ k = le-antisymm (i .1) (nltb→le (i .0) k over) in
