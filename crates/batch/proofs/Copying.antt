@@ -92,15 +92,11 @@ list-length k m xs h = length-take-le k (drop m xs) (let z = length-drop m xs in
 list-word : (k m : ℕ) (xs : List ℕ) (i : ℕ) → i < k → getD (listAt k m xs) i 0 ≡ getD xs (m + i) 0
 list-word k m xs i h = getD-take k (drop m xs) i 0 h ∙ getD-drop m xs i 0
 
-laid-changes : (k : ℕ) (cs : List spec.Change) (xs : List ℕ) → Laid k cs xs → k ≤ maxBatch → length xs ≡ 4 * maxBatch
-    → changes (take k xs) (listAt k maxBatch xs) (listAt k (2 * maxBatch) xs) (listAt k (3 * maxBatch) xs) ≡ cs
-laid-changes k cs xs l f e =
-    changes-are (take k xs) (listAt k maxBatch xs) (listAt k (2 * maxBatch) xs) (listAt k (3 * maxBatch) xs) cs
-    (length-take-le k xs (omega arith) ∙ sym (l .size)) (list-length k maxBatch xs (omega arith) ∙ sym (l .size)) (list-length k (2 * maxBatch) xs (omega arith) ∙ sym (l .size)) (list-length k (3 * maxBatch) xs (omega arith) ∙ sym (l .size))
-    (λ i h. let j : i < k = subst (λ (m : ℕ). i < m) (l .size) h in
-    rw (getD-take k xs i 0 j, list-word k maxBatch xs i j, list-word k (2 * maxBatch) xs i j, list-word k (3 * maxBatch) xs i j) (l .words i j (omega arith)))
-
--- the same of parts that go from place m to place m + k
+-- the parts that go from place m to place m + k hold the changes
 pub laid-parts : (k : ℕ) (cs : List spec.Change) (xs : List ℕ) → Laid k cs xs → k ≤ maxBatch → length xs ≡ 4 * maxBatch
     → changes (take k xs) (listAt (maxBatch + k - maxBatch) maxBatch xs) (listAt (2 * maxBatch + k - 2 * maxBatch) (2 * maxBatch) xs) (listAt (3 * maxBatch + k - 3 * maxBatch) (3 * maxBatch) xs) ≡ cs
-laid-parts k cs xs l f e = rw (add-sub-cancel-left maxBatch k, add-sub-cancel-left (2 * maxBatch) k, add-sub-cancel-left (3 * maxBatch) k) (laid-changes k cs xs l f e)
+laid-parts k cs xs l f e = rw (add-sub-cancel-left maxBatch k, add-sub-cancel-left (2 * maxBatch) k, add-sub-cancel-left (3 * maxBatch) k)
+    (changes-are (take k xs) (listAt k maxBatch xs) (listAt k (2 * maxBatch) xs) (listAt k (3 * maxBatch) xs) cs
+    (length-take-le k xs (omega arith) ∙ sym (l .size)) (list-length k maxBatch xs (omega arith) ∙ sym (l .size)) (list-length k (2 * maxBatch) xs (omega arith) ∙ sym (l .size)) (list-length k (3 * maxBatch) xs (omega arith) ∙ sym (l .size))
+    (λ i h. let j : i < k = subst (λ (m : ℕ). i < m) (l .size) h in
+    rw (getD-take k xs i 0 j, list-word k maxBatch xs i j, list-word k (2 * maxBatch) xs i j, list-word k (3 * maxBatch) xs i j) (l .words i j (omega arith))))
