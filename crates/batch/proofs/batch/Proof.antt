@@ -182,7 +182,7 @@ module _ {M : Type 1} (𝓤 : URA M) (H : Heap 𝓤) (A : Atoms 𝓤) (W : Given
         move ! (3 ∷ []) $ use1 W (raw (tokens 𝓤 H A W 6 κs qs) ⊛ ‵ (flft (ν′ ∷ []) fullShare)) (token-out 𝓤 H A W (ν′ ∷ []) fullShare 6 κs qs) $ split ! $ move ! (1 ∷ []) $ lft-end ! tt $
         move ! (0 ∷ 5 ∷ []) $ use2 W (later (‵ (froom (words-ty 4096) l₁₀ 0))) (words-back 𝓤 H A W 4096 l₁₀ ν′ (us .1 .1 .0) (long (us .1 .1 .0) le)) $ await ! tt $ keep ! (2 ∷ 3 ∷ 1 ∷ 5 ∷ upto 34 6 (0 ∷ upto 21 40 [])) $
         -- [the reply's; what is left of the parameters; the tokens; κ; _27 at 4; …; local i at 4 + 2 (27 - i)]
-        returns ! (look ! 58 refl) $ move ! (downs 7 46) $ held ! $ held ! $ held ! $ held ! $ held ! $ held ! $ held ! $ move ! (downs 7 32) $ held ! $ held ! $ held ! $ free1 ! $ held ! $ held ! $ held ! $ move ! (downs 7 18) $ held ! $ held ! $ held ! $ held ! $ held ! $ held ! $ held ! $ move ! (downs 7 4) $ held ! $ held ! $ held ! $ held ! $ held ! $ held ! $ held ! $ free0 ! $
+        returns ! (look ! 58 refl) $ move ! (downs 4 52) $ held ! $ held ! $ held ! $ held ! $ move ! (downs 4 44) $ held ! $ held ! $ held ! $ held ! $ move ! (downs 4 36) $ held ! $ held ! $ free1 ! $ held ! $ move ! (downs 4 28) $ held ! $ held ! $ held ! $ held ! $ move ! (downs 4 20) $ held ! $ held ! $ held ! $ held ! $ move ! (downs 4 12) $ held ! $ held ! $ held ! $ held ! $ move ! (downs 4 4) $ held ! $ held ! $ held ! $ held ! $ free0 ! $
         suffices ! _ (ends-at 𝓤 H A batch′.ended (stays (batch′.ended .signature .params) (batch′.ended .kept) params) c W bound w₂ r (tt ⨾ tt ⨾ xs .1 .1 .0 ⨾ xs .1 .1 .1 .0 ⨾ xs .1 .1 .1 .1 .0 ⨾ tt ⨾ xs .1 .1 .1 .1 .1 .1 .0 ⨾ xs .1 .1 .1 .1 .1 .1 .1 .0 ⨾ tt ⨾ tt) (tt ⨾ tt ⨾ tt ⨾ tt ⨾ tt ⨾ tt ⨾ tt ⨾ tt ⨾ tt ⨾ tt)) $
         says ! (e (map recorded (ys .now)) (copied-laid (ys .now) (zeros 4096) (us .1 .1 .0) k ek ec (length-replicate {A = ℕ} 4096 0))) $
         move ! (2 ∷ 3 ∷ []) $ use2 W (raw (tokens 𝓤 H A W 7 (snoc 6 κs κ) (snoc 6 qs q))) (token-in 𝓤 H A W κ q 6 κs qs) $ move ! (2 ∷ 1 ∷ []) $ join ! $ move ! (1 ∷ 0 ∷ []) $ join ! $ done !)))))))))))))))))))))))))))))))))))))))))))))

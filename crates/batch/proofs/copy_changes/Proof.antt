@@ -210,7 +210,7 @@ module _ {M : Type 1} (𝓤 : URA M) (H : Heap 𝓤) (A : Atoms 𝓤) (W : Given
         again ! Nearer At i (next less) (add-one-dec k (i .0) (small less))))))))))))
         (λ over. jumps ! $ exec ! (𝓣 .C) (𝓣 .Λ) En Mir.t-3 (atRet En (Walk .post bound)) $
         assigns ! (of-opd ! (unit-lit !)) (from ! (stop !)) (init ! 30 refl (tt, tt)) $
-        returns ! (look ! 30 refl) $ move ! (downs 13 6) $ held ! $ held ! $ held ! $ held ! $ held ! $ free1 ! $ held ! $ free1 ! $ free1 ! $ free1 ! $ free1 ! $ free1 ! $ free1 ! $ free0 ! $
+        returns ! (look ! 30 refl) $ move ! (downs 4 24) $ held ! $ held ! $ held ! $ held ! $ move ! (downs 3 18) $ held ! $ free1 ! $ held ! $ move ! (downs 3 12) $ free1 ! $ free1 ! $ free1 ! $ move ! (downs 3 6) $ free1 ! $ free1 ! $ free1 ! $ free0 ! $
         let e : i .0 ≡ k = le-antisymm (i .1) (nltb→le (i .0) k over) in
         suffices ! _ (ends-at 𝓤 H A copy.ended (stays (copy.ended .signature .params) (copy.ended .kept) params) c W bound vunit tt (tt ⨾ tt ⨾ zs (i .0) ⨾ tt) (tt ⨾ tt ⨾ copied-length ys fs (i .0) ⨾ tt)) $ says ! (ap zs e) $
         keep ! (1 ∷ 3 ∷ 2 ∷ []) $ nothing ! $ move ! (2 ∷ 0 ∷ []) $ join ! $ move ! (1 ∷ 0 ∷ []) $ join ! $ frame ! $

@@ -88,7 +88,7 @@ module _ {M : Type 1} (𝓤 : URA M) (H : Heap 𝓤) (A : Atoms 𝓤) (W : Given
       assigns ! (of-opd ! (unit-lit !)) (from ! (stop !)) (init ! 36 refl (tt, tt)) $
       move ! (4 ∷ 0 ∷ 5 ∷ 6 ∷ 7 ∷ []) $ closes ! tt R r (w ∷ []) b o $
       -- [obs; the borrow; its token; the tokens; what is left; what is said; _14 at 6; …]
-      returns ! (look ! 34 refl) $ move ! (downs 15 6) $ held ! $ held ! $ held ! $ held ! $ held ! $ held ! $ held ! $ held ! $ held ! $ held ! $ held ! $ held ! $ held ! $ held ! $ held ! $ free0 ! $
+      returns ! (look ! 34 refl) $ move ! (downs 3 30) $ held ! $ held ! $ held ! $ move ! (downs 3 24) $ held ! $ held ! $ held ! $ move ! (downs 3 18) $ held ! $ held ! $ held ! $ move ! (downs 3 12) $ held ! $ held ! $ held ! $ move ! (downs 3 6) $ held ! $ held ! $ held ! $ free0 ! $
       suffices ! _ (ends-at 𝓤 H A run′.ended (stays (run′.ended .signature .params) (run′.ended .kept) params) c W bound vunit tt (tt ⨾ tt ⨾ tt ⨾ tt ⨾ tt ⨾ tt ⨾ us .1 .1 .1 .1 .1 .1 .0 ⨾ us .1 .1 .1 .1 .1 .1 .1 .0 ⨾ r ⨾ tt) (tt ⨾ tt ⨾ tt ⨾ tt ⨾ tt ⨾ tt ⨾ tt ⨾ tt ⨾ tt ⨾ tt)) $
       move ! (3 ∷ 2 ∷ []) $ use2 W (raw (tokens 𝓤 H A W 7 (snoc 6 κs κ) (snoc 6 qs q))) (token-in 𝓤 H A W κ q 6 κs qs) $
       -- [the tokens; obs; the borrow; what `run_from` leaves; what it says]: the borrow stands in the place of the tally that `run_from` was passed

@@ -123,7 +123,7 @@ module _ {M : Type 1} (𝓤 : URA M) (H : Heap 𝓤) (A : Atoms 𝓤) (W : Given
       move ! (1 ∷ []) $ peeks ! R (Is R) (shows 𝓤 H A R) t (val t ∷ []) (λ it. keep ! (0 ∷ 3 ∷ 4 ∷ 5 ∷ upto 10 6 (1 ∷ upto 19 16 [])) $
       -- [the tally's; what is left; the tokens; what is said; _14 at 4; …; local i at 4 + 2 (14 - i)]
       assigns ! (of-opd ! (var ! 14 refl)) (from ! (stop !)) (init ! 32 refl (LL.lawful T.the-type T′.the-laws 𝓤 H A W .typed t _ it .0)) $
-      returns ! (look ! 32 refl) $ move ! (downs 15 4) $ held ! $ held ! $ held ! $ held ! $ held ! $ held ! $ held ! $ held ! $ held ! $ held ! $ held ! $ held ! $ held ! $ held ! $ held ! $ free0 ! $
+      returns ! (look ! 32 refl) $ move ! (downs 3 28) $ held ! $ held ! $ held ! $ move ! (downs 3 22) $ held ! $ held ! $ held ! $ move ! (downs 3 16) $ held ! $ held ! $ held ! $ move ! (downs 3 10) $ held ! $ held ! $ held ! $ move ! (downs 3 4) $ held ! $ held ! $ held ! $ free0 ! $
       suffices ! _ (ends-at 𝓤 H A counted.ended (stays (counted.ended .signature .params) (counted.ended .kept) params) c W bound (val t) t (tt ⨾ tt ⨾ tt ⨾ tt ⨾ tt ⨾ tt ⨾ us .1 .1 .1 .1 .1 .1 .0 ⨾ us .1 .1 .1 .1 .1 .1 .1 .0 ⨾ tt) (tt ⨾ tt ⨾ tt ⨾ tt ⨾ tt ⨾ tt ⨾ tt ⨾ tt ⨾ tt)) $
       move ! (1 ∷ 0 ∷ []) $ join ! $ move ! (1 ∷ 0 ∷ []) $ join ! $ frame ! $ done !))))))))))))))))))))))
 
