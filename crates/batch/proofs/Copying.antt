@@ -1,9 +1,11 @@
 -- The words of change records in four lists of 1,024, one after the other: what is put there is read there. Assumes nothing.
-use Rattle.property.proofs.Basics.{_≡_, refl, sym, ap, subst, _∙_, _≢_, List, [], _∷_, map, ℕ, zero, suc, _+_, _-_, _*_, _<_, _≤_, min, add-one, arith, decLt, length, getD, set, take, drop, length-set, length-drop, List·getD-map, length-map, getD-set-same, getD-set-other, getD-take, getD-drop, length-take-le}
+use Rattle.property.proofs.Basics.{_≡_, refl, sym, ap, subst, _∙_, _≢_, List, [], _∷_, map, ℕ, zero, suc, _+_, _-_, _*_, _<_, _≤_, min, add-one, add-zero, arith, decLt, length, getD, set, take, drop, length-set, length-drop, List·getD-map, length-map, getD-set-same, getD-set-other, getD-take, getD-drop, length-take-le}
+use lib.Seq.{ext-getD}
 use native.Mathlib.Nat.{add-sub-cancel-left}
 use Rattle.graph.specs.Limits.{maxBatch}
 use Rattle.network.specs.Change as spec
 use Rattle.items.specs.Code.{change, changes}
+use Rattle.items.proofs.Editing.{changes-length, changes-more}
 use Rattle.batch.specs.Code.{recorded, noChange, putChange, changeAt, copied, Laid}
 use Rattle.batch.specs.declared.Change.{Change}
 
@@ -20,60 +22,21 @@ copied-more ys xs i = sym (ap (copied ys xs) (add-one i))
 skip3 : (xs : List ℕ) (i j k a b c m : ℕ) → m ≢ i → m ≢ j → m ≢ k → getD (set (set (set xs i a) j b) k c) m 0 ≡ getD xs m 0
 skip3 xs i j k a b c m p q r = getD-set-other (set (set xs i a) j b) k m c 0 r ∙ getD-set-other (set xs i a) j m b 0 q ∙ getD-set-other xs i m a 0 p
 
--- four places that differ: what is read there is what was put there
-module _ (xs : List ℕ) (i j k l a b c d : ℕ) (i-in : i < length xs) (j-in : j < length xs) (k-in : k < length xs) (l-in : l < length xs) (ij : i < j) (jk : j < k) (kl : k < l) where
-  abbrev put : List ℕ
-  put = set (set (set (set xs i a) j b) k c) l d
-
-  read-first : getD put i 0 ≡ a
-  read-first = skip3 (set xs i a) j k l b c d i (λ e. omega (arith, e, ij)) (λ e. omega (arith, e, ij, jk)) (λ e. omega (arith, e, ij, jk, kl)) ∙ getD-set-same xs i a 0 i-in
-
-  read-second : getD put j 0 ≡ b
-  read-second =
-      getD-set-other (set (set (set xs i a) j b) k c) l j d 0 (λ e. omega (arith, e, jk, kl)) ∙ getD-set-other (set (set xs i a) j b) k j c 0 (λ e. omega (arith, e, jk))
-      ∙ getD-set-same (set xs i a) j b 0 (simp length-set j-in)
-
-  read-third : getD put k 0 ≡ c
-  read-third = getD-set-other (set (set (set xs i a) j b) k c) l k d 0 (λ e. omega (arith, e, kl)) ∙ getD-set-same (set (set xs i a) j b) k c 0 (simp length-set k-in)
-
-  read-fourth : getD put l 0 ≡ d
-  read-fourth = getD-set-same (set (set (set xs i a) j b) k c) l d 0 (simp length-set l-in)
-
 pub put-there : (xs : List ℕ) (i : ℕ) (c : spec.Change) → i < maxBatch → length xs ≡ 4 * maxBatch → changeAt (putChange xs i c) i ≡ c
-put-there xs i c f e = rw (first, second, third, fourth)
-  where
-    a : i < length xs
-    a = omega (arith, f, e)
-
-    b : maxBatch + i < length xs
-    b = omega (arith, f, e)
-
-    d : 2 * maxBatch + i < length xs
-    d = omega (arith, f, e)
-
-    g : 3 * maxBatch + i < length xs
-    g = omega (arith, f, e)
-
-    ij : i < maxBatch + i
-    ij = omega arith
-
-    jk : maxBatch + i < 2 * maxBatch + i
-    jk = omega arith
-
-    kl : 2 * maxBatch + i < 3 * maxBatch + i
-    kl = omega arith
-
-    first : getD (putChange xs i c) i 0 ≡ c .kind
-    first = read-first xs i (maxBatch + i) (2 * maxBatch + i) (3 * maxBatch + i) (c .kind) (c .tail) (c .head) (c .weight) a b d g ij jk kl
-
-    second : getD (putChange xs i c) (maxBatch + i) 0 ≡ c .tail
-    second = read-second xs i (maxBatch + i) (2 * maxBatch + i) (3 * maxBatch + i) (c .kind) (c .tail) (c .head) (c .weight) a b d g ij jk kl
-
-    third : getD (putChange xs i c) (2 * maxBatch + i) 0 ≡ c .head
-    third = read-third xs i (maxBatch + i) (2 * maxBatch + i) (3 * maxBatch + i) (c .kind) (c .tail) (c .head) (c .weight) a b d g ij jk kl
-
-    fourth : getD (putChange xs i c) (3 * maxBatch + i) 0 ≡ c .weight
-    fourth = read-fourth xs i (maxBatch + i) (2 * maxBatch + i) (3 * maxBatch + i) (c .kind) (c .tail) (c .head) (c .weight) a b d g ij jk kl
+put-there xs i c f e =
+    let one = set xs i (c .kind) in
+    let two = set one (maxBatch + i) (c .tail) in
+    let three = set two (2 * maxBatch + i) (c .head) in
+    rw (
+      skip3 one (maxBatch + i) (2 * maxBatch + i) (3 * maxBatch + i) (c .tail) (c .head) (c .weight) i (λ h. omega arith) (λ h. omega arith) (λ h. omega arith),
+      getD-set-same xs i (c .kind) 0 (omega arith),
+      getD-set-other three (3 * maxBatch + i) (maxBatch + i) (c .weight) 0 (λ h. omega arith),
+      getD-set-other two (2 * maxBatch + i) (maxBatch + i) (c .head) 0 (λ h. omega arith),
+      getD-set-same one (maxBatch + i) (c .tail) 0 (simp length-set (omega arith)),
+      getD-set-other three (3 * maxBatch + i) (2 * maxBatch + i) (c .weight) 0 (λ h. omega arith),
+      getD-set-same two (2 * maxBatch + i) (c .head) 0 (simp length-set (omega arith)),
+      getD-set-same three (3 * maxBatch + i) (c .weight) 0 (simp length-set (omega arith)),
+    )
 
 skip4 : (xs : List ℕ) (i j k l a b c d m : ℕ) → m ≢ i → m ≢ j → m ≢ k → m ≢ l → getD (set (set (set (set xs i a) j b) k c) l d) m 0 ≡ getD xs m 0
 skip4 xs i j k l a b c d m p q r s = skip3 (set xs i a) j k l b c d m q r s ∙ getD-set-other xs i m a 0 p
@@ -113,16 +76,11 @@ copied-laid ys xs us k s c e = record {
 -- lists that are as long as the changes, and hold their words place by place, are these changes
 changes-are : (ks ts hs ws : List ℕ) (cs : List spec.Change) → length ks ≡ length cs → length ts ≡ length cs → length hs ≡ length cs → length ws ≡ length cs
     → ((i : ℕ) → i < length cs → change (getD ks i 0) (getD ts i 0) (getD hs i 0) (getD ws i 0) ≡ getD cs i (recorded noChange)) → changes ks ts hs ws ≡ cs
-unfolding changes
-changes-are [] ts hs ws [] a b d e f = refl
-changes-are [] ts hs ws (c ∷ cs) a b d e f = absurd (omega arith)
-changes-are (k ∷ ks) ts hs ws [] a b d e f = absurd (omega arith)
-changes-are (k ∷ ks) [] hs ws (c ∷ cs) a b d e f = absurd (omega arith)
-changes-are (k ∷ ks) (t ∷ ts) [] ws (c ∷ cs) a b d e f = absurd (omega arith)
-changes-are (k ∷ ks) (t ∷ ts) (h ∷ hs) [] (c ∷ cs) a b d e f = absurd (omega arith)
-changes-are (k ∷ ks) (t ∷ ts) (h ∷ hs) (w ∷ ws) (c ∷ cs) a b d e f =
-    let r : changes ks ts hs ws ≡ cs = changes-are ks ts hs ws cs (omega arith) (omega arith) (omega arith) (omega arith) (λ i l. f (suc i) (omega arith)) in
-    rw (f 0 (omega arith), r)
+changes-are ks ts hs ws cs a b d e f =
+    let xs = changes ks ts hs ws in
+    let m : length xs ≡ length cs = omega (arith, changes-length ks ts hs ws) in
+    ext-getD (recorded noChange) xs cs m
+    (λ i l. sym (ap (λ k. getD xs k (recorded noChange)) (add-zero i)) ∙ sym (getD-drop i xs 0 (recorded noChange)) ∙ ap (λ zs. getD zs 0 (recorded noChange)) (changes-more ks ts hs ws i l) ∙ f i (omega arith))
 
 -- a list of the four, from place m of xs on
 abbrev listAt : ℕ → ℕ → List ℕ → List ℕ
@@ -134,15 +92,11 @@ list-length k m xs h = length-take-le k (drop m xs) (let z = length-drop m xs in
 list-word : (k m : ℕ) (xs : List ℕ) (i : ℕ) → i < k → getD (listAt k m xs) i 0 ≡ getD xs (m + i) 0
 list-word k m xs i h = getD-take k (drop m xs) i 0 h ∙ getD-drop m xs i 0
 
-laid-changes : (k : ℕ) (cs : List spec.Change) (xs : List ℕ) → Laid k cs xs → k ≤ maxBatch → length xs ≡ 4 * maxBatch
-    → changes (take k xs) (listAt k maxBatch xs) (listAt k (2 * maxBatch) xs) (listAt k (3 * maxBatch) xs) ≡ cs
-laid-changes k cs xs l f e =
-    changes-are (take k xs) (listAt k maxBatch xs) (listAt k (2 * maxBatch) xs) (listAt k (3 * maxBatch) xs) cs
-    (length-take-le k xs (omega arith) ∙ sym (l .size)) (list-length k maxBatch xs (omega arith) ∙ sym (l .size)) (list-length k (2 * maxBatch) xs (omega arith) ∙ sym (l .size)) (list-length k (3 * maxBatch) xs (omega arith) ∙ sym (l .size))
-    (λ i h. let j : i < k = subst (λ (m : ℕ). i < m) (l .size) h in
-    rw (getD-take k xs i 0 j, list-word k maxBatch xs i j, list-word k (2 * maxBatch) xs i j, list-word k (3 * maxBatch) xs i j) (l .words i j (omega arith)))
-
--- the same of parts that go from place m to place m + k
+-- the parts that go from place m to place m + k hold the changes
 pub laid-parts : (k : ℕ) (cs : List spec.Change) (xs : List ℕ) → Laid k cs xs → k ≤ maxBatch → length xs ≡ 4 * maxBatch
     → changes (take k xs) (listAt (maxBatch + k - maxBatch) maxBatch xs) (listAt (2 * maxBatch + k - 2 * maxBatch) (2 * maxBatch) xs) (listAt (3 * maxBatch + k - 3 * maxBatch) (3 * maxBatch) xs) ≡ cs
-laid-parts k cs xs l f e = rw (add-sub-cancel-left maxBatch k, add-sub-cancel-left (2 * maxBatch) k, add-sub-cancel-left (3 * maxBatch) k) (laid-changes k cs xs l f e)
+laid-parts k cs xs l f e = rw (add-sub-cancel-left maxBatch k, add-sub-cancel-left (2 * maxBatch) k, add-sub-cancel-left (3 * maxBatch) k)
+    (changes-are (take k xs) (listAt k maxBatch xs) (listAt k (2 * maxBatch) xs) (listAt k (3 * maxBatch) xs) cs
+    (length-take-le k xs (omega arith) ∙ sym (l .size)) (list-length k maxBatch xs (omega arith) ∙ sym (l .size)) (list-length k (2 * maxBatch) xs (omega arith) ∙ sym (l .size)) (list-length k (3 * maxBatch) xs (omega arith) ∙ sym (l .size))
+    (λ i h. let j : i < k = subst (λ (m : ℕ). i < m) (l .size) h in
+    rw (getD-take k xs i 0 j, list-word k maxBatch xs i j, list-word k (2 * maxBatch) xs i j, list-word k (3 * maxBatch) xs i j) (l .words i j (omega arith))))

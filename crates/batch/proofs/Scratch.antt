@@ -7,7 +7,7 @@
 --     words-back       [†ν] ∗ what the lender keeps ⊢ ⇛ room
 -- Assumes `Given`.
 use Rattle.property.proofs.Basics.{_≡_, refl, ℕ, zero, suc, List, [], _∷_, lit<, length, replicate, length-replicate}
-use Rattle.run.proofs.Kit.{URA, fullShare, named, w32, tyInt, Ty, Val, vint, ent, sep, ex, GName, Fml, fsep, fat, froom, fdead, flent, Heap, Atoms, sem, Given, ‵, some, later, _⊛_, _$_, _∵_, !, qed, by, move, keep, drop, use1, use3, split, pick, rewrite, fsplit, fjoin, fpick, fpack, feqI, await, updating, at-once, show, done, cells, Arr, arr-parts, Array, row, whole-in, whole-out, Is, shows, mem, shares, cellAt, partOf, uint-vals, uint-tells, uint-makes, u32, RefT, sliceVal, ShrSlice, MutSlice, Room, finally, owned, spelt}
+use Rattle.run.proofs.Kit.{URA, fullShare, named, w32, tyInt, Ty, Val, vint, ent, sep, ex, GName, Fml, fsep, fat, froom, fdead, flent, Heap, Atoms, sem, Given, ‵, some, later, _⊛_, _$_, _∵_, !, qed, move, keep, drop, use1, use3, split, pick, rewrite, fsplit, fjoin, fpick, fpack, feqI, await, updating, at-once, show, done, cells, Arr, arr-parts, Array, row, whole-in, whole-out, Is, shows, mem, shares, cellAt, partOf, uint-vals, uint-tells, uint-makes, u32, RefT, sliceVal, ShrSlice, MutSlice, Room, finally, owned, spelt}
 use mir.Syntax.{tyArray}
 use types.Tokens.{lent-back}
 use denote.Array.{arrayVal, each, array-vals, array-tells, array-makes}
@@ -43,17 +43,13 @@ module _ {M : Type 1} (𝓤 : URA M) (H : Heap 𝓤) (A : Atoms 𝓤) (W : Given
   abbrev pub Kept : GName → Fml
   Kept γ = flent (ν ∷ []) (lend.Held u32 (length (zeros n)) l 0 γ)
 
-  zeros-in : ent 𝓤 (sem 𝓤 H A (fat fullShare (words-ty n) l 0 (zeros-val n))) (sem 𝓤 H A (cells (mem u32) (zeros n) l 0))
+  pub lends-zeros : Room u32 (length (zeros n)) → ent 𝓤 (sem 𝓤 H A (fat fullShare (words-ty n) l 0 (zeros-val n))) (H .⇛ (ex 𝓤 (λ (γ : GName). sep 𝓤 (sem 𝓤 H A (Zeros n γ)) (sem 𝓤 H A (Kept γ)))))
   unfolding partOf
-  zeros-in =
-      qed W (‵ (fat fullShare (words-ty n) l 0 (zeros-val n)) ∷ []) ∵ use1 W (‵ (cellAt fullShare (Array u32 n .mir) (zeros-val n ∷ []) l 0)) (W .laws .at-raw fullShare (words-ty n) l 0 (zeros-val n)) $
+  lends-zeros room =
+      qed W (‵ (fat fullShare (words-ty n) l 0 (zeros-val n)) ∷ []) ∵ updating ! $ use1 W (‵ (cellAt fullShare (Array u32 n .mir) (zeros-val n ∷ []) l 0)) (W .laws .at-raw fullShare (words-ty n) l 0 (zeros-val n)) $
       owned ! (Array u32 n) (Is (Array u32 n)) (array-makes 𝓤 H A W u32 (uint-makes 𝓤 H A W w32) n) (zeros n) (zeros-val n ∷ []) (is-zeros n) $
       move ! (1 ∷ 0 ∷ []) $ fjoin ! $ fpack ! (List Val) (λ vs. fsep (cellAt fullShare (Array u32 n .mir) vs l 0) (Array u32 n .own (zeros n) vs)) (zeros-val n ∷ []) $
-      use1 W (‵ (arr-parts (shares u32) n .part fullShare (zeros n) l 0)) (array-apart 𝓤 H A W u32 fullShare tt n (zeros n) l 0) $ fsplit ! $ drop ! $ by ! (whole-in 𝓤 H A W u32 (zeros n) l 0)
-
-  pub lends-zeros : Room u32 (length (zeros n)) → ent 𝓤 (sem 𝓤 H A (fat fullShare (words-ty n) l 0 (zeros-val n))) (H .⇛ (ex 𝓤 (λ (γ : GName). sep 𝓤 (sem 𝓤 H A (Zeros n γ)) (sem 𝓤 H A (Kept γ)))))
-  lends-zeros room =
-      qed W (‵ (fat fullShare (words-ty n) l 0 (zeros-val n)) ∷ []) ∵ updating ! $ use1 W (‵ (cells (mem u32) (zeros n) l 0)) zeros-in $
+      use1 W (‵ (arr-parts (shares u32) n .part fullShare (zeros n) l 0)) (array-apart 𝓤 H A W u32 fullShare tt n (zeros n) l 0) $ fsplit ! $ drop ! $ use1 W (‵ (cells (mem u32) (zeros n) l 0)) (whole-in 𝓤 H A W u32 (zeros n) l 0) $
       use1 W (later (some (λ (γ : GName). ‵ (Zeros (length (zeros n)) γ) ⊛ ‵ (Kept γ)))) (lend.lends-slice 𝓤 H A W u32 (named 1) (ν ∷ []) (zeros n) l 0 room) $ await ! tt $ pick ! (λ γ. split ! $
       rewrite ! 0 (λ (m : ℕ). ‵ (Zeros m γ)) (length-replicate n 0) refl $ at-once ! $ show ! (λ (γ′ : GName). sep 𝓤 (sem 𝓤 H A (Zeros n γ′)) (sem 𝓤 H A (Kept γ′))) γ $ done !)
 

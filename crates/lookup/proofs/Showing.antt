@@ -11,7 +11,7 @@ use Rattle.graph.specs.Table.{size}
 use Rattle.graph.specs.Code.{told}
 use Rattle.graph.proofs.Tests.{both, neither}
 use Rattle.graph.proofs.Verdicts.{not-accept, then-accept, if-accept, verdict-replied}
-use Rattle.network.specs.Network.{isIn, landmarks, shortRows}
+use Rattle.network.specs.Network.{Rows, isIn, landmarks, shortRows}
 use Rattle.network.specs.Query.{rowAt}
 use Rattle.network.specs.Lookup.{indexOf, lookupVerdict, lookupRow, lookupNumber}
 use Rattle.calls.specs.Code.{rowLists}
@@ -45,24 +45,24 @@ index-below v (x ∷ vs) h = by-test (eqb v x) (λ e. rw e (omega arith)) (λ e.
 
 -- ---- the number
 
+pub told-number : (n : ℕ) (ls : List ℕ) (xs : Rows) (side l p : ℕ) (r : Judged) → replied (told r) tt ≡ lookupNumber n ls xs side l p → told r ≡ lookupVerdict n ls xs side l p
+unfolding lookupNumber
+told-number n ls xs side l p r e = sym (verdict-replied (told r) tt) ∙ (ap verdictOf e ∙ verdict-replied (lookupVerdict n ls xs side l p) tt)
+
 module _ (n : ℕ) (ls f b : List ℕ) (side l p : ℕ) where
   pub number-told : (r : Judged) → told r ≡ lookupVerdict n ls (rowLists f b) side l p → replied (told r) tt ≡ lookupNumber n ls (rowLists f b) side l p
   unfolding lookupNumber
   number-told r e = ap (λ (v : Verdict). replied v tt) e
 
-  told-number : (r : Judged) → replied (told r) tt ≡ lookupNumber n ls (rowLists f b) side l p → told r ≡ lookupVerdict n ls (rowLists f b) side l p
-  unfolding lookupNumber
-  told-number r e = sym (verdict-replied (told r) tt) ∙ (ap verdictOf e ∙ verdict-replied (lookupVerdict n ls (rowLists f b) side l p) tt)
-
   module _ (r : Judged) (e : replied (told r) tt ≡ lookupNumber n ls (rowLists f b) side l p) where
     pub row-refused : (k i : ℕ) → r ≡ Refused k i → [] ≡ lookupRow n ls (rowLists f b) side l p
     unfolding lookupRow choose told
-    row-refused k i q = rw (sym (told-number r e) ∙ ap told q)
+    row-refused k i q = rw (sym (told-number n ls (rowLists f b) side l p r e) ∙ ap told q)
 
     -- a refused look-up shows no row
     pub part-refused : (k i : ℕ) → r ≡ Refused k i → (x y z : ℕ × ℕ) → Shows n ls (rowLists f b) side l p x y z
     unfolding told
-    part-refused k i q x y z h = absurd (not-accept (sym (ap told q) ∙ (told-number r e ∙ h)))
+    part-refused k i q x y z h = absurd (not-accept (sym (ap told q) ∙ (told-number n ls (rowLists f b) side l p r e ∙ h)))
 
     -- the part from s on of the list of its side, where s is the row's start; and where it lies, if the lists lie at x and y
     pub row-shown : r ≡ Fine → (s : ℕ) → s ≡ rowAt (indexOf l ls) p * n → (x y : ℕ × ℕ) (t : Bool) → eqb side 0 ≡ t
@@ -70,7 +70,7 @@ module _ (n : ℕ) (ls f b : List ℕ) (side l p : ℕ) where
     unfolding lookupRow choose told
     row-shown q s at x y t d =
         let z : s + n - s ≡ n = omega arith in
-        (rw (z, at, ← d, sym (told-number r e) ∙ ap told q), λ _. rw (at, ← d))
+        (rw (z, at, ← d, sym (told-number n ls (rowLists f b) side l p r e) ∙ ap told q), λ _. rw (at, ← d))
 
   -- ---- what an accepted look-up tells
 
@@ -86,7 +86,7 @@ module _ (n : ℕ) (ls f b : List ℕ) (side l p : ℕ) where
   pub lookup-accept : (r : Judged) → replied (told r) tt ≡ lookupNumber n ls (rowLists f b) side l p → r ≡ Fine → Shown
   unfolding told
   lookup-accept r e q =
-      let v = then-accept (size n) _ (sym (told-number r e) ∙ ap told q) in
+      let v = then-accept (size n) _ (sym (told-number n ls (rowLists f b) side l p r e) ∙ ap told q) in
       let s = then-accept (shortRows n ls (rowLists f b)) _ (v .1) in
       let m = then-accept (landmarks n ls) _ (s .1) in
       let i = then-accept (refuseIf (not (isIn l ls)) 3 0) _ (m .1) in

@@ -1,5 +1,5 @@
 -- A batch as a call: numbers 1 to 4, then its changes, then number 13, and what is lent. Assumes nothing.
-use Rattle.property.proofs.Basics.{_≡_, refl, sym, ap, _∙_, List, [], _∷_, ℕ, zero, suc, _+_, _≤_, _<_, length, take, drop, paste, take-at, length-take-le, lt-ltb, le-ltb}
+use Rattle.property.proofs.Basics.{_≡_, refl, sym, ap, _∙_, List, [], _∷_, ℕ, zero, suc, _+_, _≤_, _<_, length, take, drop, drop-of-length-le, min, arith, paste, take-at, length-take-le, lt-ltb, le-ltb}
 use Rattle.graph.specs.Limits.{maxBatch}
 use Rattle.graph.specs.Refusal.{Verdict, accept, refuse, _▷_, refuseIf, replied, choose}
 use Rattle.graph.specs.Edge.{Edge, edges}
@@ -12,6 +12,7 @@ use Rattle.network.specs.Batch.{batchVerdict, newEdges, stillWaiting, longBatch
 use Rattle.sides.specs.Code.{Fair}
 use Rattle.apply.specs.Code.{applying, applyCall, batchOutcome}
 use Rattle.items.specs.Code.{changes}
+use Rattle.items.proofs.Editing.{changes-length}
 use Rattle.calls.specs.Code.{network}
 use Rattle.network.proofs.Rows.{landmark-below}
 use Rattle.network.proofs.Moment.{faults-parts}
@@ -21,31 +22,16 @@ use Rattle.calls.proofs.Judging.{rows-accept, landmarks-accept}
 -- ---- a part of the changes
 
 -- where one list is empty, there are no changes
-changes-no-tails : (ks hs ws : List ℕ) → changes ks [] hs ws ≡ []
-unfolding changes
-changes-no-tails [] hs ws = refl
-changes-no-tails (k ∷ ks) hs ws = refl
-
-changes-no-heads : (ks ts ws : List ℕ) → changes ks ts [] ws ≡ []
-unfolding changes
-changes-no-heads [] ts ws = refl
-changes-no-heads (k ∷ ks) [] ws = refl
-changes-no-heads (k ∷ ks) (t ∷ ts) ws = refl
-
-changes-no-weights : (ks ts hs : List ℕ) → changes ks ts hs [] ≡ []
-unfolding changes
-changes-no-weights [] ts hs = refl
-changes-no-weights (k ∷ ks) [] hs = refl
-changes-no-weights (k ∷ ks) (t ∷ ts) [] = refl
-changes-no-weights (k ∷ ks) (t ∷ ts) (h ∷ hs) = refl
+changes-none : (ks ts hs ws : List ℕ) → min (min (length ks) (length ts)) (min (length hs) (length ws)) ≡ 0 → changes ks ts hs ws ≡ []
+changes-none ks ts hs ws e = drop-of-length-le (changes ks ts hs ws) {i = 0} (omega (arith, changes-length ks ts hs ws))
 
 changes-drop : (a : ℕ) (ks ts hs ws : List ℕ) → changes (drop a ks) (drop a ts) (drop a hs) (drop a ws) ≡ drop a (changes ks ts hs ws)
 unfolding changes
 changes-drop zero ks ts hs ws = refl
 changes-drop (suc a) [] ts hs ws = refl
-changes-drop (suc a) (k ∷ ks) [] hs ws = changes-no-tails (drop a ks) (drop (suc a) hs) (drop (suc a) ws)
-changes-drop (suc a) (k ∷ ks) (t ∷ ts) [] ws = changes-no-heads (drop a ks) (drop a ts) (drop (suc a) ws)
-changes-drop (suc a) (k ∷ ks) (t ∷ ts) (h ∷ hs) [] = changes-no-weights (drop a ks) (drop a ts) (drop a hs)
+changes-drop (suc a) (k ∷ ks) [] hs ws = changes-none (drop a ks) [] (drop (suc a) hs) (drop (suc a) ws) (omega arith)
+changes-drop (suc a) (k ∷ ks) (t ∷ ts) [] ws = changes-none (drop a ks) (drop a ts) [] (drop (suc a) ws) (omega arith)
+changes-drop (suc a) (k ∷ ks) (t ∷ ts) (h ∷ hs) [] = changes-none (drop a ks) (drop a ts) (drop a hs) [] (omega arith)
 changes-drop (suc a) (k ∷ ks) (t ∷ ts) (h ∷ hs) (w ∷ ws) = changes-drop a ks ts hs ws
 
 changes-take : (j : ℕ) (ks ts hs ws : List ℕ) → changes (take j ks) (take j ts) (take j hs) (take j ws) ≡ take j (changes ks ts hs ws)

@@ -3,7 +3,7 @@
 --
 -- A table of examples lists what a definition gives beside what document 01 says; one equation holds for all of its lines.
 use Rattle.property.proofs.Basics.{_≡_, refl, Bool, true, false, List, [], _∷_, map, foldl, ℕ, length, set, replicate}
-use Rattle.property.specs.Property.{M, sssp, bfs, sswp, ssnp, ssr}
+use Rattle.property.specs.Property.{Property, M, sssp, bfs, sswp, ssnp, ssr}
 use Rattle.frontier.specs.Waiting.{anyOf}
 use Rattle.graph.specs.Edge.{Edge, edge, reverse, keepIf, keep, range}
 use Rattle.run.specs.Run.{State, relaxable, storeIf, relax, clear, handle, visitIf, visit, takeEntryIf, takeEntry, pass, round, settle}
@@ -17,39 +17,46 @@ state ws vs k r c = record {
   tally = record { taken = k; rounds = r; stores = c };
 }
 
+abbrev four : ℕ → ℕ → ℕ → ℕ → List ℕ
+four a b c d = a ∷ b ∷ c ∷ d ∷ []
+
 abbrev graphA : List Edge
 graphA = edge 0 1 4 ∷ edge 0 3 9 ∷ edge 1 2 4 ∷ edge 2 1 4 ∷ edge 3 2 2 ∷ []
 
 -- ---- whether an edge betters its head
 
+-- the edge from 0 to 1 of weight k, where their words are a and b
+abbrev along : Property → ℕ → ℕ → ℕ → Bool
+along P a b k = relaxable P (a ∷ b ∷ []) (edge 0 1 k)
+
 abbrev bettering : List (Bool × Bool)
 bettering =
     -- "each head whose word would get better": an equal word is not better, a worse one neither
-    (relaxable sssp (5 ∷ 9 ∷ []) (edge 0 1 4), false)
-    ∷ (relaxable sssp (5 ∷ 10 ∷ []) (edge 0 1 4), true)
-    ∷ (relaxable sssp (5 ∷ 8 ∷ []) (edge 0 1 4), false)
+    (along sssp 5 9 4, false)
+    ∷ (along sssp 5 10 4, true)
+    ∷ (along sssp 5 8 4, false)
     -- handovers go up by 1, not by the weight
-    ∷ (relaxable bfs (5 ∷ 7 ∷ []) (edge 0 1 4), true)
-    ∷ (relaxable bfs (5 ∷ 6 ∷ []) (edge 0 1 4), false)
+    ∷ (along bfs 5 7 4, true)
+    ∷ (along bfs 5 6 4, false)
     -- headroom: the lesser of value and weight, and greater is better
-    ∷ (relaxable sswp (5 ∷ 3 ∷ []) (edge 0 1 4), true)
-    ∷ (relaxable sswp (5 ∷ 4 ∷ []) (edge 0 1 4), false)
-    ∷ (relaxable sswp (5 ∷ 9 ∷ []) (edge 0 1 4), false)
+    ∷ (along sswp 5 3 4, true)
+    ∷ (along sswp 5 4 4, false)
+    ∷ (along sswp 5 9 4, false)
     -- worst stretch: the greater of value and weight, and less is better
-    ∷ (relaxable ssnp (3 ∷ 5 ∷ []) (edge 0 1 4), true)
-    ∷ (relaxable ssnp (3 ∷ 4 ∷ []) (edge 0 1 4), false)
+    ∷ (along ssnp 3 5 4, true)
+    ∷ (along ssnp 3 4 4, false)
     -- reach: the value goes along as it is, whatever the weight
-    ∷ (relaxable ssr (1 ∷ 0 ∷ []) (edge 0 1 4), true)
-    ∷ (relaxable ssr (1 ∷ 1 ∷ []) (edge 0 1 4), false)
+    ∷ (along ssr 1 0 4, true)
+    ∷ (along ssr 1 1 4, false)
     -- M + 4 is M and no quick route: a sum that wraps would be 3
-    ∷ (relaxable sssp (M ∷ 9 ∷ []) (edge 0 1 4), false)
-    ∷ (relaxable sssp (M ∷ M ∷ []) (edge 0 1 4), false)
+    ∷ (along sssp M 9 4, false)
+    ∷ (along sssp M M 4, false)
     -- "A sum above 4,294,967,294 is M": 4,294,967,290 + 4 is still a value, + 5 is no route
-    ∷ (relaxable sssp (4294967290 ∷ M ∷ []) (edge 0 1 4), true)
-    ∷ (relaxable sssp (4294967290 ∷ M ∷ []) (edge 0 1 5), false)
-    ∷ (relaxable bfs (4294967294 ∷ M ∷ []) (edge 0 1 4), false)
+    ∷ (along sssp 4294967290 M 4, true)
+    ∷ (along sssp 4294967290 M 5, false)
+    ∷ (along bfs 4294967294 M 4, false)
     -- an edge is gone along from tail to head only
-    ∷ (relaxable sssp (9 ∷ 0 ∷ []) (edge 0 1 4), false)
+    ∷ (along sssp 9 0 4, false)
     ∷ []
 
 bettering-said : map (λ c. c .0) bettering ≡ map (λ c. c .1) bettering
@@ -57,49 +64,28 @@ bettering-said = refl
 
 -- ---- handling a vertex
 
+abbrev handleA : State → ℕ → State
+handleA = handle sssp graphA
+
 abbrev handlings : List (State × State)
 handlings =
     -- "Handling a station clears its bit": 0 waits no more; its heads 1 and 3 wait, and their stores are counted
-    (handle sssp graphA (opened sssp 4 0) 0, state (0 ∷ 4 ∷ M ∷ 9 ∷ []) (1 ∷ 3 ∷ []) 0 0 2)
+    (handleA (opened sssp 4 0) 0, state (four 0 4 M 9) (1 ∷ 3 ∷ []) 0 0 2)
     -- a handling that stores nothing clears the bit too; 1's edge gives 2 exactly 8, and equal is no store
-    ∷ (
-      handle sssp graphA (state (0 ∷ 4 ∷ 8 ∷ 9 ∷ []) (1 ∷ 3 ∷ []) 0 0 3) 1,
-      state (0 ∷ 4 ∷ 8 ∷ 9 ∷ []) (3 ∷ []) 0 0 3,
-    )
+    ∷ (handleA (state (four 0 4 8 9) (1 ∷ 3 ∷ []) 0 0 3) 1, state (four 0 4 8 9) (3 ∷ []) 0 0 3)
     -- only the head that gets better is stored and waits: 3 has 9 already, and 1 gets 4 for 5
-    ∷ (
-      handle sssp graphA (state (0 ∷ 5 ∷ M ∷ 9 ∷ []) (0 ∷ 2 ∷ []) 1 2 3) 0,
-      state (0 ∷ 4 ∷ M ∷ 9 ∷ []) (1 ∷ 2 ∷ []) 1 2 4,
-    )
+    ∷ (handleA (state (four 0 5 M 9) (0 ∷ 2 ∷ []) 1 2 3) 0, state (four 0 4 M 9) (1 ∷ 2 ∷ []) 1 2 4)
     -- a head that waits already stays waiting, and its store counts
-    ∷ (
-      handle sssp graphA (state (0 ∷ 5 ∷ M ∷ M ∷ []) (0 ∷ 1 ∷ 3 ∷ []) 0 0 0) 0,
-      state (0 ∷ 4 ∷ M ∷ 9 ∷ []) (1 ∷ 3 ∷ []) 0 0 2,
-    )
+    ∷ (handleA (state (four 0 5 M M) (0 ∷ 1 ∷ 3 ∷ []) 0 0 0) 0, state (four 0 4 M 9) (1 ∷ 3 ∷ []) 0 0 2)
     -- "in table order", a store for each time that a word gets better: 9, then 4 are two stores; 4, then 9 are one
-    ∷ (
-      handle sssp (edge 0 1 9 ∷ edge 0 1 4 ∷ []) (opened sssp 2 0) 0,
-      state (0 ∷ 4 ∷ []) (1 ∷ []) 0 0 2,
-    )
-    ∷ (
-      handle sssp (edge 0 1 4 ∷ edge 0 1 9 ∷ []) (opened sssp 2 0) 0,
-      state (0 ∷ 4 ∷ []) (1 ∷ []) 0 0 1,
-    )
+    ∷ (handle sssp (edge 0 1 9 ∷ edge 0 1 4 ∷ []) (opened sssp 2 0) 0, state (0 ∷ 4 ∷ []) (1 ∷ []) 0 0 2)
+    ∷ (handle sssp (edge 0 1 4 ∷ edge 0 1 9 ∷ []) (opened sssp 2 0) 0, state (0 ∷ 4 ∷ []) (1 ∷ []) 0 0 1)
     -- a vertex without a route betters nothing: M + 4 and M + 9 are no route at 1 and at 3
-    ∷ (
-      handle sssp graphA (state (M ∷ M ∷ M ∷ 0 ∷ []) (0 ∷ 3 ∷ []) 0 0 0) 0,
-      state (M ∷ M ∷ M ∷ 0 ∷ []) (3 ∷ []) 0 0 0,
-    )
+    ∷ (handleA (state (four M M M 0) (0 ∷ 3 ∷ []) 0 0 0) 0, state (four M M M 0) (3 ∷ []) 0 0 0)
     -- the sum to 1 is 4,294,967,294 and stored, the one to 3 is above it and is no route
-    ∷ (
-      handle sssp graphA (state (4294967290 ∷ M ∷ M ∷ M ∷ []) (0 ∷ []) 0 0 0) 0,
-      state (4294967290 ∷ 4294967294 ∷ M ∷ M ∷ []) (1 ∷ []) 0 0 1,
-    )
+    ∷ (handleA (state (four 4294967290 M M M) (0 ∷ []) 0 0 0) 0, state (four 4294967290 4294967294 M M) (1 ∷ []) 0 0 1)
     -- backward rows are worked on the reversed edges: 2 is handled, and the tails 1 and 3 of its edges get words
-    ∷ (
-      handle sssp (map reverse graphA) (opened sssp 4 2) 2,
-      state (M ∷ 4 ∷ 0 ∷ 2 ∷ []) (1 ∷ 3 ∷ []) 0 0 2,
-    )
+    ∷ (handle sssp (map reverse graphA) (opened sssp 4 2) 2, state (four M 4 0 2) (1 ∷ 3 ∷ []) 0 0 2)
     ∷ []
 
 handlings-said : map (λ c. c .0) handlings ≡ map (λ c. c .1) handlings
@@ -115,23 +101,20 @@ picked vs = pass sssp graphA vs (opened sssp 4 0)
 abbrev passes : List (State × State)
 passes =
     -- no pick: as opened, "no route but for its post, which has its value at the source and waits"
-    (picked [], state (0 ∷ M ∷ M ∷ M ∷ []) (0 ∷ []) 0 0 0)
+    (picked [], state (four 0 M M M) (0 ∷ []) 0 0 0)
     -- "a pick that isn't waiting is skipped" and not counted: neither 3, nor 0 for the second time
-    ∷ (picked (3 ∷ 0 ∷ 0 ∷ []), state (0 ∷ 4 ∷ M ∷ 9 ∷ []) (1 ∷ 3 ∷ []) 1 0 2)
+    ∷ (picked (3 ∷ 0 ∷ 0 ∷ []), state (four 0 4 M 9) (1 ∷ 3 ∷ []) 1 0 2)
     -- skipped is not handled, even where its edge would better a word: 0 doesn't wait, and 1 goes on from 50
-    ∷ (
-      pass sssp graphA (0 ∷ 1 ∷ []) (state (0 ∷ 50 ∷ M ∷ 9 ∷ []) (1 ∷ []) 0 0 0),
-      state (0 ∷ 50 ∷ 54 ∷ 9 ∷ []) (2 ∷ []) 1 0 1,
-    )
+    ∷ (pass sssp graphA (0 ∷ 1 ∷ []) (state (four 0 50 M 9) (1 ∷ []) 0 0 0), state (four 0 50 54 9) (2 ∷ []) 1 0 1)
     -- picks go in list order, not ascending: 3 gives 2 the word 11 before 1 betters it to 8, which are two stores
-    ∷ (picked (0 ∷ 3 ∷ 1 ∷ []), state (0 ∷ 4 ∷ 8 ∷ 9 ∷ []) (2 ∷ []) 3 0 4)
-    ∷ (picked (0 ∷ 1 ∷ 3 ∷ []), state (0 ∷ 4 ∷ 8 ∷ 9 ∷ []) (2 ∷ []) 3 0 3)
+    ∷ (picked (0 ∷ 3 ∷ 1 ∷ []), state (four 0 4 8 9) (2 ∷ []) 3 0 4)
+    ∷ (picked (0 ∷ 1 ∷ 3 ∷ []), state (four 0 4 8 9) (2 ∷ []) 3 0 3)
     -- a vertex that waits anew is taken and counted anew: 2 at 11, and again at 8
-    ∷ (picked (0 ∷ 3 ∷ 2 ∷ 1 ∷ 2 ∷ []), state (0 ∷ 4 ∷ 8 ∷ 9 ∷ []) [] 5 0 4)
+    ∷ (picked (0 ∷ 3 ∷ 2 ∷ 1 ∷ 2 ∷ []), state (four 0 4 8 9) [] 5 0 4)
     -- "Then rounds": picks that leave nobody waiting are followed by no round
-    ∷ (settle sssp graphA 4 4 (picked (0 ∷ 1 ∷ 2 ∷ 3 ∷ [])), state (0 ∷ 4 ∷ 8 ∷ 9 ∷ []) [] 4 0 3)
+    ∷ (settle sssp graphA 4 4 (picked (0 ∷ 1 ∷ 2 ∷ 3 ∷ [])), state (four 0 4 8 9) [] 4 0 3)
     -- the round after these picks handles 2 and stores nothing: it counts, and picks taken stay 3
-    ∷ (settle sssp graphA 4 4 (picked (0 ∷ 3 ∷ 1 ∷ [])), state (0 ∷ 4 ∷ 8 ∷ 9 ∷ []) [] 3 1 4)
+    ∷ (settle sssp graphA 4 4 (picked (0 ∷ 3 ∷ 1 ∷ [])), state (four 0 4 8 9) [] 3 1 4)
     ∷ []
 
 passes-said : map (λ c. c .0) passes ≡ map (λ c. c .1) passes
@@ -151,20 +134,23 @@ fall = edge 1 0 1 ∷ edge 2 1 1 ∷ edge 3 2 1 ∷ []
 abbrev twice : List Edge
 twice = edge 0 1 10 ∷ edge 0 2 1 ∷ edge 2 1 1 ∷ []
 
+abbrev fallen : ℕ → State → State
+fallen = settle sssp fall 4
+
 abbrev settlings : List (State × State)
 settlings =
     -- "each handled if waiting when its turn comes": 1, 2 and 3 come to wait within the round and are handled in it, so that one round does
-    (settle sssp climb 4 4 (opened sssp 4 0), state (0 ∷ 1 ∷ 2 ∷ 3 ∷ []) [] 0 1 3)
+    (settle sssp climb 4 4 (opened sssp 4 0), state (four 0 1 2 3) [] 0 1 3)
     -- a vertex below the one being handled waits for the next round; the last round stores nothing and counts
-    ∷ (settle sssp fall 4 4 (opened sssp 4 3), state (3 ∷ 2 ∷ 1 ∷ 0 ∷ []) [] 0 4 3)
+    ∷ (fallen 4 (opened sssp 4 3), state (four 3 2 1 0) [] 0 4 3)
     -- that network needs all of its n rounds: with one less 0 still waits, and with more there is no further round
-    ∷ (settle sssp fall 4 3 (opened sssp 4 3), state (3 ∷ 2 ∷ 1 ∷ 0 ∷ []) (0 ∷ []) 0 3 3)
-    ∷ (settle sssp fall 4 9 (opened sssp 4 3), state (3 ∷ 2 ∷ 1 ∷ 0 ∷ []) [] 0 4 3)
+    ∷ (fallen 3 (opened sssp 4 3), state (four 3 2 1 0) (0 ∷ []) 0 3 3)
+    ∷ (fallen 9 (opened sssp 4 3), state (four 3 2 1 0) [] 0 4 3)
     -- a budget of 0 is no round, of 1 at most one: who waits then, waits still
-    ∷ (settle sssp fall 4 0 (opened sssp 4 3), opened sssp 4 3)
-    ∷ (settle sssp fall 4 1 (opened sssp 4 3), state (M ∷ M ∷ 1 ∷ 0 ∷ []) (2 ∷ []) 0 1 1)
+    ∷ (fallen 0 (opened sssp 4 3), opened sssp 4 3)
+    ∷ (fallen 1 (opened sssp 4 3), state (four M M 1 0) (2 ∷ []) 0 1 1)
     -- "Rounds go on while any waits": nobody waits, so no round is counted
-    ∷ (settle sssp fall 4 4 (state (M ∷ 7 ∷ 1 ∷ 0 ∷ []) [] 0 0 0), state (M ∷ 7 ∷ 1 ∷ 0 ∷ []) [] 0 0 0)
+    ∷ (fallen 4 (state (four M 7 1 0) [] 0 0 0), state (four M 7 1 0) [] 0 0 0)
     -- "stores that bettered a word": 1 is bettered twice, which counts twice; it is lower than 2, and waits for round two
     ∷ (settle sssp twice 3 3 (opened sssp 3 0), state (0 ∷ 2 ∷ 1 ∷ []) [] 0 2 3)
     -- for headroom its first word 10 is the better one: one store for 1, and one round
@@ -172,14 +158,14 @@ settlings =
     -- for handovers 1 + 1 is no better than 1
     ∷ (settle bfs twice 3 3 (opened bfs 3 0), state (0 ∷ 1 ∷ 1 ∷ []) [] 0 1 2)
     -- deck A from 3: 2 in round one, 1 in round two, and 1 is handled for nothing in round three
-    ∷ (settle sssp graphA 4 4 (opened sssp 4 3), state (M ∷ 6 ∷ 2 ∷ 0 ∷ []) [] 0 3 2)
-    ∷ (settle ssnp graphA 4 4 (opened ssnp 4 3), state (M ∷ 4 ∷ 2 ∷ 0 ∷ []) [] 0 3 2)
+    ∷ (settle sssp graphA 4 4 (opened sssp 4 3), state (four M 6 2 0) [] 0 3 2)
+    ∷ (settle ssnp graphA 4 4 (opened ssnp 4 3), state (four M 4 2 0) [] 0 3 2)
     -- deck A backward from 2, handovers: 1, 3 and, by way of 3, 0 in round one; in round two 1 gives 0 no better word
-    ∷ (settle bfs (map reverse graphA) 4 4 (opened bfs 4 2), state (2 ∷ 1 ∷ 0 ∷ 1 ∷ []) [] 0 2 3)
+    ∷ (settle bfs (map reverse graphA) 4 4 (opened bfs 4 2), state (four 2 1 0 1) [] 0 2 3)
     -- the time: in round two 1 gives 0 the word 8 for 11, and 0, which had its turn, is handled in round three
-    ∷ (settle sssp (map reverse graphA) 4 4 (opened sssp 4 2), state (8 ∷ 4 ∷ 0 ∷ 2 ∷ []) [] 0 3 4)
+    ∷ (settle sssp (map reverse graphA) 4 4 (opened sssp 4 2), state (four 8 4 0 2) [] 0 3 4)
     -- any words: those of vertices that never wait are not gone along, so that 1 stays at 50
-    ∷ (settle sssp climb 4 4 (state (0 ∷ 50 ∷ 7 ∷ M ∷ []) (2 ∷ []) 0 0 0), state (0 ∷ 50 ∷ 7 ∷ 8 ∷ []) [] 0 1 1)
+    ∷ (settle sssp climb 4 4 (state (four 0 50 7 M) (2 ∷ []) 0 0 0), state (four 0 50 7 8) [] 0 1 1)
     ∷ []
 
 settlings-said : map (λ c. c .0) settlings ≡ map (λ c. c .1) settlings

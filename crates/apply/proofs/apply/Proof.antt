@@ -54,38 +54,12 @@ indexable s fs x =
       record { few = few; records = q; room = t .new .1; rules = t .new .2; firsts = omega arith; list = omega arith },
     )
 
-differences-requires : tie.Need-differences-requires
-differences-requires c κs = let s = c .before .before .before .before .before .before .before .before .before .before .before .before .before in let t = tables s in ((s .args .n, t), omega (arith, t .old .0, t .new .0))
-
-index-requires : tie.Need-index-requires
-index-requires c κs = indexable (start (c .before .before .before .before .before .before)) (replicate 257 0) (omega (arith, length-replicate {A = ℕ} 257 0)) .0
-
-index-reversed-requires : tie.Need-index-reversed-requires
-index-reversed-requires c κs =
-    let i = c .before .before .before .before .before .before .before in
-    indexable (start (listed i)) (i .index .last .1 .1 .1 .1 .1 .0) (omega (arith, i .index .kept .1 .1 .1 .1 .1 .0)) .0
-
-index-requires-2 : tie.Need-index-requires-2
-index-requires-2 c κs =
-    let r = c .before .before .before .before in
-    let i = indexed r in
-    indexable (start (listed i)) (r .index-reversed .last .1 .1 .1 .1 .1 .0) (omega (arith, r .index-reversed .kept .1 .1 .1 .1 .1 .0, i .index .kept .1 .1 .1 .1 .1 .0)) .1
-
 index-reversed-requires-2 : tie.Need-index-reversed-requires-2
 index-reversed-requires-2 c κs =
     let j = c .before .before .before .before in
     let r = reversed j in
     let i = indexed r in
     indexable (start (listed i)) (j .index2 .last .1 .1 .1 .1 .1 .0) (omega (arith, j .index2 .kept .1 .1 .1 .1 .1 .0, r .index-reversed .kept .1 .1 .1 .1 .1 .0, i .index .kept .1 .1 .1 .1 .1 .0)) .1
-
--- the changes lie in their list
-array-borrow-prefix-net : tie.Need-array-borrow-prefix-net
-array-borrow-prefix-net c = let d = listed (indexed (reversed (indexed2 (c .before .before)))) in omega (arith, d .differences .ensures .0 .0, d .differences .kept .1 .1 .1 .1 .1 .1 .1 .1 .0)
-
-slice-aggregate-batch-sides : tie.Need-slice-aggregate-batch-sides
-slice-aggregate-batch-sides c =
-    let d = listed (indexed (reversed (indexed2 (c .before .before .before)))) .differences in
-    sym (length-take-le (d .result) (d .last .1 .1 .1 .1 .1 .1 .1 .1 .0) (d .ensures .0 .0))
 
 batch-sides-requires : tie.Need-batch-sides-requires
 batch-sides-requires c κs =
@@ -108,12 +82,6 @@ batch-sides-requires c κs =
       ),
       (p .forward, p .backward),
     )
-
-write-table-requires : tie.Need-write-table-requires
-write-table-requires c κs =
-    let s = begun (c .before .before .before .before .before .before .before .before .before .before .before .before .before .before .before .before .before .before) in
-    let t = s .pre .1 in
-    (t .few, room-less (t .few) (t .room), s .pre .0 .table .room)
 
 returns : tie.Need-returns
 returns c =
@@ -139,27 +107,38 @@ apply-spec =
     tie.close
     (tie.spec
     (λ c. search needs)
-    differences-requires
+    (λ c κs. let s = c .before .before .before .before .before .before .before .before .before .before .before .before .before in let t = tables s in ((s .args .n, t), omega (arith, t .old .0, t .new .0)))
     (λ c. search needs)
     (λ c. search needs)
-    index-requires
+    (λ c κs. indexable (start (c .before .before .before .before .before .before)) (replicate 257 0) (omega (arith, length-replicate {A = ℕ} 257 0)) .0)
     (λ c. search needs)
     (λ c. search needs)
-    index-reversed-requires
+    (λ c κs.
+    let i = c .before .before .before .before .before .before .before in
+    indexable (start (listed i)) (i .index .last .1 .1 .1 .1 .1 .0) (omega (arith, i .index .kept .1 .1 .1 .1 .1 .0)) .0)
     (λ c. search needs)
     (λ c. search needs)
-    index-requires-2
+    (λ c κs.
+    let r = c .before .before .before .before in
+    let i = indexed r in
+    indexable (start (listed i)) (r .index-reversed .last .1 .1 .1 .1 .1 .0) (omega (arith, r .index-reversed .kept .1 .1 .1 .1 .1 .0, i .index .kept .1 .1 .1 .1 .1 .0)) .1)
     (λ c. search needs)
     (λ c. search needs)
     index-reversed-requires-2
-    array-borrow-prefix-net
-    slice-aggregate-batch-sides
+    -- the changes lie in their list
+    (λ c. let d = listed (indexed (reversed (indexed2 (c .before .before)))) in omega (arith, d .differences .ensures .0 .0, d .differences .kept .1 .1 .1 .1 .1 .1 .1 .1 .0))
+    (λ c.
+    let d = listed (indexed (reversed (indexed2 (c .before .before .before)))) .differences in
+    sym (length-take-le (d .result) (d .last .1 .1 .1 .1 .1 .1 .1 .1 .0) (d .ensures .0 .0)))
     (λ c. search needs)
     (λ c. search needs)
     (λ c. search needs)
     (λ c. search needs)
     batch-sides-requires
-    write-table-requires
+    (λ c κs.
+    let s = begun (c .before .before .before .before .before .before .before .before .before .before .before .before .before .before .before .before .before .before) in
+    let t = s .pre .1 in
+    (t .few, room-less (t .few) (t .room), s .pre .0 .table .room))
     (λ c. omega (arith, begun (c .before .before .before .before .before .before .before .before .before .before .before .before .before .before .before .before .before .before .before .before .before .before .before .before .before) .pre .1 .few))
     (λ c. search needs)
     (λ c. search needs)

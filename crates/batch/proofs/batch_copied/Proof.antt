@@ -7,18 +7,6 @@ use Rattle.batch.proofs.Copying.{laid-parts}
 use Rattle.batch.proofs.batch_copied.Statement.{statement}
 use Rattle.batch.proofs.batch_copied.Tie as tie
 
-returns : tie.Need-returns
-returns c cs l =
-    let s = c .before .before .before .before .before .before .before .before in
-    let a = s .args in
-    call-faulty (a .n) (a .landmarks .now) (a .tails .now) (a .heads .now) (a .weights .now) (a .forward .now) (a .backward .now) (a .count) cs 1 0 (faults-long (a .n) (a .landmarks .now) _ (length cs) (omega (arith, l .size, c .if1 .taken)))
-
-slice-aggregate-batch-lists : tie.Need-slice-aggregate-batch-lists
-slice-aggregate-batch-lists c =
-    let e = c .before .before .before .before .before .before in
-    let s = e .before .before .before .before .before .before .before .before in
-    sym (length-take-le (s .args .size) (s .args .lists .now) (omega (arith, e .if1 .left, s .pre)))
-
 returns-2 : tie.Need-returns-2
 returns-2 c cs l =
     let d = c .before .before .before .before .before .before .before .before .before .before in
@@ -32,8 +20,14 @@ pub batch-copied-spec : {M : Type 1} → statement M
 batch-copied-spec =
     tie.close
     (tie.spec
-    returns
-    slice-aggregate-batch-lists
+    (λ c cs l.
+    let s = c .before .before .before .before .before .before .before .before in
+    let a = s .args in
+    call-faulty (a .n) (a .landmarks .now) (a .tails .now) (a .heads .now) (a .weights .now) (a .forward .now) (a .backward .now) (a .count) cs 1 0 (faults-long (a .n) (a .landmarks .now) _ (length cs) (omega (arith, l .size, c .if1 .taken))))
+    (λ c.
+    let e = c .before .before .before .before .before .before in
+    let s = e .before .before .before .before .before .before .before .before in
+    sym (length-take-le (s .args .size) (s .args .lists .now) (omega (arith, e .if1 .left, s .pre))))
     (λ c. search needs)
     (λ c. search needs)
     (λ c. search needs)

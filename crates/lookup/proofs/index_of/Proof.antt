@@ -11,16 +11,6 @@ Inv-loop v vertices i₀ i = i + indexOf v (drop i vertices) ≡ indexOf v verti
 abbrev μ-loop : tie.MeasureT-loop
 μ-loop v vertices i₀ i = length vertices - i
 
-returns : tie.Need-returns Inv-loop μ-loop
-returns c =
-    let t = c .before .before in
-    index-found _ _ (t .before .loop .i) (t .before .loop .inv) (t .loop-test .taken) (c .if1 .taken)
-
-loop-again : tie.Need-loop-again Inv-loop μ-loop
-loop-again c =
-    let t = c .before .before in
-    index-more _ _ (t .before .loop .i) (t .before .loop .inv) (t .loop-test .taken) (c .if1 .left)
-
 pub index-of-spec : {M : Type 1} → statement M
 index-of-spec =
     tie.close
@@ -30,8 +20,12 @@ index-of-spec =
     (λ c. zero-add _)
     (λ c. search needs)
     (λ c. search needs)
-    returns
+    (λ c.
+    let t = c .before .before in
+    index-found _ _ (t .before .loop .i) (t .before .loop .inv) (t .loop-test .taken) (c .if1 .taken))
     (λ c. search needs)
     (λ c. search needs)
-    loop-again
+    (λ c.
+    let t = c .before .before in
+    index-more _ _ (t .before .loop .i) (t .before .loop .inv) (t .loop-test .taken) (c .if1 .left))
     (λ c. index-none _ _ (c .before .loop .i) (c .before .loop .inv) (c .loop-test .left)))

@@ -29,17 +29,6 @@ lies c =
     let e = c .row-start .ensures ∙ ap (λ (i : ℕ). rowAt i (a .property) * a .n) (c .before .index-of .ensures) in
     record { at = e; forward = omega (arith, e, s .forward); backward = omega (arith, e, s .backward) }
 
-returns : tie.Need-returns
-returns c =
-    let e = c .before .before .before .row-number .ensures in
-    let q = c .before .enum-told2 .given .1 in
-    (row-refused _ _ _ _ _ _ _ _ e _ _ q, part-refused _ _ _ _ _ _ _ _ e _ _ q _ _ _)
-
-row-start-requires : tie.Need-row-start-requires
-row-start-requires c κs =
-    let s = shown (c .before) in
-    (s .first, s .last, s .few, omega (arith, s .listed, c .index-of .ensures))
-
 returns-2 : tie.Need-returns-2
 returns-2 c =
     let s = c .before .before in
@@ -66,9 +55,14 @@ row-spec =
     (λ c. search needs)
     (λ c. search needs)
     (λ c. search needs)
-    returns
+    (λ c.
+    let e = c .before .before .before .row-number .ensures in
+    let q = c .before .enum-told2 .given .1 in
+    (row-refused _ _ _ _ _ _ _ _ e _ _ q, part-refused _ _ _ _ _ _ _ _ e _ _ q _ _ _))
     (λ c κs. search needs)
-    row-start-requires
+    (λ c κs.
+    let s = shown (c .before) in
+    (s .first, s .last, s .few, omega (arith, s .listed, c .index-of .ensures)))
     (λ c. omega (arith, lies c))
     (λ c. omega (arith, lies (c .before)))
     (λ c. search needs)

@@ -28,21 +28,6 @@ listed : (c : tie.After-enum-told5) (r : Judged) (w : Verdict) → told r ≡ w 
     told r ≡ (size (a .n) ▷ shortRows (a .n) (a .landmarks .now) (rowLists (a .forward .now) (a .backward .now)) ▷ landmarks (a .n) (a .landmarks .now) ▷ w)
 listed c r w e = spaced (c .before .before .before) r _ (then-judged _ r _ w (c .before .before .judge-landmarks .ensures) (c .enum-told5 .given .1) e)
 
-returns-2 : tie.Need-returns-2
-returns-2 c =
-    let r = c .before .before in
-    number-told _ _ _ _ _ _ _ _ (sized (r .before) _ _ (then-refused _ _ _ _ _ (r .judge-rows .ensures) (c .enum-told4 .given .1)))
-
-returns-3 : tie.Need-returns-3
-returns-3 c =
-    let l = c .before .before in
-    number-told _ _ _ _ _ _ _ _ (spaced (l .before) _ _ (then-refused _ _ _ _ _ (l .judge-landmarks .ensures) (c .enum-told6 .given .1)))
-
-returns-4 : tie.Need-returns-4
-returns-4 c =
-    let i = c .before in
-    number-told _ _ _ _ _ _ _ _ (listed (i .before) _ _ (if-refused _ _ _ _ (sym (ap not (i .is-in .ensures)) ∙ c .if1 .taken)))
-
 returns-5 : tie.Need-returns-5
 returns-5 c =
     let e = c .before .before in
@@ -61,13 +46,19 @@ row-number-spec =
     (λ c κs. search needs)
     (λ c. search needs)
     (λ c. search needs)
-    returns-2
+    (λ c.
+    let r = c .before .before in
+    number-told _ _ _ _ _ _ _ _ (sized (r .before) _ _ (then-refused _ _ _ _ _ (r .judge-rows .ensures) (c .enum-told4 .given .1))))
     (λ c κs. search needs)
     (λ c. search needs)
     (λ c. search needs)
-    returns-3
+    (λ c.
+    let l = c .before .before in
+    number-told _ _ _ _ _ _ _ _ (spaced (l .before) _ _ (then-refused _ _ _ _ _ (l .judge-landmarks .ensures) (c .enum-told6 .given .1))))
     (λ c κs. search needs)
-    returns-4
+    (λ c.
+    let i = c .before in
+    number-told _ _ _ _ _ _ _ _ (listed (i .before) _ _ (if-refused _ _ _ _ (sym (ap not (i .is-in .ensures)) ∙ c .if1 .taken))))
     (λ c κs. search needs)
     (λ c κs. search needs)
     returns-5)

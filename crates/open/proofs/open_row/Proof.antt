@@ -4,12 +4,6 @@ use Rattle.open.proofs.Opening.{row-settled}
 use Rattle.open.proofs.open_row.Statement.{statement}
 use Rattle.open.proofs.open_row.Tie as tie
 
-values-from-requires : tie.Need-values-from-requires
-values-from-requires c κs =
-    let i = c .before .before in
-    let s = i .before .before .before .before .before in
-    (s .pre .0 .1 .vertices (i .row-landmark .result) (omega (arith, i .row-landmark .ensures)), s .pre .0 .0, s .pre .1 .1)
-
 returns : tie.Need-returns
 returns c =
     let q = c .before .before in
@@ -27,6 +21,9 @@ open-row-spec =
     (λ c. search needs)
     (λ c. search needs)
     (λ c. omega (arith, c .shared-slice-known3 .given (c .before .row-landmark .result)))
-    values-from-requires
+    (λ c κs.
+    let i = c .before .before in
+    let s = i .before .before .before .before .before in
+    (s .pre .0 .1 .vertices (i .row-landmark .result) (omega (arith, i .row-landmark .ensures)), s .pre .0 .0, s .pre .1 .1))
     (λ c. search needs)
     returns)

@@ -30,20 +30,6 @@ within c =
     let s = begin l in
     row-ends (l .loop .r) (rowCount (s .args .landmarks .now)) (s .args .n) _ (omega (arith, c .loop-test .taken)) (omega (arith, s .pre .1, l .loop .inv .2))
 
-loop-holds : tie.Need-loop-holds Inv-loop μ-loop
-loop-holds c =
-    let g = c .before .before .before .args in
-    (λ es o. over-none (openRow (g .n) (g .landmarks .now) es) (g .out .now), omega arith, refl)
-
-open-row-requires : tie.Need-open-row-requires Inv-loop μ-loop
-open-row-requires c κs =
-    let l = c .before .before in
-    let s = begin l in
-    (s .pre .0, (omega arith, row-size (s .args .n) (l .loop .r * s .args .n) (l .loop .out) (within (c .before))))
-
-add-r : tie.Need-add-r Inv-loop μ-loop
-add-r c = omega (arith, begin (c .before .before .before .before .before) .pre .0 .1 .few, c .before .before .before .before .loop-test .taken)
-
 loop-again : tie.Need-loop-again Inv-loop μ-loop
 loop-again c =
     let t = c .before .before .before .before in
@@ -72,15 +58,20 @@ open-rows-spec =
     Inv-loop
     μ-loop
     (λ c. search needs)
-    loop-holds
+    (λ c.
+    let g = c .before .before .before .args in
+    (λ es o. over-none (openRow (g .n) (g .landmarks .now) es) (g .out .now), omega arith, refl))
     (λ c. omega (arith, within c))
     (λ c. omega (arith, within c))
     (λ c. omega (arith, within c))
     (λ c. omega arith)
     (λ c. omega arith)
     (λ c. omega (arith, within c))
-    open-row-requires
-    add-r
+    (λ c κs.
+    let l = c .before .before in
+    let s = begin l in
+    (s .pre .0, (omega arith, row-size (s .args .n) (l .loop .r * s .args .n) (l .loop .out) (within (c .before)))))
+    (λ c. omega (arith, begin (c .before .before .before .before .before) .pre .0 .1 .few, c .before .before .before .before .loop-test .taken))
     (λ c. omega (arith, c .before .before .before .before .loop-test .taken))
     loop-again
     (λ c. c .before .loop .inv .2)

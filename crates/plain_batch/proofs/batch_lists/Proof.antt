@@ -49,19 +49,6 @@ returns c =
     let j = c .before .before .before in
     call-faulty _ _ _ _ _ _ _ _ _ _ _ (ap told (sym (d .judged .given .1)) ∙ (rw (c .before .before .before .before .before .before .before .before .before .count-changes .ensures) at (j .judge-batch .ensures)))
 
-copy-table-requires : tie.Need-copy-table-requires
-copy-table-requires c κs =
-    let t = fair (c .before .before .before .before .before .before) .table in
-    (room-less (t .few) (t .room), record { tails = t .few; heads = t .few; weights = t .few })
-
-apply-items-requires : tie.Need-apply-items-requires
-apply-items-requires c κs = tabled (c .before .before .before .before .before .before)
-
-apply-requires : tie.Need-apply-requires
-apply-requires c κs =
-    let a = c .before .before .before .before .before .before .before .before .before .before .before .before .before .before in
-    (fair (told-fine (copied-at a)), a .apply-items .ensures .1 .table _ (c .before .before .before .before .before .before .before .before .before .edited2 .given .1))
-
 returns-2 : tie.Need-returns-2
 unfolding verdict
 returns-2 c =
@@ -93,17 +80,21 @@ batch-lists-spec =
     (λ c. search needs)
     (λ c. search needs)
     (λ c. search needs)
-    copy-table-requires
+    (λ c κs.
+    let t = fair (c .before .before .before .before .before .before) .table in
+    (room-less (t .few) (t .room), record { tails = t .few; heads = t .few; weights = t .few }))
     (λ c. search needs)
     (λ c. search needs)
     (λ c. search needs)
-    apply-items-requires
+    (λ c κs. tabled (c .before .before .before .before .before .before))
     (λ c. search needs)
     (λ c. search needs)
     (λ c. search needs)
     (λ c. search needs)
     (λ c. search needs)
-    apply-requires
+    (λ c κs.
+    let a = c .before .before .before .before .before .before .before .before .before .before .before .before .before .before in
+    (fair (told-fine (copied-at a)), a .apply-items .ensures .1 .table _ (c .before .before .before .before .before .before .before .before .before .edited2 .given .1)))
     (λ c. search needs)
     (λ c. search needs)
     (λ c. search needs)

@@ -5,12 +5,6 @@ use Rattle.plate_track.proofs.Spelling.{spelled-short, spelled-told}
 use Rattle.plate_track.proofs.plate_track_batch.Statement.{statement}
 use Rattle.plate_track.proofs.plate_track_batch.Tie as tie
 
-returns-2 : tie.Need-returns-2
-returns-2 c =
-    let t = c .before .before in
-    let o = t .before .before .before .before .before .before .before .before .before .before .before .before in
-    spelled-told reportWords _ _ _ _ (o .before .before .before .before .before .before .if1 .left) (o .batch .ensures) (t .spell-batch .ensures)
-
 pub plate-track-batch-spec : {M : Type 1} → statement M
 plate-track-batch-spec =
     tie.close
@@ -24,4 +18,7 @@ plate-track-batch-spec =
     (λ c. search needs)
     (λ c. search needs)
     (λ c. search needs)
-    returns-2)
+    (λ c.
+    let t = c .before .before in
+    let o = t .before .before .before .before .before .before .before .before .before .before .before .before in
+    spelled-told reportWords _ _ _ _ (o .before .before .before .before .before .before .if1 .left) (o .batch .ensures) (t .spell-batch .ensures)))

@@ -5,12 +5,6 @@ use Rattle.plate_track.proofs.Spelling.{spelled-short, spelled-told}
 use Rattle.plate_track.proofs.plate_track_query.Statement.{statement}
 use Rattle.plate_track.proofs.plate_track_query.Tie as tie
 
-returns-2 : tie.Need-returns-2
-returns-2 c =
-    let t = c .before .before in
-    let o = t .before .before .before .before .before .before in
-    spelled-told tallyWords _ _ _ _ (o .before .before .before .if1 .left) (o .query .ensures) (t .spell-query .ensures)
-
 pub plate-track-query-spec : {M : Type 1} → statement M
 plate-track-query-spec =
     tie.close
@@ -21,4 +15,7 @@ plate-track-query-spec =
     (λ c. search needs)
     (λ c. search needs)
     (λ c. search needs)
-    returns-2)
+    (λ c.
+    let t = c .before .before in
+    let o = t .before .before .before .before .before .before in
+    spelled-told tallyWords _ _ _ _ (o .before .before .before .if1 .left) (o .query .ensures) (t .spell-query .ensures)))

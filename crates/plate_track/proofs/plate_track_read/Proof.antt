@@ -5,12 +5,6 @@ use Rattle.plate_track.proofs.Spelling.{spelled-short, spelled-told}
 use Rattle.plate_track.proofs.plate_track_read.Statement.{statement}
 use Rattle.plate_track.proofs.plate_track_read.Tie as tie
 
-returns-2 : tie.Need-returns-2
-returns-2 c =
-    let t = c .before .before in
-    let o = t .before .before .before .before .before .before .before .before in
-    spelled-told sizeWords _ _ _ _ (o .before .before .before .before .if1 .left) (o .read-network .ensures) (t .spell-read .ensures)
-
 pub plate-track-read-spec : {M : Type 1} → statement M
 plate-track-read-spec =
     tie.close
@@ -22,4 +16,7 @@ plate-track-read-spec =
     (λ c. search needs)
     (λ c. search needs)
     (λ c. search needs)
-    returns-2)
+    (λ c.
+    let t = c .before .before in
+    let o = t .before .before .before .before .before .before .before .before in
+    spelled-told sizeWords _ _ _ _ (o .before .before .before .before .if1 .left) (o .read-network .ensures) (t .spell-read .ensures)))

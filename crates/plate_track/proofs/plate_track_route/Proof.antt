@@ -5,12 +5,6 @@ use Rattle.plate_track.proofs.Spelling.{spelled-short, spelled-told}
 use Rattle.plate_track.proofs.plate_track_route.Statement.{statement}
 use Rattle.plate_track.proofs.plate_track_route.Tie as tie
 
-returns-2 : tie.Need-returns-2
-returns-2 c =
-    let t = c .before .before in
-    let o = t .before .before .before .before .before .before in
-    spelled-told oneWord _ _ _ _ (o .before .before .before .if1 .left) (o .route .ensures) (t .spell-route .ensures)
-
 pub plate-track-route-spec : {M : Type 1} → statement M
 plate-track-route-spec =
     tie.close
@@ -21,4 +15,7 @@ plate-track-route-spec =
     (λ c. search needs)
     (λ c. search needs)
     (λ c. search needs)
-    returns-2)
+    (λ c.
+    let t = c .before .before in
+    let o = t .before .before .before .before .before .before in
+    spelled-told oneWord _ _ _ _ (o .before .before .before .if1 .left) (o .route .ensures) (t .spell-route .ensures)))

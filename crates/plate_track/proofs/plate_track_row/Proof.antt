@@ -27,11 +27,6 @@ returns-2 c =
     (ap alone (start-refused _ _ _ _ _ _ _ (o .row-number .ensures) _ _ (c .before .r .given .1)))
     (refused-tells oneWord _ (o .before .if1 .left) _ _)
 
-row-start-requires : tie.Need-row-start-requires
-row-start-requires c κs =
-    let s = shown (c .before) in
-    (s .first, s .last, s .few, omega (arith, s .listed, c .index-of .ensures))
-
 returns-3 : tie.Need-returns-3
 returns-3 c =
     let d = c .before .before in
@@ -54,7 +49,9 @@ plate-track-row-spec =
     returns-2
     (λ c. search needs)
     (λ c κs. search needs)
-    row-start-requires
+    (λ c κs.
+    let s = shown (c .before) in
+    (s .first, s .last, s .few, omega (arith, s .listed, c .index-of .ensures)))
     (λ c. search needs)
     (λ c. search needs)
     returns-3)

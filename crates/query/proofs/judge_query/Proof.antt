@@ -6,12 +6,6 @@ use Rattle.query.proofs.AskingFaults.{faults-flat}
 use Rattle.query.proofs.judge_query.Statement.{statement}
 use Rattle.query.proofs.judge_query.Tie as tie
 
-returns-2 : tie.Need-returns-2
-returns-2 c =
-    let l = c .before .before in
-    let s = l .before in
-    then-judged _ _ _ _ (s .before .before .judge-sizes .ensures) (s .enum-told .given .1) (then-refused _ _ _ _ _ (l .judge-lists .ensures) (c .enum-told4 .given .1)) ∙ faults-flat _ _ _ _ _ _
-
 returns-3 : tie.Need-returns-3
 returns-3 c =
     let o = c .before .before in
@@ -19,12 +13,6 @@ returns-3 c =
     let s = l .before .before .before in
     then-judged _ _ _ _ (s .before .before .judge-sizes .ensures) (s .enum-told .given .1)
     (then-judged _ _ _ _ (l .before .before .judge-lists .ensures) (l .enum-told3 .given .1) (then-refused _ _ _ _ _ (o .judge-outputs .ensures) (c .enum-told6 .given .1))) ∙ faults-flat _ _ _ _ _ _
-
-judge-network-requires : tie.Need-judge-network-requires
-judge-network-requires c κs =
-    let l = c .before .before .before in
-    let a = l .before .before .before .before .before .before .before .before .before .before .before .before .before .args in
-    lengths-accept (a .tails .now) (a .heads .now) (a .weights .now) ((then-accept _ _ (fine-accept _ _ (l .before .before .judge-lists .ensures) (l .enum-told3 .given .1))) .0)
 
 returns-4 : tie.Need-returns-4
 returns-4 c =
@@ -58,12 +46,18 @@ judge-query-spec =
     (λ c κs. search needs)
     (λ c. search needs)
     (λ c. search needs)
-    returns-2
+    (λ c.
+    let l = c .before .before in
+    let s = l .before in
+    then-judged _ _ _ _ (s .before .before .judge-sizes .ensures) (s .enum-told .given .1) (then-refused _ _ _ _ _ (l .judge-lists .ensures) (c .enum-told4 .given .1)) ∙ faults-flat _ _ _ _ _ _)
     (λ c κs. search needs)
     (λ c. search needs)
     (λ c. search needs)
     returns-3
-    judge-network-requires
+    (λ c κs.
+    let l = c .before .before .before in
+    let a = l .before .before .before .before .before .before .before .before .before .before .before .before .before .args in
+    lengths-accept (a .tails .now) (a .heads .now) (a .weights .now) ((then-accept _ _ (fine-accept _ _ (l .before .before .judge-lists .ensures) (l .enum-told3 .given .1))) .0))
     (λ c. search needs)
     (λ c. search needs)
     returns-4

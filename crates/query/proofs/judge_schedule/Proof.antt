@@ -11,21 +11,6 @@ Inv-loop n schedule i₀ i = (scheduled n i (drop i schedule) ≡ scheduled n 0 
 abbrev μ-loop : tie.MeasureT-loop
 μ-loop n schedule i₀ i = length schedule - i
 
-returns : tie.Need-returns Inv-loop μ-loop
-returns c =
-    let l = c .before .before .before in
-    schedule-broken (l .before .args .n) (l .before .args .schedule .now) (l .loop .i) (l .loop .inv .0) (omega arith) (c .if1 .taken)
-
-loop-again : tie.Need-loop-again Inv-loop μ-loop
-loop-again c =
-    let l = c .before .before .before in
-    (schedule-more (l .before .args .n) (l .before .args .schedule .now) (l .loop .i) (l .loop .inv .0) (omega arith) (c .if1 .left), omega arith)
-
-returns-2 : tie.Need-returns-2 Inv-loop μ-loop
-returns-2 c =
-    let l = c .before in
-    schedule-none (l .before .args .n) (l .before .args .schedule .now) (l .loop .i) (l .loop .inv .0) (c .loop-test .left)
-
 pub judge-schedule-spec : {M : Type 1} → statement M
 judge-schedule-spec =
     tie.close
@@ -35,8 +20,14 @@ judge-schedule-spec =
     (λ c. (refl, omega arith))
     (λ c. search needs)
     (λ c. search needs)
-    returns
+    (λ c.
+    let l = c .before .before .before in
+    schedule-broken (l .before .args .n) (l .before .args .schedule .now) (l .loop .i) (l .loop .inv .0) (omega arith) (c .if1 .taken))
     (λ c. search needs)
     (λ c. search needs)
-    loop-again
-    returns-2)
+    (λ c.
+    let l = c .before .before .before in
+    (schedule-more (l .before .args .n) (l .before .args .schedule .now) (l .loop .i) (l .loop .inv .0) (omega arith) (c .if1 .left), omega arith))
+    (λ c.
+    let l = c .before in
+    schedule-none (l .before .args .n) (l .before .args .schedule .now) (l .loop .i) (l .loop .inv .0) (c .loop-test .left)))

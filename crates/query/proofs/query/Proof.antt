@@ -37,12 +37,6 @@ sound c =
     let a = s .args in
     faults-accept (a .n) (a .landmarks .now) (net s) (ask s) (length (a .starts .now)) (length (a .settled .now)) (fine c)
 
-returns : tie.Need-returns
-returns c =
-    let j = c .before .before .before in
-    let s = begin j in
-    query-refused (s .args .n) (s .args .landmarks .now) (net s) (ask s) (s .args .starts .now) (s .args .settled .now) _ (j .judge-query .ensures) (c .before .judged .given .1)
-
 -- the start words have their room
 words : (c : tie.After-enum-told) → let n = begin (c .before .before) .args .n in length (take {A = ℕ} n (replicate maxVertices 0)) ≡ n
 words c = length-take-le {A = ℕ} (begin (c .before .before) .args .n) (replicate maxVertices 0) (sound c .rows .few)
@@ -113,7 +107,10 @@ query-spec =
     (tie.spec
     (λ c κs. search needs)
     (λ c. search needs)
-    returns
+    (λ c.
+    let j = c .before .before .before in
+    let s = begin j in
+    query-refused (s .args .n) (s .args .landmarks .now) (net s) (ask s) (s .args .starts .now) (s .args .settled .now) _ (j .judge-query .ensures) (c .before .judged .given .1))
     (λ c. search needs)
     (λ c. sound c .rows .few)
     (λ c. sym (words (c .before)))

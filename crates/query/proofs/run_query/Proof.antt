@@ -25,15 +25,6 @@ started c =
     let s = begin d in
     ap (take (s .args .n)) (d .copy .ensures ∙ paste-over (s .args .settled .now) _ (s .args .n) (s .pre .1 .0)) ∙ take-at _ _ (s .args .n) (s .pre .1 .0)
 
-start-at-requires : tie.Need-start-at-requires
-start-at-requires c κs = let s = begin (c .before .before .before .before) in (s .pre .0 .2, s .pre .0 .3)
-
-run-counted-requires : tie.Need-run-counted-requires
-run-counted-requires c κs =
-    let a = c .before .before in
-    let s = begin (copied a) in
-    (s .pre .0 .0, record { words = room a; waiting = a .start-at .ensures .1 }, s .pre .0 .1)
-
 returns : tie.Need-returns
 returns c es o =
     let r = c .before .before in
@@ -49,9 +40,12 @@ run-query-spec =
     (tie.spec
     (λ c κs. search needs)
     (λ c κs. search needs)
-    start-at-requires
+    (λ c κs. let s = begin (c .before .before .before .before) in (s .pre .0 .2, s .pre .0 .3))
     (λ c. search needs)
     (λ c. sym (room (c .before)))
-    run-counted-requires
+    (λ c κs.
+    let a = c .before .before in
+    let s = begin (copied a) in
+    (s .pre .0 .0, record { words = room a; waiting = a .start-at .ensures .1 }, s .pre .0 .1))
     (λ c. search needs)
     returns)

@@ -62,12 +62,6 @@ loop-again c =
       omega arith,
     )
 
-same-length : tie.Need-same-length Inv-loop μ-loop
-same-length c =
-    let l = c .before .before in
-    let s = start l in
-    length-set (l .loop .out) (s .args .source) (c .start .result) ∙ l .loop .inv .1 ∙ sym (s .pre .0)
-
 returns : tie.Need-returns Inv-loop μ-loop
 unfolding asked
 returns c =
@@ -105,5 +99,8 @@ start-words-spec =
     (λ c κs. search needs)
     (λ c. search needs)
     (λ c. search needs)
-    same-length
+    (λ c.
+    let l = c .before .before in
+    let s = start l in
+    length-set (l .loop .out) (s .args .source) (c .start .result) ∙ l .loop .inv .1 ∙ sym (s .pre .0))
     returns)

@@ -23,30 +23,6 @@ within c =
     let f = c .lesser2 .ensures in
     (omega arith, omega arith, omega arith, omega arith, omega arith)
 
-mul-batch-lists : tie.Need-mul-batch-lists
-mul-batch-lists c = let z = within (c .before .before .before .before .before) in search needs
-
-part-batch-lists-end : tie.Need-part-batch-lists-end
-part-batch-lists-end c = within (c .before .before .before .before .before) .1
-
-mul-batch-lists-2 : tie.Need-mul-batch-lists-2
-mul-batch-lists-2 c = let z = within (c .before .before .before .before .before .before) in search needs
-
-part-batch-lists-end-2 : tie.Need-part-batch-lists-end-2
-part-batch-lists-end-2 c = within (c .before .before .before .before .before .before) .2
-
-mul-batch-lists-3 : tie.Need-mul-batch-lists-3
-mul-batch-lists-3 c = let z = within (c .before .before .before .before .before .before .before) in search needs
-
-part-batch-lists-end-3 : tie.Need-part-batch-lists-end-3
-part-batch-lists-end-3 c = within (c .before .before .before .before .before .before .before) .3
-
-mul-batch-lists-4 : tie.Need-mul-batch-lists-4
-mul-batch-lists-4 c = let z = within (c .before .before .before .before .before .before .before .before) in search needs
-
-part-batch-lists-end-4 : tie.Need-part-batch-lists-end-4
-part-batch-lists-end-4 c = within (c .before .before .before .before .before .before .before .before) .4
-
 returns : tie.Need-returns
 returns c =
     let d = c .before .before .before .before .before .before .before .before .before .before in
@@ -66,22 +42,22 @@ apply-part-spec =
     (λ c κs. search needs)
     (λ c κs. search needs)
     (λ c κs. search needs)
-    mul-batch-lists
+    (λ c. let z = within (c .before .before .before .before .before) in search needs)
     (λ c. search needs)
     (λ c. search needs)
-    part-batch-lists-end
-    mul-batch-lists-2
+    (λ c. within (c .before .before .before .before .before) .1)
+    (λ c. let z = within (c .before .before .before .before .before .before) in search needs)
     (λ c. search needs)
     (λ c. search needs)
-    part-batch-lists-end-2
-    mul-batch-lists-3
+    (λ c. within (c .before .before .before .before .before .before) .2)
+    (λ c. let z = within (c .before .before .before .before .before .before .before) in search needs)
     (λ c. search needs)
     (λ c. search needs)
-    part-batch-lists-end-3
-    mul-batch-lists-4
+    (λ c. within (c .before .before .before .before .before .before .before) .3)
+    (λ c. let z = within (c .before .before .before .before .before .before .before .before) in search needs)
     (λ c. search needs)
     (λ c. search needs)
-    part-batch-lists-end-4
+    (λ c. within (c .before .before .before .before .before .before .before .before) .4)
     (λ c κs. search needs)
     (λ c. search needs)
     (λ c. search needs)

@@ -23,22 +23,8 @@ abbrev μ-loop : tie.MeasureT-loop
 abbrev begin : tie.At-loop Inv-loop μ-loop → tie.Start Inv-loop μ-loop
 begin l = l .before .before .before .before .before .before .before .before .before .before .before .before
 
-loop-holds : tie.Need-loop-holds Inv-loop μ-loop
-loop-holds c = (refl, omega arith, omega arith, refl, refl, refl, refl, refl)
-
 mul-to : tie.Need-mul-to Inv-loop μ-loop
 mul-to c = search needs
-
-cast-to : tie.Need-cast-to Inv-loop μ-loop
-cast-to c = omega (arith, c .shared-slice-known7 .given (c .before .before .loop .i))
-
-add-accepted : tie.Need-add-accepted Inv-loop μ-loop
-add-accepted c =
-    let t = c .before .before .before .before .before .before .before .before .before .before .before .before .before .before .before .before .before .before .before .before in
-    omega (arith, mul-to t, t .before .loop .inv .1)
-
-add-i : tie.Need-add-i Inv-loop μ-loop
-add-i c = omega (arith, mul-to (c .before .before .before .before .before .before .before .before .before .before .before .before .before .before .before .before .before .before))
 
 loop-again : tie.Need-loop-again Inv-loop μ-loop
 loop-again c =
@@ -63,47 +49,31 @@ loop-again c =
       k .1 .1 .1 .1 .1 .1 .1 .0 ∙ l .loop .inv .7,
     )
 
-same-length : tie.Need-same-length Inv-loop μ-loop
-same-length c = c .before .loop .inv .3
-
-same-length-2 : tie.Need-same-length-2 Inv-loop μ-loop
-same-length-2 c = c .before .loop .inv .4
-
-same-length-3 : tie.Need-same-length-3 Inv-loop μ-loop
-same-length-3 c = c .before .loop .inv .5
-
-same-length-4 : tie.Need-same-length-4 Inv-loop μ-loop
-same-length-4 c = c .before .loop .inv .6
-
-same-length-5 : tie.Need-same-length-5 Inv-loop μ-loop
-same-length-5 c = c .before .loop .inv .7
-
-returns : tie.Need-returns Inv-loop μ-loop
-returns c =
-    let l = c .before in
-    let a = begin l .args in
-    carried-none _ _ _ _ _ _ _ _ _ _ (batches-none (l .loop .from) (a .ends .now) (l .loop .i) (changes (a .kinds .now) (a .froms .now) (a .tos .now) (a .values .now)) (omega (arith, c .loop-test .left))) (l .loop .inv .0)
-
 pub apply-parts-spec : {M : Type 1} → statement M
 apply-parts-spec =
     tie.close
     (tie.spec
     Inv-loop
     μ-loop
-    loop-holds
+    (λ c. (refl, omega arith, omega arith, refl, refl, refl, refl, refl))
     mul-to
     (λ c. search needs)
-    cast-to
+    (λ c. omega (arith, c .shared-slice-known7 .given (c .before .before .loop .i)))
     (λ c κs. search needs)
     (λ c. search needs)
-    add-accepted
+    (λ c.
+    let t = c .before .before .before .before .before .before .before .before .before .before .before .before .before .before .before .before .before .before .before .before in
+    omega (arith, mul-to t, t .before .loop .inv .1))
     (λ c. search needs)
-    add-i
+    (λ c. omega (arith, mul-to (c .before .before .before .before .before .before .before .before .before .before .before .before .before .before .before .before .before .before)))
     (λ c. search needs)
     loop-again
-    same-length
-    same-length-2
-    same-length-3
-    same-length-4
-    same-length-5
-    returns)
+    (λ c. c .before .loop .inv .3)
+    (λ c. c .before .loop .inv .4)
+    (λ c. c .before .loop .inv .5)
+    (λ c. c .before .loop .inv .6)
+    (λ c. c .before .loop .inv .7)
+    (λ c.
+    let l = c .before in
+    let a = begin l .args in
+    carried-none _ _ _ _ _ _ _ _ _ _ (batches-none (l .loop .from) (a .ends .now) (l .loop .i) (changes (a .kinds .now) (a .froms .now) (a .tos .now) (a .values .now)) (omega (arith, c .loop-test .left))) (l .loop .inv .0)))

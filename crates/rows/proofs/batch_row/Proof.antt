@@ -7,12 +7,6 @@ use Rattle.rows.proofs.batch_row.Tie as tie
 abbrev start : tie.After-waiting → tie.Start
 start w = w .before .before .before .before .before .before .before .before .before .before .before .before
 
-run-unscheduled-requires : tie.Need-run-unscheduled-requires
-run-unscheduled-requires c κs =
-    let p = c .before .before .before .before in
-    let s = start (p .before) in
-    (s .pre .3 .new, record { words = p .prepare .kept .1 .1 .1 .1 .1 .1 .0 ∙ s .pre .2; waiting = p .prepare .ensures .1 .0 })
-
 returns : tie.Need-returns
 returns c =
     let q = c .before .before in
@@ -36,6 +30,9 @@ batch-row-spec =
     (λ c. search needs)
     (λ c. search needs)
     (λ c κs. let s = start c in let l = s .pre .3 in (l .inside, l .old, l .into, s .pre .2))
-    run-unscheduled-requires
+    (λ c κs.
+    let p = c .before .before .before .before in
+    let s = start (p .before) in
+    (s .pre .3 .new, record { words = p .prepare .kept .1 .1 .1 .1 .1 .1 .0 ∙ s .pre .2; waiting = p .prepare .ensures .1 .0 }))
     (λ c. search needs)
     returns)

@@ -33,23 +33,6 @@ batch-row-requires c κs =
     let s = start l in
     (i .loop-test .taken, s .pre .0, row-size (s .args .n) (l .loop .r * s .args .n) (l .loop .rows) (lies i), s .pre .2)
 
-add-affected : tie.Need-add-affected Inv-loop μ-loop
-add-affected c =
-    let b = c .before .before .before in
-    let l = b .before .before .before in
-    omega (arith, l .loop .inv .0 .few, l .loop .inv .0 .within, start l .pre .0 .few, b .batch-row .ensures .0 .few)
-
-add-stores : tie.Need-add-stores Inv-loop μ-loop
-add-stores c =
-    let b = c .before .before .before .before in
-    let l = b .before .before .before in
-    omega (arith, l .loop .inv .0 .low, l .loop .inv .0 .within, start l .pre .0 .few, b .batch-row .ensures .0 .low)
-
-add-r : tie.Need-add-r Inv-loop μ-loop
-add-r c =
-    let l = c .before .before .before .before .before .before .before in
-    omega (arith, l .loop .inv .0 .within, start l .pre .0 .few)
-
 loop-again : tie.Need-loop-again Inv-loop μ-loop
 loop-again c =
     let b = c .before .before .before .before in
@@ -84,9 +67,17 @@ batch-rows-spec =
     (λ c. omega arith)
     lies
     batch-row-requires
-    add-affected
-    add-stores
-    add-r
+    (λ c.
+    let b = c .before .before .before in
+    let l = b .before .before .before in
+    omega (arith, l .loop .inv .0 .few, l .loop .inv .0 .within, start l .pre .0 .few, b .batch-row .ensures .0 .few))
+    (λ c.
+    let b = c .before .before .before .before in
+    let l = b .before .before .before in
+    omega (arith, l .loop .inv .0 .low, l .loop .inv .0 .within, start l .pre .0 .few, b .batch-row .ensures .0 .low))
+    (λ c.
+    let l = c .before .before .before .before .before .before .before in
+    omega (arith, l .loop .inv .0 .within, start l .pre .0 .few))
     (λ c. let i = c .before .before .before .before .before .before in omega (arith, i .loop-test .taken))
     loop-again
     (λ c. c .before .loop .inv .0 .size)

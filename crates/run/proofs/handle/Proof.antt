@@ -65,12 +65,6 @@ relax-requires c κs =
       record { taken = omega arith; rounds = omega arith; stores = omega (arith, f .fit .short) },
     )
 
-add-j : tie.Need-add-j Inv-loop μ-loop
-add-j c =
-    let t = c .before .before .before .before .before .before .before .before .before .before in
-    let k = t .before .before .before .before .before in
-    omega (arith, t .loop-test .taken, k .shared-slice-known4 .given (k .before .before .before .before .before .before .args .u + 1))
-
 loop-again : tie.Need-loop-again Inv-loop μ-loop
 loop-again c =
     let r = c .before .before in
@@ -145,7 +139,10 @@ handle-spec =
     (λ c κs. search needs)
     (λ c κs. search needs)
     relax-requires
-    add-j
+    (λ c.
+    let t = c .before .before .before .before .before .before .before .before .before .before in
+    let k = t .before .before .before .before .before in
+    omega (arith, t .loop-test .taken, k .shared-slice-known4 .given (k .before .before .before .before .before .before .args .u + 1)))
     (λ c. search needs)
     loop-again
     (λ c. search needs)

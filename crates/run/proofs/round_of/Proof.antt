@@ -32,11 +32,6 @@ found c = next-first _ _ _ (sym (c .before .before .next-from .ensures .0) ∙ c
 found-within : (c : tie.After-next Inv-loop μ-loop) → c .next .given .0 .0 < c .before .before .before .before .before .before .before .before .before .before .before .args .n
 found-within c = marks-within _ (c .before .before .before .before .before .loop .waiting) _ (c .before .before .before .before .before .loop .inv .2 .sized .waiting) (found c .waits)
 
-loop-holds : tie.Need-loop-holds Inv-loop μ-loop
-loop-holds c =
-    let s = c .before .before .before .before .before in
-    ((λ es o. rw sub-zero), omega arith, ran-none (s .pre .sized) _ 0 0 0)
-
 returns : tie.Need-returns Inv-loop μ-loop
 returns c =
     let l = c .before .before .before .before .before in
@@ -97,7 +92,9 @@ round-of-spec =
     Inv-loop
     μ-loop
     (λ c. search needs)
-    loop-holds
+    (λ c.
+    let s = c .before .before .before .before .before in
+    ((λ es o. rw sub-zero), omega arith, ran-none (s .pre .sized) _ 0 0 0))
     (λ c κs. omega (arith, c .before .before .before .before .before .before .before .before .pre .fit .few))
     (λ c. search needs)
     (λ c. search needs)

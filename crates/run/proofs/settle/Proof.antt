@@ -21,11 +21,6 @@ Inv-loop p n packed firsts heads weights words₀ waiting₀ t₀ k₀ words wai
 abbrev μ-loop : tie.MeasureT-loop
 μ-loop p n packed firsts heads weights words₀ waiting₀ t₀ k₀ words waiting t k = n - k
 
-loop-holds : tie.Need-loop-holds Inv-loop μ-loop
-loop-holds c =
-    let s = c .before .before .before .before in
-    ((λ es o. rw sub-zero), omega arith, ran-none (s .pre .sized) (s .args .tally) 0 0 0)
-
 returns : tie.Need-returns Inv-loop μ-loop
 returns c =
     let l = c .before .before .before .before in
@@ -78,7 +73,9 @@ settle-spec =
     (tie.spec
     Inv-loop
     μ-loop
-    loop-holds
+    (λ c.
+    let s = c .before .before .before .before in
+    ((λ es o. rw sub-zero), omega arith, ran-none (s .pre .sized) (s .args .tally) 0 0 0))
     (λ c κs. search needs)
     (λ c. search needs)
     returns

@@ -60,17 +60,6 @@ accepted s =
     let a = s .args in
     network-accept (a .n) (a .landmarks .now) (a .tails .now) (a .heads .now) (a .weights .now) (a .count) (a .forward .now) (a .backward .now) (s .pre)
 
-loop-holds : tie.Need-loop-holds Inv-loop2 μ-loop2 Inv-loop μ-loop Inv-sides μ-sides
-loop-holds c =
-    let s = c .before in
-    let l : s .sides .side < 2 = omega arith in
-    (sides-more _ _ _ _ _ (s .sides .side) (s .sides .inv .0) l, omega arith, s .sides .inv .2)
-
-loop2-holds : tie.Need-loop2-holds Inv-loop2 μ-loop2 Inv-loop μ-loop Inv-sides μ-sides
-loop2-holds c =
-    let l = c .before in
-    (rows-more _ _ _ _ _ (l .loop .r) _ (l .loop .inv .0) (c .loop-test .taken), omega arith, l .loop .inv .2)
-
 is-spot-requires : tie.Need-is-spot-requires Inv-loop2 μ-loop2 Inv-loop μ-loop Inv-sides μ-sides
 is-spot-requires c κs =
     let l = c .before .before in
@@ -98,22 +87,6 @@ loop2-again c =
       l .loop2 .inv .2,
     )
 
-loop-again : tie.Need-loop-again Inv-loop2 μ-loop2 Inv-loop μ-loop Inv-sides μ-sides
-loop-again c =
-    let l = c .before in
-    let s = start (l .before .before .before .before) in
-    (records-none _ _ _ _ (accepted s .0 .room) _ _ _ _ (l .loop2 .j) _ (l .loop2 .inv .0) (c .loop2-test .left), omega arith, l .loop2 .inv .2)
-
-sides-again : tie.Need-sides-again Inv-loop2 μ-loop2 Inv-loop μ-loop Inv-sides μ-sides
-sides-again c =
-    let l = c .before in
-    (rows-none _ _ _ _ _ (l .loop .r) _ (l .loop .inv .0) (c .loop-test .left), omega arith, l .loop .inv .2)
-
-returns : tie.Need-returns Inv-loop2 μ-loop2 Inv-loop μ-loop Inv-sides μ-sides
-returns c =
-    let s = c .before in
-    checking-settled _ _ (s .sides .inv .2) (sides-none _ _ _ _ _ (s .sides .side) (s .sides .inv .0) (c .sides-test .left))
-
 returns-2 : tie.Need-returns-2 Inv-loop2 μ-loop2 Inv-loop μ-loop Inv-sides μ-sides
 returns-2 c =
     let b = c .before in
@@ -135,17 +108,29 @@ first-spot-spec =
     μ-sides
     (λ c. omega (arith, accepted (c .before .before .before .before .before .before) .0 .landmarks .few))
     (λ c. (sides-all _ _ _ _ _, omega arith, refl))
-    loop-holds
-    loop2-holds
+    (λ c.
+    let s = c .before in
+    let l : s .sides .side < 2 = omega arith in
+    (sides-more _ _ _ _ _ (s .sides .side) (s .sides .inv .0) l, omega arith, s .sides .inv .2))
+    (λ c.
+    let l = c .before in
+    (rows-more _ _ _ _ _ (l .loop .r) _ (l .loop .inv .0) (c .loop-test .taken), omega arith, l .loop .inv .2))
     is-spot-requires
     (λ c. search needs)
     (λ c. search needs)
     loop2-again
     (λ c. search needs)
     (λ c. search needs)
-    loop-again
+    (λ c.
+    let l = c .before in
+    let s = start (l .before .before .before .before) in
+    (records-none _ _ _ _ (accepted s .0 .room) _ _ _ _ (l .loop2 .j) _ (l .loop2 .inv .0) (c .loop2-test .left), omega arith, l .loop2 .inv .2))
     (λ c. search needs)
     (λ c. search needs)
-    sides-again
-    returns
+    (λ c.
+    let l = c .before in
+    (rows-none _ _ _ _ _ (l .loop .r) _ (l .loop .inv .0) (c .loop-test .left), omega arith, l .loop .inv .2))
+    (λ c.
+    let s = c .before in
+    checking-settled _ _ (s .sides .inv .2) (sides-none _ _ _ _ _ (s .sides .side) (s .sides .inv .0) (c .sides-test .left)))
     returns-2)

@@ -10,18 +10,6 @@ start c = c .before .before .before .before .before .before .before .before .bef
 abbrev forward : tie.After-batch-rows-arg4 → tie.After-batch-rows
 forward c = c .before .before .before .before .before .before .before .before
 
-batch-rows-requires : tie.Need-batch-rows-requires
-batch-rows-requires c κs =
-    let s = start c in
-    let l = s .pre .0 .2 in
-    (s .pre .0 .1, omega (arith, s .pre .1), record { inside = l .inside; old = l .old; new = l .new; into = l .rnew })
-
-batch-rows-requires-2 : tie.Need-batch-rows-requires-2
-batch-rows-requires-2 c κs =
-    let s = start (forward c .before) in
-    let l = s .pre .0 .2 in
-    (s .pre .0 .1, omega (arith, s .pre .1), record { inside = c .before .before .before .before .turn .ensures .0 (s .args .n) (l .inside); old = l .rold; new = search needs; into = search needs })
-
 returns : tie.Need-returns
 returns c =
     let b = c .before .before .before .before .before .before in
@@ -35,9 +23,15 @@ pub batch-sides-spec : {M : Type 1} → statement M
 batch-sides-spec =
     tie.close
     (tie.spec
-    batch-rows-requires
+    (λ c κs.
+    let s = start c in
+    let l = s .pre .0 .2 in
+    (s .pre .0 .1, omega (arith, s .pre .1), record { inside = l .inside; old = l .old; new = l .new; into = l .rnew }))
     (λ c κs. search needs)
-    batch-rows-requires-2
+    (λ c κs.
+    let s = start (forward c .before) in
+    let l = s .pre .0 .2 in
+    (s .pre .0 .1, omega (arith, s .pre .1), record { inside = c .before .before .before .before .turn .ensures .0 (s .args .n) (l .inside); old = l .rold; new = search needs; into = search needs }))
     (λ c. let b = c .before .before .before .before in let x = forward (b .before) .batch-rows .ensures .0 in let y = b .batch-rows2 .ensures .0 in omega arith)
     (λ c. let b = c .before .before .before .before .before .before in let x = forward (b .before) .batch-rows .ensures .0 in let y = b .batch-rows2 .ensures .0 in omega arith)
     (λ c. search needs)
