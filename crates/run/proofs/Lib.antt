@@ -4,4 +4,4 @@ pub mod Rounds
 pub mod Starts
 pub mod Examples
 pub mod Kit
-pub mod Walking
+pub mod ByHand

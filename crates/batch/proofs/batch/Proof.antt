@@ -3,7 +3,7 @@
 -- array's memory is room again. All that the proof knows of the three callees is that they meet their contracts. Assumes nothing.
 use Rattle.property.proofs.Basics.{_≡_, refl, sym, _∙_, subst, ℕ, min, arith, List, [], _∷_, map, lit<, length, length-replicate}
 use Rattle.run.proofs.Kit.{URA, fullShare, w32, w64, Val, vint, SProp, ent, id⊢, Lft, GName, Share, ftrue, froom, flft, flent, Memory, Routine, Heap, Env, WpFn, Tables, Atoms, Fun, givenOf, tables, tablesOf, Given, Item, ‵, raw, some, later, _⊛_, _$_, _∵_, !, qed, move, keep, drop, use1, use2, use3, split, join, pick, fsplit, fjoin, feqL, suffices, await, done, agg, whole, sub, look-in, look, init, store, stop, hop, fld, from, load, lit, addr, of-opd, and-then, no-more, assigns, land, returns, enter, alloc1, alloc0, params1, pass1, pass0, free1, free0, lft-new, lft-end, fmOf, RattleType, Is, shows, uint-vals, uint-makes, nothing-lawful, u32, usize, unit, RefT, sliceVal, Room, slice-vals, peeks, owned, heard, nothing, calls-at, onEntry, tripleOf, Contract, Triple, entered, cited, says, ends-at}
-use Rattle.run.proofs.Walking.{_⨾_, Params, number, shared, given, stays, Holds, walkFor, boundAt, entry, meets, gave, held, downs, upto, snoc, front, last, tokens, token-in, token-out, wide, var}
+use Rattle.run.proofs.ByHand.{_⨾_, Params, number, shared, given, stays, Holds, walkFor, boundAt, entry, meets, gave, held, downs, upto, snoc, front, last, tokens, token-in, token-out, wide, var}
 use contract.Lifetimes.{Lfts, Shares}
 use denote.Triple.Entry.{Args}
 use denote.Triple.Clauses.{Clauses}

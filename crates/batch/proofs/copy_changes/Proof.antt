@@ -9,7 +9,7 @@ use mathlib.Core.WellFounded.{WellFounded, InvImage·wf}
 use lib.WfN.{Nat·lt-wfRel}
 use lib.Dec.{T as Lies, ltb→lt, nltb→le}
 use Rattle.run.proofs.Kit.{URA, fullShare, Ty, named, w32, w64, tyInt, Val, vunit, vint, vptr, SProp, ent, sep, id⊢, Lft, GName, Share, Fml, ftrue, fat, froom, flft, fres, Memory, Routine, Heap, Env, WpFn, Tables, Atoms, sem, Fun, givenOf, tables, tablesOf, Given, Item, ‵, raw, some, later, _⊛_, _$_, _∵_, !, qed, move, keep, use1, use2, use3, split, join, pick, rewrite, fsplit, fjoin, feqL, feqI, suffices, frame, await, done, agg, whole, sub, look-in, look, look-raw, init, store, forget, stop, hop, fld, from, load, lit, unit-lit, addr, of-opd, and-then, no-more, assigns, land, returns, enter, alloc1, alloc0, params1, pass1, pass0, free1, free0, arr-parts, lft-new, lft-end, fmOf, RattleType, owns, Is, shows, shares, uint-makes, uint-vals, nothing-lawful, u32, usize, unit, RefT, sliceVal, ShrSlice, MutSlice, Room, at-slice, heres, codedHoleys, owned, peeks, heard, nothing, calls-at, onEntry, tripleOf, Contract, Triple, entered, cited, says, needs, ends-at}
-use Rattle.run.proofs.Walking.{_⨾_, Params, number, shared, kept-slice, stays, walkFor, boundAt, meets, gave, held, downs, upto, wide, var}
+use Rattle.run.proofs.ByHand.{_⨾_, Params, number, shared, kept-slice, stays, walkFor, boundAt, meets, gave, held, downs, upto, wide, var}
 use denote.Triple.Clauses.{Clauses}
 use mir.Syntax.{Body, skip, seq, assign, block, loop, cond, switch, exit, return, call, erased, imm, mut, tyBool, tyPtr, tyRef, tyUnit}
 use base.Fml.{fdies, fshr-bor}

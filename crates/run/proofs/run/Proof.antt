@@ -3,7 +3,7 @@
 -- All that the proof knows of `run_from` is that it meets its contract. Assumes nothing.
 use Rattle.property.proofs.Basics.{refl, ℕ, List, [], _∷_}
 use Rattle.run.proofs.Kit.{URA, fullShare, w32, w64, Val, vunit, vptr, SProp, ent, id⊢, Lft, Share, GName, flft, Memory, Routine, Heap, WpFn, Tables, Atoms, Fun, givenOf, tables, tablesOf, Given, ‵, raw, _⊛_, _$_, _∵_, !, qed, move, keep, drop, use1, use2, split, join, fsplit, fjoin, feqI, suffices, frame, done, agg, whole, sub, look-in, look, look-raw, init, stop, hop, fld, from, load, unit-lit, addr, of-opd, and-then, no-more, assigns, land, returns, enter, alloc1, alloc0, params1, pass1, pass0, free0, fmOf, RattleType, Array, mem, Is, shows, uint-vals, u32, u64, RefT, ptr-vals, slice-vals, peeks, spelt, tripleOf, Contract, Triple, calls-at, entered, cited, ends-at}
-use Rattle.run.proofs.Walking.{_⨾_, Params, number, shared, given, given-ref, kept-ref, stays, Holds, walkFor, boundAt, entry, meets, gave, held, downs, snoc, front, last, tokens, token-in, token-out, wide, var}
+use Rattle.run.proofs.ByHand.{_⨾_, Params, number, shared, given, given-ref, kept-ref, stays, Holds, walkFor, boundAt, entry, meets, gave, held, downs, snoc, front, last, tokens, token-in, token-out, wide, var}
 use contract.Lifetimes.{Lfts, Shares}
 use denote.Triple.Entry.{Args}
 use denote.Triple.Clauses.{Clauses}

@@ -3,7 +3,7 @@
 -- All that the proof knows of `run` is that it meets its contract. Assumes nothing.
 use Rattle.property.proofs.Basics.{refl, false, ℕ, List, [], _∷_, lit<}
 use Rattle.run.proofs.Kit.{URA, fullShare, named, w32, w64, Val, vptr, SProp, ent, sep, ex, GName, Fml, fsep, fat, flft, fdead, flent, fres, Memory, Routine, Heap, WpFn, Tables, Atoms, sem, Fun, givenOf, tables, tablesOf, Given, ‵, raw, some, later, _⊛_, _$_, _∵_, !, qed, by, move, keep, use1, use2, use3, split, join, pick, fsplit, fjoin, fpick, fpack, suffices, frame, await, updating, at-once, done, agg, whole, sub, look-in, look, init, stop, hop, fld, from, load, lit, addr, of-opd, and-then, no-more, assigns, land, returns, enter, alloc1, alloc0, params1, pass1, pass0, free0, Body, lft-new, lft-end, fmOf, RattleType, Array, mem, cellAt, partOf, Is, shows, uint-vals, nothing-lawful, u32, u64, unit, RefT, MutRef, ptr-vals, slice-vals, owned, peeks, heard, spelt, onEntry, tripleOf, Contract, Triple, calls-at, entered, cited, says, ends-at}
-use Rattle.run.proofs.Walking.{_⨾_, Params, number, shared, given, given-ref, stays, Holds, walkFor, boundAt, entry, meets, gave, held, downs, upto, snoc, tokens, token-in, token-out, wide, var}
+use Rattle.run.proofs.ByHand.{_⨾_, Params, number, shared, given, given-ref, stays, Holds, walkFor, boundAt, entry, meets, gave, held, downs, upto, snoc, tokens, token-in, token-out, wide, var}
 use contract.Lifetimes.{Lfts, Shares}
 use denote.Triple.Entry.{Args}
 use denote.Triple.Clauses.{Clauses}
