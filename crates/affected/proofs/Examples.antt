@@ -1,6 +1,5 @@
 -- Affected vertices of small networks, computed: document 01, "Near the edges, and a small deck"; document 02, One. Assumes nothing.
---
--- A table of examples lists what is asked with who is affected; one equation holds for all of its lines.
+use Rattle.property.proofs.Tables.{Said}
 use Rattle.property.proofs.Basics.{_≡_, refl, Bool, true, false, List, [], _∷_, map, ℕ}
 use Rattle.property.specs.Property.{M, sssp, sswp, ssr, property}
 use Rattle.graph.specs.Edge.{Edge, edge, reverse, exists}
@@ -31,8 +30,8 @@ nobody = false ∷ false ∷ false ∷ false ∷ []
 abbrev two : List Bool
 two = false ∷ true ∷ true ∷ false ∷ []
 
-abbrev deckA : List (List Bool × List Bool)
-deckA =
+abbrev affectedA : List (List Bool × List Bool)
+affectedA =
     -- 1 lost the edge that gives its time, and 2 has its own from 1
     (affected sssp graphA less 0 time 4, two)
     -- the ring 1→2→1 of equal words cannot uphold itself
@@ -52,9 +51,9 @@ deckA =
     ∷ (affected sssp graphA (delete (edge 3 2 0) graphA) 0 time 4, nobody)
     ∷ []
 
-deckA-said : map (λ c. c .0) deckA ≡ map (λ c. c .1) deckA
+affectedA-said : Said affectedA
 unfolding affected sweeps sweep mark counterpart order.insert order.delete order.update
-deckA-said = refl
+affectedA-said = refl
 
 -- a bettered edge passes on by its old weight: 1→2 of 2 becomes 1, 0→1 goes, and the time 3 of 2 is affected
 passed-on : affected sssp (edge 0 1 1 ∷ edge 1 2 2 ∷ []) (edge 1 2 1 ∷ []) 0 (0 ∷ 1 ∷ 3 ∷ []) 3 ≡ false ∷ true ∷ true ∷ []
@@ -88,7 +87,7 @@ never-tight = refl
 abbrev ring : List Edge
 ring = edge 0 1 1 ∷ edge 1 0 1 ∷ []
 
--- the removal of either affects nobody: the landmark has its word from itself
+-- the removal of either affects nobody: the one's head has no route, and the other's is the landmark, which has its word from itself
 never-taken : affected sssp (edge 1 2 4 ∷ []) [] 0 (0 ∷ M ∷ M ∷ []) 3 ∷ affected ssr ring (delete (edge 1 0 0) ring) 0 (1 ∷ 1 ∷ []) 2 ∷ []
     ≡ (false ∷ false ∷ false ∷ []) ∷ (false ∷ false ∷ []) ∷ []
 unfolding affected sweeps sweep mark counterpart order.delete

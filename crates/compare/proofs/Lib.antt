@@ -1,3 +1,3 @@
-pub mod Listing
+pub mod Ruled
 pub mod Walking
 pub mod Reversed

@@ -6,7 +6,7 @@ use Rattle.graph.specs.Edge.{Edge, reverse}
 use Rattle.graph.proofs.Edges.{mem-reverse, reverse-mem}
 use Rattle.affected.proofs.Net.{net-reverse}
 use Rattle.compare.specs.Code.{before, after, pairs, Inside, differs, Lists, Differences}
-use Rattle.compare.proofs.Listing.{put, put-other, put-first, put-second}
+use Rattle.compare.proofs.Ruled.{put, put-other, put-first, put-second}
 
 differs-reverse : (fs : List Edge) (e : Edge) → differs (map reverse fs) (reverse e) ≡ differs fs e
 differs-reverse fs e = ap (λ c. not (eqb c (e .weight))) (net-reverse fs e)

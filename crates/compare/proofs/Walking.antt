@@ -8,6 +8,8 @@
 --   Side s s′ f h i j g  == so far for the table s: by the edges f k, with the weights of the edges h k; and the edges of s′ that are gone past
 --                           precede the one at hand
 --   Walk s s′ f h i j g  == so far for both tables
+--   Words s s′ i j b c x y o w == the words of a step: the pair of the edge that comes first, and its weights in both tables, 0 for none
+--   Listed s s′ xs i j g == the walk so far, with the list xs of changes, whose tails and heads are vertices
 --
 -- Both tables are sorted by pair. At each step the edge that comes first is gone past: if it comes before the other table's edge at hand, it
 -- stands nowhere in the other table, since all before that one precede it and all from there on come after it. If both are of one pair, both
@@ -26,11 +28,11 @@ use Rattle.graph.proofs.Records.{edges-mem}
 use Rattle.affected.specs.Net.{counterpart}
 use Rattle.affected.proofs.Net.{rules-single}
 use Rattle.compare.specs.Code.{before, after, Inside, differs, Lists, Differences, Tables}
-use Rattle.compare.proofs.Listing.{Kept, all, at, Past, at-facts, all-index, rises, passed-none, passed-more, passed-counterpart, put, put-other, put-first, put-second}
+use Rattle.compare.proofs.Ruled.{Ruled, all, at, Past, at-facts, all-index, rises, passed-none, passed-more, passed-counterpart, put, put-other, put-first, put-second}
 
 -- ---- which edge comes first
 
-module _ {n : ℕ} (s : Kept n) (i : ℕ) (s′ : Kept n) (j : ℕ) where
+module _ {n : ℕ} (s : Ruled n) (i : ℕ) (s′ : Ruled n) (j : ℕ) where
   abbrev pub due : Bool
   due = ltb i (s .count) && not (ltb j (s′ .count) && precedes (at s′ j) (at s i))
 
@@ -50,7 +52,7 @@ module _ {n : ℕ} (s : Kept n) (i : ℕ) (s′ : Kept n) (j : ℕ) where
   due-low true d l = let z = due-first d .0 in omega arith
   due-low false d l = l
 
-module _ {n : ℕ} (s : Kept n) (i : ℕ) (s′ : Kept n) (j : ℕ) where
+module _ {n : ℕ} (s : Ruled n) (i : ℕ) (s′ : Ruled n) (j : ℕ) where
   -- one of them comes first
   due-some : due s i s′ j ≡ false → due s′ j s i ≡ false → i < s .count → ⊥
   due-some a b l =
@@ -86,15 +88,15 @@ module _ {n : ℕ} (s : Kept n) (i : ℕ) (s′ : Kept n) (j : ℕ) where
 
 -- ---- a step
 
-pub record Step {n : ℕ} (s s′ : Kept n) (i j : ℕ) (b c : Bool) : Type 0 where
+pub record Step {n : ℕ} (s s′ : Ruled n) (i j : ℕ) (b c : Bool) : Type 0 where
   pub go : (i < s .count) ⊎ (j < s′ .count)
   pub old : b ≡ due s i s′ j
   pub new : c ≡ due s′ j s i
 
-pub step-flip : {n : ℕ} {s s′ : Kept n} {i j : ℕ} {b c : Bool} → Step s s′ i j b c → Step s′ s j i c b
+pub step-flip : {n : ℕ} {s s′ : Ruled n} {i j : ℕ} {b c : Bool} → Step s s′ i j b c → Step s′ s j i c b
 step-flip p = record { go = ⊎-elim inr inl (p .go); old = p .new; new = p .old }
 
-module _ {n : ℕ} {s s′ : Kept n} {i j : ℕ} where
+module _ {n : ℕ} {s s′ : Ruled n} {i j : ℕ} where
   step-none : Step s s′ i j false false → ⊥
   step-none p = ⊎-elim (due-some s i s′ j (sym (p .old)) (sym (p .new))) (due-some s′ j s i (sym (p .new)) (sym (p .old))) (p .go)
 
@@ -160,7 +162,7 @@ module _ {fs : List Edge} {i g : ℕ} {f : ℕ → Edge} {o : ℕ → ℕ} {A : 
   half-stay z = half-more i (g + 1) (omega arith) (omega arith) (λ k l b w. let q : k ≡ g = omega arith in let y : 0 < f g .weight = rw q at w in absurd (omega arith)) (λ a l b. absurd (omega arith))
 
 -- all is gone past
-half-done : {n : ℕ} (s : Kept n) (fs : List Edge) (g : ℕ) (f : ℕ → Edge) (o : ℕ → ℕ) → Half fs (s .count) g f o (at s) → Lists (all s) fs g f o
+half-done : {n : ℕ} (s : Ruled n) (fs : List Edge) (g : ℕ) (f : ℕ → Edge) (o : ℕ → ℕ) → Half fs (s .count) g f o (at s) → Lists (all s) fs g f o
 half-done s fs g f o t = record {
   among = λ k b w. let (a, c, e) = t .each k b w .0 in rw (← e) (edges-mem _ _ _ _ (s .room) a c);
   other = λ k b w. t .each k b w .1;
@@ -174,23 +176,23 @@ half-done s fs g f o t = record {
 
 -- ---- the walk
 
-pub record Side {n : ℕ} (s s′ : Kept n) (f h : ℕ → Edge) (i j g : ℕ) : Type 0 where
+pub record Side {n : ℕ} (s s′ : Ruled n) (f h : ℕ → Edge) (i j g : ℕ) : Type 0 where
   pub listed : Half (all s′) i g f (λ k. h k .weight) (at s)
   pub behind : i < s .count → Past s′ (at s i) j
   pub low : i ≤ s .count
 
-pub record Walk {n : ℕ} (s s′ : Kept n) (f h : ℕ → Edge) (i j g : ℕ) : Type 0 where
+pub record Walk {n : ℕ} (s s′ : Ruled n) (f h : ℕ → Edge) (i j g : ℕ) : Type 0 where
   pub old : Side s s′ f h i j g
   pub new : Side s′ s h f j i g
   pub few : g ≤ i + j
 
-side-start : {n : ℕ} (s s′ : Kept n) (f h : ℕ → Edge) → Side s s′ f h 0 0 0
+side-start : {n : ℕ} (s s′ : Ruled n) (f h : ℕ → Edge) → Side s s′ f h 0 0 0
 side-start s s′ f h = record { listed = half-none _ _ _ _; behind = λ l. passed-none s′ (at s 0); low = omega arith }
 
-pub walk-start : {n : ℕ} (s s′ : Kept n) (f h : ℕ → Edge) → Walk s s′ f h 0 0 0
+pub walk-start : {n : ℕ} (s s′ : Ruled n) (f h : ℕ → Edge) → Walk s s′ f h 0 0 0
 walk-start s s′ f h = record { old = side-start s s′ f h; new = side-start s′ s h f; few = omega arith }
 
-module _ {n : ℕ} {s s′ : Kept n} {f h : ℕ → Edge} {i j g : ℕ} (t : Side s s′ f h i j g) where
+module _ {n : ℕ} {s s′ : Ruled n} {f h : ℕ → Edge} {i j g : ℕ} (t : Side s s′ f h i j g) where
   side-moved : (f′ h′ : ℕ → Edge) → ((k : ℕ) → k < g → f′ k ≡ f k) → ((k : ℕ) → k < g → h′ k ≡ h k) → Side s s′ f′ h′ i j g
   side-moved f′ h′ x y = record { listed = half-moved (t .listed) _ _ x (λ k l. ap (λ (e : Edge). e .weight) (y k l)); behind = t .behind; low = t .low }
 
@@ -198,10 +200,10 @@ module _ {n : ℕ} {s s′ : Kept n} {f h : ℕ → Edge} {i j g : ℕ} (t : Sid
   side-made b c d e g′ l = record { listed = l; behind = passed-step s i s′ j (t .behind) b c d e; low = due-low s i s′ j b d (t .low) }
 
 -- the tables change places
-walk-flip : {n : ℕ} {s s′ : Kept n} {f h : ℕ → Edge} {i j g : ℕ} → Walk s s′ f h i j g → Walk s′ s h f j i g
+walk-flip : {n : ℕ} {s s′ : Ruled n} {f h : ℕ → Edge} {i j g : ℕ} → Walk s s′ f h i j g → Walk s′ s h f j i g
 walk-flip w = record { old = w .new; new = w .old; few = let z = w .few in omega arith }
 
-module _ {n : ℕ} {s s′ : Kept n} {f h : ℕ → Edge} {i j g : ℕ} (w : Walk s s′ f h i j g) where
+module _ {n : ℕ} {s s′ : Ruled n} {f h : ℕ → Edge} {i j g : ℕ} (w : Walk s s′ f h i j g) where
   -- by other lists that have the same
   walk-moved : (f′ h′ : ℕ → Edge) → ((k : ℕ) → k < g → f′ k ≡ f k) → ((k : ℕ) → k < g → h′ k ≡ h k) → Walk s s′ f′ h′ i j g
   walk-moved f′ h′ x y = record { old = side-moved (w .old) f′ h′ x y; new = side-moved (w .new) h′ f′ y x; few = w .few }
@@ -252,14 +254,14 @@ module _ (xs : List ℕ) (g t h o w : ℕ) (long : 2 * g + 1 < length xs) (small
 
 -- ---- the words of a step
 
-pub record Words {n : ℕ} (s s′ : Kept n) (i j : ℕ) (b c : Bool) (x y o w : ℕ) : Type 0 where
+pub record Words {n : ℕ} (s s′ : Ruled n) (i j : ℕ) (b c : Bool) (x y o w : ℕ) : Type 0 where
   pub step : Step s s′ i j b c
   pub tail : x ≡ cond b (at s i .tail) (at s′ j .tail)
   pub head : y ≡ cond b (at s i .head) (at s′ j .head)
   pub old : o ≡ cond b (at s i .weight) 0
   pub new : w ≡ cond c (at s′ j .weight) 0
 
-module _ {n : ℕ} {s s′ : Kept n} {i j : ℕ} {b c : Bool} {x y o w : ℕ} (p : Words s s′ i j b c x y o w) where
+module _ {n : ℕ} {s s′ : Ruled n} {i j : ℕ} {b c : Bool} {x y o w : ℕ} (p : Words s s′ i j b c x y o w) where
   pub words-low : (x < n) × (y < n) × (o ≤ maxWeight) × (w ≤ maxWeight)
   words-low =
       let f : b ≡ true → EdgeFacts n (at s i) = λ q. at-facts s i (step-due (p .step) q) in
@@ -280,10 +282,10 @@ module _ {n : ℕ} {s s′ : Kept n} {i j : ℕ} {b c : Bool} {x y o w : ℕ} (p
 
 -- ---- the walk by the words of a list
 
-abbrev pub Listed : {n : ℕ} → Kept n → Kept n → List ℕ → ℕ → ℕ → ℕ → Type 0
+abbrev pub Listed : {n : ℕ} → Ruled n → Ruled n → List ℕ → ℕ → ℕ → ℕ → Type 0
 Listed {n} s s′ xs i j g = Walk s s′ (before xs) (after xs) i j g × ((k : ℕ) → k < 2 * g → arcHead (getD xs k 0) < n)
 
-module _ {n : ℕ} (s s′ : Kept n) (xs : List ℕ) (i j g : ℕ) (wk : Listed s s′ xs i j g) where
+module _ {n : ℕ} (s s′ : Ruled n) (xs : List ℕ) (i j g : ℕ) (wk : Listed s s′ xs i j g) where
   moved : (ys : List ℕ) → ((k : ℕ) → k < 2 * g → getD ys k 0 ≡ getD xs k 0) → Walk s s′ (before ys) (after ys) i j g
   moved ys e = walk-moved (wk .0) _ _ (λ k l. rw (e (2 * k) (omega arith), e (2 * k + 1) (omega arith))) (λ k l. rw (e (2 * k) (omega arith), e (2 * k + 1) (omega arith)))
 
@@ -336,8 +338,8 @@ module _ {n : ℕ} (s s′ : Kept n) (xs : List ℕ) (i j g : ℕ) (wk : Listed 
 -- ---- the two tables
 
 module _ {n m : ℕ} {ts hs ws : List ℕ} {m′ : ℕ} {ts′ hs′ ws′ : List ℕ} (t : Tables n m ts hs ws m′ ts′ hs′ ws′) where
-  abbrev pub oldTable : Kept n
+  abbrev pub oldTable : Ruled n
   oldTable = record { count = m; ts = ts; hs = hs; ws = ws; room = t .old .1; sound = t .old .2 }
 
-  abbrev pub newTable : Kept n
+  abbrev pub newTable : Ruled n
   newTable = record { count = m′; ts = ts′; hs = hs′; ws = ws′; room = t .new .1; sound = t .new .2 }

@@ -13,8 +13,7 @@ use Rattle.graph.proofs.Order.{alike-pair, Less, less-of, EdgeFacts, edge-facts
 
 -- ---- at most n × (n − 1)
 
--- Each row has n − 1 places: heads below the tail keep their number, heads above it move down by one.
-
+-- Each row has n − 1 places: a head h below the tail t keeps its number, which is min h t then, and a head above it moves down by one, to t + (h − (t + 1)).
 abbrev place : ℕ → ℕ → ℕ
 place t h = min h t + (h - suc t)
 
@@ -64,6 +63,7 @@ unused n es h =
     let (i, l, q) = missing (n * (n - 1)) (map (spot n) es) (omega (arith, below-le (n * (n - 1)) (map (spot n) es), length-map es (spot n))) in
     let t = i / (n - 1) in
     let p = i % (n - 1) in
+    -- the head at place p: p itself below t, and one more from t on
     let v = p + min 1 (p + 1 - t) in
     let a : t < n = div-lt-iff-lt-mul some .1 l in
     let b : p < n - 1 = mod-lt i some in

@@ -5,8 +5,8 @@
 --
 --   bytes s      == the bytes of a quoted text; `\n` is the line feed, byte 10
 --   Rows S       == rows of texts that are read alike: what they begin with, how each of them goes on, and what is read
---   Said f rows  == f reads all of them so
---   Comes pairs  == each call has the outcome beside it
+--   Reads f rows == f reads all of them so
+use Rattle.property.proofs.Tables.{Said}
 use Rattle.property.proofs.Basics.{_≡_, refl, List, [], _∷_, _++_, map, Option, none, some, bind, ℕ, replicate}
 use Prim.Native.Char.{code}
 use Prim.Native.String.{String, [] as empty, _∷_ as _then_}
@@ -28,11 +28,8 @@ bytes (c then s) = code c ∷ bytes s
 abbrev Rows : Type 0 → Type 0
 Rows S = List (String × List String × Read S)
 
-abbrev Said : {S : Type 0} → (List ℕ → Read S) → Rows S → Type 0
-Said f rows = map (λ c. map (λ s. f (bytes (c .0) ++ bytes s)) (c .1)) rows ≡ map (λ c. map (λ s. c .2) (c .1)) rows
-
-abbrev Comes : {A L : Type 0} → List (Outcome A L × Outcome A L) → Type 0
-Comes pairs = map (λ c. c .0) pairs ≡ map (λ c. c .1) pairs
+abbrev Reads : {S : Type 0} → (List ℕ → Read S) → Rows S → Type 0
+Reads f rows = map (λ c. map (λ s. f (bytes (c .0) ++ bytes s)) (c .1)) rows ≡ map (λ c. map (λ s. c .2) (c .1)) rows
 
 abbrev accepts : {A L : Type 0} → A → L → Outcome A L
 accepts a new = record { reply = accepted a; memory = new }
@@ -161,7 +158,7 @@ readings =
     ∷ (readCall [] wide, refuses 14 1 wide)
     ∷ []
 
-networks-said : Said readNetwork networks × Comes readings
+networks-said : Reads readNetwork networks × Said readings
 unfolding bytes readCall judged vertexCount edgesRead replied choose _▷_ refuseIf readNetwork read reading step heard ended lineIn commentOf spokenBy split before itemIn orElse after fields number scan isDigit problemFrom arcFrom arcOf act opens takes complete exists order.insert bind
 networks-said = (refl, refl)
 
@@ -203,7 +200,7 @@ writings =
     ∷ (writeCall 4 graphA 5 [], refuses 2 0 [])
     ∷ []
 
-writings-said : Comes writings
+writings-said : Said writings
 unfolding bytes writeCall written joined itemOf fieldsOf digits digitsBy replied choose _▷_ refuseIf edges zip order.rules order.follow
 writings-said = refl
 
@@ -232,7 +229,8 @@ sources =
     ∷ ("", "" ∷ "s 1\np aux sp ss 1\n" ∷ "p sp 3 0\n" ∷ [], bad 1)
     ∷ ("p aux sp ss 1\n", "p aux sp ss 1\ns 1\n" ∷ [], bad 2)
     -- numbers, spaces, fields and line feeds as in network text
-    ∷ ("p aux sp ", "ss 00\n" ∷ "ss 4294967296\n" ∷ "ss 1 \ns 1\n" ∷ " ss 1\ns 1\n" ∷ "ss\n" ∷ [], bad 1)
+    ∷ ("p aux sp ", "ss 00\n" ∷ "ss 4294967296\n" ∷ "ss 1 \ns 1\n" ∷ "ss\n" ∷ [], bad 1)
+    ∷ ("", "p aux sp  ss 1\ns 1\n" ∷ [], bad 1)
     ∷ ("p aux sp ss 1\n", "s 4294967297\n" ∷ "s 18446744073709551617\n" ∷ "s 01\n" ∷ "s 1 2\n" ∷ "s  1\n" ∷ "s 1\r\n" ∷ "s 1" ∷ [], bad 2)
     ∷ ("", "p aux sp ss 0\n\n" ∷ [], bad 2)
     -- "comments alike"
@@ -255,7 +253,7 @@ sourceReadings =
     ∷ []
 
 -- besides, the greatest source file: 256 lines after the p line; with one line more it is refused there
-sources-said : Said (src.readSources 3) sources × Comes sourceReadings
+sources-said : Reads (src.readSources 3) sources × Said sourceReadings
     × (map (λ k. src.readSources 3 (joined (bytes "p aux sp ss 256" ∷ replicate k (bytes "s 3")))) (255 ∷ 256 ∷ 257 ∷ []) ≡ bad 257 ∷ good (src.within 256 (replicate 256 2)) ∷ bad 258 ∷ [])
 unfolding bytes joined sourcesCall judged sourcesRead replied choose _▷_ refuseIf src.readSources read reading step heard ended lineIn commentOf spokenBy split before src.itemIn orElse after fields number scan isDigit src.headerFrom src.sourceFrom src.act src.complete bind
 sources-said = (refl, refl, refl)

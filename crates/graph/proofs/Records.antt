@@ -12,13 +12,13 @@ data Level : List ℕ → List ℕ → List ℕ → Type 0 where
   none : Level [] [] []
   more : {x y z : ℕ} {ts hs ws : List ℕ} → Level ts hs ws → Level (x ∷ ts) (y ∷ hs) (z ∷ ws)
 
-level : (ts hs ws : List ℕ) → length ts ≡ length hs → length hs ≡ length ws → Level ts hs ws
-level [] [] [] a b = none
-level [] [] (w ∷ ws) a b = absurd (omega arith)
-level [] (h ∷ hs) ws a b = absurd (omega arith)
-level (t ∷ ts) [] ws a b = absurd (omega arith)
-level (t ∷ ts) (h ∷ hs) [] a b = absurd (omega arith)
-level (t ∷ ts) (h ∷ hs) (w ∷ ws) a b = more (level ts hs ws (omega arith) (omega arith))
+are-level : (ts hs ws : List ℕ) → length ts ≡ length hs → length hs ≡ length ws → Level ts hs ws
+are-level [] [] [] a b = none
+are-level [] [] (w ∷ ws) a b = absurd (omega arith)
+are-level [] (h ∷ hs) ws a b = absurd (omega arith)
+are-level (t ∷ ts) [] ws a b = absurd (omega arith)
+are-level (t ∷ ts) (h ∷ hs) [] a b = absurd (omega arith)
+are-level (t ∷ ts) (h ∷ hs) (w ∷ ws) a b = more (are-level ts hs ws (omega arith) (omega arith))
 
 abbrev pub tailsOf : List Edge → List ℕ
 tailsOf es = map (λ (e : Edge). e .tail) es
@@ -70,7 +70,7 @@ module _ (ts hs ws : List ℕ) (m : ℕ) (r : Room m ts hs ws) where
   short = length-take-le m ts (r .tails)
 
   cut : Level (take m ts) (take m hs) (take m ws)
-  cut = let x = short in let y = length-take-le m hs (r .heads) in let z = length-take-le m ws (r .weights) in level _ _ _ (omega arith) (omega arith)
+  cut = let x = short in let y = length-take-le m hs (r .heads) in let z = length-take-le m ws (r .weights) in are-level _ _ _ (omega arith) (omega arith)
 
   pub edges-length : length (edges ts hs ws m) ≡ m
   unfolding edges

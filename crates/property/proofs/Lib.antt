@@ -1,5 +1,6 @@
 pub mod Basics
 pub mod Tests
+pub mod Tables
 pub mod Instances
 pub mod RouteLaws
 pub mod Drift

@@ -1,4 +1,4 @@
--- What the walks of MIR by hand share, over what `Kit` passes on. It says nothing of the crate. Assumes nothing.
+-- What the walks of MIR by hand share, over what `Kit` passes on. It says nothing of the crate. Assumes `Given`.
 --
 --   _⨾_                   == a pair to the right, as lists of parameters have them
 --   Param s k             == of a parameter at the slot s: how its machine values are spelled, what is had of it at exit, and that this gives what the
@@ -7,12 +7,15 @@
 --                            says
 --   kept-slice, kept-ref  == of a `&mut [T]` and a `&mut T` that are still owned at exit, at their last value
 --   Params, stays, valsOf, Holds == for a list of slots: what is said of them, what is had of them, their machine values, and what these show
+--   walkFor, boundAt, entry == a walk's contract, what it binds outside at given arguments, and what it begins with
 --   meets                 == a function whose walk, with the machine values written out, ends in `walkOf` meets its contract
 --   gave                  == what a call has given back: the tokens, the result, the last values and what the contract says of them
 --   Many X n              == n of X, as the lifetimes and the shares of a signature; snoc, front, last: with one more, but the last, the last
 --   var, held             == a local is read, entry n of the context; a local that holds a value is freed
 --   downs n k, upto n k   == the positions of n locals from k on, the first local first; n positions from k on
+--   tokens                == the tokens of the lifetimes of a signature
 --   token-in, token-out   == the token of a last lifetime joins the others; is taken off them
+--   wide                  == the machine words of a slice of m: its length fits
 use Rattle.property.proofs.Basics.{_≡_, refl, ℕ, zero, suc, _+_, _*_, _<_, _^_, List, [], _∷_}
 use Rattle.run.proofs.Kit.{URA, Val, Lft, Share, SProp, ent, sep, id⊢, Heap, Tables, WpFn, WpFn-mono, Atoms, Given, Item, ‵, raw, some, later, _⊛_, _$_, move, use1, split, pick, await, RattleType, owns, Is, w64, plain, slice-vals, ptr-vals, uint-vals, uint-tells, shr-slice-tells, mut-slice-tells, mut-tells, Contract, Meets, tripleOf, lasts, Stays, walkOf, walked, walk-meets, yes, flft, fullShare, fat, Ty, Env, forget, free1, load, from, stop, look, _∵_, qed, !, join, frame, by, done}
 use mir.Syntax.{Fn, Width, named, copy, place}

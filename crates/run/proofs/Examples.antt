@@ -1,8 +1,7 @@
 -- Small runs, computed: document 01, "Runs", "Opening" and "Query". Each line says which sentence it shows and which nearby reading it
 -- shuts out; the numbers are worked out by hand. Assumes nothing.
---
--- A table of examples lists what a definition gives beside what document 01 says; one equation holds for all of its lines.
-use Rattle.property.proofs.Basics.{_≡_, refl, Bool, true, false, List, [], _∷_, map, foldl, ℕ, length, set, replicate}
+use Rattle.property.proofs.Tables.{Said}
+use Rattle.property.proofs.Basics.{refl, Bool, true, false, List, [], _∷_, map, foldl, ℕ, length, set, replicate}
 use Rattle.property.specs.Property.{Property, M, sssp, bfs, sswp, ssnp, ssr}
 use Rattle.frontier.specs.Waiting.{anyOf}
 use Rattle.graph.specs.Edge.{Edge, edge, reverse, keepIf, keep, range}
@@ -17,6 +16,7 @@ state ws vs k r c = record {
   tally = record { taken = k; rounds = r; stores = c };
 }
 
+-- four words
 abbrev four : ℕ → ℕ → ℕ → ℕ → List ℕ
 four a b c d = a ∷ b ∷ c ∷ d ∷ []
 
@@ -26,44 +26,45 @@ graphA = edge 0 1 4 ∷ edge 0 3 9 ∷ edge 1 2 4 ∷ edge 2 1 4 ∷ edge 3 2 2 
 -- ---- whether an edge betters its head
 
 -- the edge from 0 to 1 of weight k, where their words are a and b
-abbrev along : Property → ℕ → ℕ → ℕ → Bool
-along P a b k = relaxable P (a ∷ b ∷ []) (edge 0 1 k)
+abbrev betters : Property → ℕ → ℕ → ℕ → Bool
+betters P a b k = relaxable P (a ∷ b ∷ []) (edge 0 1 k)
 
 abbrev bettering : List (Bool × Bool)
 bettering =
     -- "each head whose word would get better": an equal word is not better, a worse one neither
-    (along sssp 5 9 4, false)
-    ∷ (along sssp 5 10 4, true)
-    ∷ (along sssp 5 8 4, false)
+    (betters sssp 5 9 4, false)
+    ∷ (betters sssp 5 10 4, true)
+    ∷ (betters sssp 5 8 4, false)
     -- handovers go up by 1, not by the weight
-    ∷ (along bfs 5 7 4, true)
-    ∷ (along bfs 5 6 4, false)
+    ∷ (betters bfs 5 7 4, true)
+    ∷ (betters bfs 5 6 4, false)
     -- headroom: the lesser of value and weight, and greater is better
-    ∷ (along sswp 5 3 4, true)
-    ∷ (along sswp 5 4 4, false)
-    ∷ (along sswp 5 9 4, false)
+    ∷ (betters sswp 5 3 4, true)
+    ∷ (betters sswp 5 4 4, false)
+    ∷ (betters sswp 5 9 4, false)
     -- worst stretch: the greater of value and weight, and less is better
-    ∷ (along ssnp 3 5 4, true)
-    ∷ (along ssnp 3 4 4, false)
+    ∷ (betters ssnp 3 5 4, true)
+    ∷ (betters ssnp 3 4 4, false)
     -- reach: the value goes along as it is, whatever the weight
-    ∷ (along ssr 1 0 4, true)
-    ∷ (along ssr 1 1 4, false)
+    ∷ (betters ssr 1 0 4, true)
+    ∷ (betters ssr 1 1 4, false)
     -- M + 4 is M and no quick route: a sum that wraps would be 3
-    ∷ (along sssp M 9 4, false)
-    ∷ (along sssp M M 4, false)
+    ∷ (betters sssp M 9 4, false)
+    ∷ (betters sssp M M 4, false)
     -- "A sum above 4,294,967,294 is M": 4,294,967,290 + 4 is still a value, + 5 is no route
-    ∷ (along sssp 4294967290 M 4, true)
-    ∷ (along sssp 4294967290 M 5, false)
-    ∷ (along bfs 4294967294 M 4, false)
+    ∷ (betters sssp 4294967290 M 4, true)
+    ∷ (betters sssp 4294967290 M 5, false)
+    ∷ (betters bfs 4294967294 M 4, false)
     -- an edge is gone along from tail to head only
-    ∷ (along sssp 9 0 4, false)
+    ∷ (betters sssp 9 0 4, false)
     ∷ []
 
-bettering-said : map (λ c. c .0) bettering ≡ map (λ c. c .1) bettering
+bettering-said : Said bettering
 bettering-said = refl
 
 -- ---- handling a vertex
 
+-- a vertex of deck A is handled, for time
 abbrev handleA : State → ℕ → State
 handleA = handle sssp graphA
 
@@ -88,7 +89,7 @@ handlings =
     ∷ (handle sssp (map reverse graphA) (opened sssp 4 2) 2, state (four M 4 0 2) (1 ∷ 3 ∷ []) 0 0 2)
     ∷ []
 
-handlings-said : map (λ c. c .0) handlings ≡ map (λ c. c .1) handlings
+handlings-said : Said handlings
 unfolding opened handle clear relax storeIf keep keepIf
 handlings-said = refl
 
@@ -117,7 +118,7 @@ passes =
     ∷ (settle sssp graphA 4 4 (picked (0 ∷ 3 ∷ 1 ∷ [])), state (four 0 4 8 9) [] 3 1 4)
     ∷ []
 
-passes-said : map (λ c. c .0) passes ≡ map (λ c. c .1) passes
+passes-said : Said passes
 unfolding opened pass takeEntry takeEntryIf handle clear relax storeIf keep keepIf settle anyOf round visit visitIf range
 passes-said = refl
 
@@ -134,6 +135,7 @@ fall = edge 1 0 1 ∷ edge 2 1 1 ∷ edge 3 2 1 ∷ []
 abbrev twice : List Edge
 twice = edge 0 1 10 ∷ edge 0 2 1 ∷ edge 2 1 1 ∷ []
 
+-- rounds along it
 abbrev fallen : ℕ → State → State
 fallen = settle sssp fall 4
 
@@ -168,7 +170,7 @@ settlings =
     ∷ (settle sssp climb 4 4 (state (four 0 50 7 M) (2 ∷ []) 0 0 0), state (four 0 50 7 8) [] 0 1 1)
     ∷ []
 
-settlings-said : map (λ c. c .0) settlings ≡ map (λ c. c .1) settlings
+settlings-said : Said settlings
 unfolding opened settle anyOf round visit visitIf handle clear relax storeIf keep keepIf range
 settlings-said = refl
 
@@ -186,7 +188,7 @@ starts =
     ∷ (opened sssp 1 0, state (0 ∷ []) (0 ∷ []) 0 0 0)
     ∷ []
 
-starts-said : map (λ c. c .0) starts ≡ map (λ c. c .1) starts
+starts-said : Said starts
 unfolding opened
 starts-said = refl
 
@@ -232,7 +234,7 @@ bounds =
     ∷ (finer sssp 9 4, 4)
     ∷ []
 
-bounds-said : map (λ c. c .0) bounds ≡ map (λ c. c .1) bounds
+bounds-said : Said bounds
 unfolding bound
 bounds-said = refl
 
@@ -246,6 +248,6 @@ askings =
     ∷ (asked ssr two 2 0, state (1 ∷ 3 ∷ []) (0 ∷ []) 0 0 0)
     ∷ []
 
-askings-said : map (λ c. c .0) askings ≡ map (λ c. c .1) askings
+askings-said : Said askings
 unfolding asked bound range
 askings-said = refl

@@ -1,5 +1,6 @@
 -- Small calls, computed: document 01, "Network", "Runs", "Turned back" and "Near the edges"; document 02, One. Each line says which sentence it shows and
 -- which nearby reading it shuts out; the numbers are worked out by hand. Assumes nothing.
+use Rattle.property.proofs.Tables.{Said, each}
 use Rattle.property.proofs.Basics.{_≡_, refl, List, [], _∷_, _++_, map, ℕ, _-_, _*_, _%_, length, replicate, set}
 use lib.ListN as list
 use Rattle.property.specs.Property.{M}
@@ -18,7 +19,7 @@ use Rattle.network.specs.Caller.{holding, openedNetwork, lived}
 use Rattle.network.specs.Current.{turnedBack, current}
 use Rattle.worked.specs.Starred.{graphA, takes, adds}
 use Rattle.worked.proofs.Calls.{calls}
-use Rattle.worked.proofs.Refusals.{Said, each, changes, worst, change}
+use Rattle.worked.proofs.Refusals.{changes, worst, change}
 
 -- ---- what the calls leave in lent memory
 
@@ -98,9 +99,9 @@ report m a s = accepted (record { count = m; affected = a; stores = s })
 abbrev pub batchOnA : List Change → Outcome Report Memory
 batchOnA b = batchCall 4 (0 ∷ []) graph0 b
 
--- the pairs of deck A with these weights, and these forward rows: no backward word changes
-abbrev pub retuned : Reply Report → List ℕ → List ℕ → Outcome Report Memory
-retuned r ws f = record { reply = r; memory = swept (0 ∷ 0 ∷ 1 ∷ 2 ∷ 3 ∷ []) (1 ∷ 3 ∷ 2 ∷ 1 ∷ 2 ∷ []) ws f backwardOf0 }
+-- what a batch leaves that keeps the pairs of deck A: these weights, and these forward rows; no backward word changes
+abbrev pub samePairs : Reply Report → List ℕ → List ℕ → Outcome Report Memory
+samePairs r ws f = record { reply = r; memory = swept (0 ∷ 0 ∷ 1 ∷ 2 ∷ 3 ∷ []) (1 ∷ 3 ∷ 2 ∷ 1 ∷ 2 ∷ []) ws f backwardOf0 }
 
 -- batches on deck A, and what they leave
 abbrev batches : List (List (List Change) × Outcome Report Memory)
@@ -112,7 +113,7 @@ batches =
     )
     -- "An empty batch is accepted": count as before, 0, 0; it zeroes the records past the count all the same. 1,024 changes are good: 0→1 is
     -- taken and added back 512 times; its record stands in both tables, so it is neither removed nor added
-    ∷ ([] ∷ map (λ i. change (2 - i % 2) 0 1 (4 * (i % 2))) (range 0 1024) ∷ [], retuned (report 5 0 0) (4 ∷ 9 ∷ 4 ∷ 4 ∷ 2 ∷ []) forwardOf0)
+    ∷ ([] ∷ map (λ i. change (2 - i % 2) 0 1 (4 * (i % 2))) (range 0 1024) ∷ [], samePairs (report 5 0 0) (4 ∷ 9 ∷ 4 ∷ 4 ∷ 2 ∷ []) forwardOf0)
     -- "all or none": the second item is refused, and the first has changed nothing
     ∷ ((takes 0 1 ∷ takes 0 1 ∷ []) ∷ [], leaves (refused 11 1) graph0)
     ∷ []
@@ -150,11 +151,11 @@ reports =
 -- ---- queries
 
 -- what a query on deck A leaves: two lists longer than n, whose words past n stay, and the tally: picks taken, rounds, stores
-abbrev lent : Words
-lent = record { starts = replicate 6 7; settled = replicate 5 8 }
+abbrev answerLists : Words
+answerLists = record { starts = replicate 6 7; settled = replicate 5 8 }
 
 abbrev query : List ℕ → Network → ℕ → ℕ → List ℕ → Outcome Tally Words
-query ls w p s vs = queryCall 4 ls w (record { property = p; source = s; schedule = vs }) lent
+query ls w p s vs = queryCall 4 ls w (record { property = p; source = s; schedule = vs }) answerLists
 
 abbrev answer : List ℕ → List ℕ → ℕ → ℕ → ℕ → Outcome Tally Words
 answer xs ys k r c = record {
@@ -192,8 +193,8 @@ queries =
     -- the source's start word is its value though the landmark rows say 5 + 5
     ∷ (query (0 ∷ []) (dusty (replicate 20 5) (replicate 20 5)) 1 0 [], answer (0 ∷ 10 ∷ 10 ∷ 10 ∷ []) (0 ∷ 4 ∷ 8 ∷ 9 ∷ []) 0 1 3)
     -- "No lent memory changes"
-    ∷ (query (0 ∷ []) graph0 6 0 [], record { reply = refused 5 0; memory = lent })
-    ∷ (query (0 ∷ []) graph0 1 0 (0 ∷ 4 ∷ []), record { reply = refused 6 1; memory = lent })
+    ∷ (query (0 ∷ []) graph0 6 0 [], record { reply = refused 5 0; memory = answerLists })
+    ∷ (query (0 ∷ []) graph0 1 0 (0 ∷ 4 ∷ []), record { reply = refused 6 1; memory = answerLists })
     ∷ []
 
 -- ---- the settled check

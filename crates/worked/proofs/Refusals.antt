@@ -1,9 +1,7 @@
 -- Refusals, computed: document 01, "Turned back" and "Near the edges"; document 02, One. Each line says which sentence it shows and
 -- which nearby reading it shuts out; the numbers are worked out by hand. Assumes nothing.
---
---   Said t    == a table of examples, which lists what a definition gives beside what the documents say: one equation holds for all of its lines
---   each f t  == the table of f for lists of what it gives the same for
-use Rattle.property.proofs.Basics.{_≡_, refl, List, [], _∷_, _++_, map, ℕ, _+_, _/_, _%_, replicate}
+use Rattle.property.proofs.Tables.{Said, each}
+use Rattle.property.proofs.Basics.{refl, List, [], _∷_, _++_, map, ℕ, _+_, _/_, _%_, replicate}
 use lib.ListN as list
 use Rattle.graph.specs.Refusal.{Verdict, accept, refuse, verdictOf}
 use Rattle.graph.specs.Edge.{Edge, edge, range}
@@ -18,12 +16,6 @@ use Rattle.network.specs.Lookup.{lookupNumber}
 use Rattle.worked.specs.Starred.{graphA, takes, adds}
 use Rattle.worked.proofs.Calls.{calls}
 
-abbrev pub Said : {A : Type 0} → List (A × A) → Type 0
-Said t = map (λ c. c .0) t ≡ map (λ c. c .1) t
-
-abbrev pub each : {A B : Type 0} → (A → B) → List (List A × B) → List (List B × List B)
-each f t = map (λ c. (map f (c .0), map (λ _. c .1) (c .0))) t
-
 -- ---- numbers 1 to 6 of every call, in their order
 
 -- lists of so many words for tails, heads, weights, forward rows and backward rows, and a count; all words are 0
@@ -36,16 +28,19 @@ lists i j k f b m = record {
   count = m;
 }
 
--- none; a table just long enough, with rows; the rows alone; one landmark, 4 vertices, no edge: lists just long enough
-abbrev empty : Network
-empty = lists 0 0 0 0 0 2049
+-- no words at all, and a count over the limit
+abbrev wordless : Network
+wordless = lists 0 0 0 0 0 2049
 
+-- a table just long enough, with rows of so many words
 abbrev tabled : ℕ → ℕ → ℕ → Network
 tabled f b m = lists 2048 2048 2048 f b m
 
+-- the rows alone
 abbrev rowed : ℕ → ℕ → Network
 rowed f b = lists 0 0 0 f b 0
 
+-- lists just long enough for one landmark, 4 vertices and no edge
 abbrev bare : Network
 bare = tabled 20 20 0
 
@@ -81,7 +76,7 @@ everyCall n ls w k = opens n ls w ∷ asks n ls w 0 9 (9 ∷ []) k k ∷ changes
 abbrev refusals : List (List Verdict × Verdict)
 refusals =
     -- "The lowest number that applies is given": each line mends what the line before was refused for. First those that take a network
-    (everyCall 0 [] empty 0 ++ everyCall 257 [] empty 0, refuse 1 0)
+    (everyCall 0 [] wordless 0 ++ everyCall 257 [] wordless 0, refuse 1 0)
     ∷ (everyCall 4 [] (lists 2047 2048 2048 0 0 2049) 4 ++ everyCall 4 [] (lists 2048 2047 2048 0 0 2049) 4 ++ everyCall 4 [] (lists 2048 2048 2047 0 0 2049) 4, refuse 2 0)
     ∷ (everyCall 4 [] (tabled 0 0 2049) 4, refuse 3 0)
     ∷ (everyCall 4 (0 ∷ []) (tabled 20 20 2049) 4, refuse 4 0)
@@ -99,7 +94,7 @@ refusals =
     ∷ (opens 5 (0 ∷ 1 ∷ 2 ∷ 3 ∷ 4 ∷ []) (tabled 100 100 0) ∷ opens 4 (1 ∷ 1 ∷ []) bare ∷ [], refuse 2 0)
     ∷ (opens 4 (1 ∷ 1 ∷ []) (tabled 40 40 0) ∷ [], refuse 3 0)
     -- picks over 4,096; a query's own two lists are number 2 as any lent list, before bad posts
-    ∷ (asks 4 [] empty 0 9 (replicate 4097 9) 0 0 ∷ [], refuse 1 0)
+    ∷ (asks 4 [] wordless 0 9 (replicate 4097 9) 0 0 ∷ [], refuse 1 0)
     ∷ (asks 4 [] (tabled 0 0 2049) 0 9 (9 ∷ []) 3 4 ∷ asks 4 [] (tabled 0 0 2049) 0 9 (9 ∷ []) 4 3 ∷ [], refuse 2 0)
     ∷ (asks 4 (0 ∷ []) bare 0 9 (9 ∷ []) 4 4 ∷ asks 4 (0 ∷ []) bare 6 9 (9 ∷ []) 4 4 ∷ [], refuse 5 0)
     -- a bad source has place 0, also before a bad pick; a bad pick has its index, and n itself is no station
@@ -108,10 +103,10 @@ refusals =
     ∷ (asks 4 (0 ∷ []) bare 5 3 (replicate 4095 3 ++ (4 ∷ [])) 4 4 ∷ [], refuse 6 4095)
     ∷ (asks 4 (0 ∷ []) bare 5 3 (replicate 4096 3) 4 4 ∷ [], accept)
     -- over 1,024 changes; 1 to 4 come before any change is looked at
-    ∷ (changes 4 [] empty (replicate 1025 worst) ∷ [], refuse 1 0)
+    ∷ (changes 4 [] wordless (replicate 1025 worst) ∷ [], refuse 1 0)
     ∷ (changes 4 (0 ∷ []) bare (worst ∷ []) ∷ [], refuse 6 0)
     -- post choice: k is number 3, before a bad table; k may be above n
-    ∷ (chooses 257 empty 0 ∷ [], refuse 1 0)
+    ∷ (chooses 257 wordless 0 ∷ [], refuse 1 0)
     ∷ (chooses 3 (lists 2048 2047 2048 0 0 2049) 0 ∷ [], refuse 2 0)
     ∷ (chooses 3 (tabled 0 0 2049) 0 ∷ chooses 3 (tabled 0 0 2049) 5 ∷ [], refuse 3 0)
     ∷ (chooses 3 (tabled 0 0 2049) 4 ∷ [], refuse 4 0)
@@ -157,12 +152,14 @@ itemsJudged =
     ∷ (adds 1 0 65535 ∷ takes 0 1 ∷ [], accept)
     -- a retune's figure is "9 as for an add"; before 11
     ∷ (retunes 0 1 0 ∷ retunes 1 0 0 ∷ retunes 0 1 65536 ∷ [], refuse 9 5)
+    ∷ (retunes 0 1 65535 ∷ [], accept)
     -- 10: the pair is there, whatever its figure; the reversed pair is another
     ∷ (adds 0 1 4 ∷ adds 0 1 7 ∷ [], refuse 10 5)
+    ∷ (adds 1 0 4 ∷ [], accept)
     -- 11: no such pair; the reversed one does not do
     ∷ (takes 1 0 ∷ retunes 1 0 4 ∷ [], refuse 11 5)
     -- a retune of a pair that is there is no 10, whatever its figure
-    ∷ (adds 1 0 4 ∷ retunes 0 1 65535 ∷ retunes 0 1 4 ∷ retunes 0 1 7 ∷ [], accept)
+    ∷ (retunes 0 1 4 ∷ retunes 0 1 7 ∷ [], accept)
     ∷ []
 
 -- 2,048 edges among 256 vertices, in table order: tails 0 to 127, each to the heads 128 to 143
@@ -173,33 +170,41 @@ fullTable = map (λ i. edge (i / 16) (128 + i % 16) 1) (range 0 2048)
 abbrev fullJudged : List (List (List Change) × Verdict)
 fullJudged =
     -- 12: an add when 2,048 are there; a pair that is there is 10 first; a take or a retune needs no room
-    ((adds 0 1 1 ∷ []) ∷ (adds 0 1 1 ∷ takes 0 128 ∷ []) ∷ [], refuse 12 0)
+    ((adds 0 1 1 ∷ []) ∷ [], refuse 12 0)
     ∷ ((adds 0 128 1 ∷ []) ∷ [], refuse 10 0)
     ∷ ((takes 0 1 ∷ []) ∷ (retunes 0 1 9 ∷ []) ∷ [], refuse 11 0)
     ∷ ((takes 0 128 ∷ []) ∷ (retunes 0 128 9 ∷ []) ∷ [], accept)
     -- "against the table as earlier items left it": a take makes room for one add, an add after it finds its pair gone
     ∷ ((takes 0 128 ∷ adds 0 1 1 ∷ []) ∷ (takes 0 128 ∷ adds 0 128 9 ∷ []) ∷ [], accept)
     ∷ ((takes 0 128 ∷ adds 0 1 1 ∷ adds 0 2 1 ∷ []) ∷ [], refuse 12 2)
+    ∷ ((adds 0 1 1 ∷ takes 0 128 ∷ []) ∷ [], refuse 12 0)
     ∷ []
+
+-- a batch against that table without its last record: there is room for one
+abbrev lessJudged : List (List (List Change) × Verdict)
+lessJudged = ((adds 200 0 1 ∷ adds 200 1 1 ∷ []) ∷ [], refuse 12 1) ∷ []
 
 -- batches against deck A
 abbrev batchesJudged : List (List (List Change) × Verdict)
 batchesJudged =
+    -- "against the table as earlier items left it"
     ((adds 1 0 5 ∷ adds 1 0 6 ∷ []) ∷ (retunes 0 1 3 ∷ adds 0 1 3 ∷ []) ∷ [], refuse 10 1)
     ∷ ((adds 1 0 5 ∷ takes 1 0 ∷ takes 1 0 ∷ []) ∷ [], refuse 11 2)
     ∷ ((takes 1 0 ∷ adds 1 0 5 ∷ []) ∷ [], refuse 11 0)
-    ∷ ((adds 1 0 2 ∷ retunes 1 0 7 ∷ []) ∷ [] ∷ [], accept)
+    ∷ ((takes 0 1 ∷ retunes 0 1 3 ∷ []) ∷ [], refuse 11 1)
+    ∷ ((adds 1 0 2 ∷ retunes 1 0 7 ∷ []) ∷ [], accept)
     -- "the first item with any of 6 to 12, its lowest number": a later item with a lower number is not heard
-    ∷ ((takes 0 1 ∷ retunes 0 1 3 ∷ []) ∷ (adds 1 0 5 ∷ takes 2 0 ∷ worst ∷ []) ∷ [], refuse 11 1)
+    ∷ ((adds 1 0 5 ∷ takes 2 0 ∷ worst ∷ []) ∷ [], refuse 11 1)
     -- place is the "index from 0"
     ∷ ((takes 0 1 ∷ takes 0 3 ∷ takes 1 2 ∷ worst ∷ []) ∷ [], refuse 6 3)
+    -- no item, no fault
+    ∷ ([] ∷ [], accept)
     ∷ []
 
--- ---- computed; of the full table less one edge there is room for one
+-- ---- computed
 
 refusals-said : Said (each (λ v. v) refusals)
     × Said (each (λ w. opens 4 (0 ∷ []) w ∷ asks 4 (0 ∷ []) w 1 0 [] 4 4 ∷ changes 4 (0 ∷ []) w [] ∷ checks 4 (0 ∷ []) w ∷ []) shorts)
-    × Said (each (item 4 5 graphA) itemsJudged) × Said (each (items 256 0 fullTable) fullJudged) × Said (each (items 4 0 graphA) batchesJudged)
-    × (items 256 0 (list.take 2047 fullTable) (adds 200 0 1 ∷ adds 200 1 1 ∷ []) ≡ refuse 12 1)
+    × Said (each (item 4 5 graphA) itemsJudged) × Said (each (items 256 0 fullTable) fullJudged) × Said (each (items 256 0 (list.take 2047 fullTable)) lessJudged) × Said (each (items 4 0 graphA) batchesJudged)
 unfolding calls
 refusals-said = (refl, refl, refl, refl, refl, refl)

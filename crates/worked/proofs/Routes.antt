@@ -11,6 +11,7 @@
 --   graphF                   == 0→2 takes as long at once as by 1
 --   graphL                   == the two ways of 0→5 differ first at 1 and 2, and then at 4 and 3
 --   words k w                == lists of a table of k tails and heads and w weights, all 0
+use Rattle.property.proofs.Tables.{Said}
 use Rattle.property.proofs.Basics.{refl, List, [], _∷_, _++_, map, ℕ, length, replicate}
 use Rattle.graph.specs.Refusal.{accepted, refused, Outcome}
 use Rattle.graph.specs.Edge.{Edge, edge}
@@ -20,7 +21,6 @@ use Rattle.network.specs.Caller.{holding}
 use Rattle.answers.specs.Routing.{Answer, routeCall}
 use Rattle.worked.specs.Starred.{graphA}
 use Rattle.worked.proofs.Calls.{calls}
-use Rattle.worked.proofs.Refusals.{Said}
 
 -- what is asked, and what is found
 abbrev Lines : Type 0

@@ -77,6 +77,12 @@ returns c =
       walk-done (oldTable t) (newTable t) (l .loop .list) (l .loop .i) (l .loop .j) (l .loop .size) (l .loop .inv .0 n t) long (λ q. omega (arith, q, c .before .if1 .left)) (λ q. let z = ltb-false (l .loop .j) (start l .args .count2) (c .if2 .left) in omega arith),
     )
 
+either-requires-2 : tie.Need-either-requires-2 Inv-loop μ-loop
+either-requires-2 c κs =
+    let d = c .before in
+    let (n, t) = start (d .before .before .before) .pre .0 in
+    ((λ q. let z = step-due (step d n t) q in omega (arith, t .old .1 .heads)), (λ q. let z = step-other (step d n t) q in omega (arith, t .new .1 .heads)))
+
 pub differences-spec : {M : Type 1} → statement M
 differences-spec =
     tie.close
@@ -87,7 +93,7 @@ differences-spec =
     (λ c κs. let t = start (c .before) .pre .0 .1 in (t .old .1 .tails, t .old .1 .heads, t .new .1 .tails, t .new .1 .heads))
     (λ c κs. let t = start (c .before .before) .pre .0 .1 in (t .new .1 .tails, t .new .1 .heads, t .old .1 .tails, t .old .1 .heads))
     (λ c κs. let (n, t) = start (c .before .before .before) .pre .0 in ((λ q. let z = step-due (step c n t) q in omega (arith, t .old .1 .tails)), (λ q. let z = step-other (step c n t) q in omega (arith, t .new .1 .tails))))
-    (λ c κs. let d = c .before in let (n, t) = start (d .before .before .before) .pre .0 in ((λ q. let z = step-due (step d n t) q in omega (arith, t .old .1 .heads)), (λ q. let z = step-other (step d n t) q in omega (arith, t .new .1 .heads))))
+    either-requires-2
     (λ c κs q. let d = c .before .before in let (n, t) = start (d .before .before .before) .pre .0 in let z = step-due (step d n t) q in omega (arith, t .old .1 .weights))
     (λ c κs q. let d = c .before .before .before in let (n, t) = start (d .before .before .before) .pre .0 in let z = step-due (step-flip (step d n t)) q in omega (arith, t .new .1 .weights))
     note-requires

@@ -36,6 +36,14 @@ returns c =
     let t : Turned (s .args .list .now) (l .loop .list) (pairs (s .args .list .now)) = rw e at (l .loop .inv .0) in
     (turned-inside _ _ t, turned-net _ _ t)
 
+slice-write-list-2 : tie.Need-slice-write-list-2 Inv-loop μ-loop
+slice-write-list-2 c =
+    let t = c .before .before .before .before .before .before .before .before in
+    let w = within t in
+    let l = t .before .loop in
+    let z = length-set (l .list) (2 * l .k) (c .before .before .before .arc .result) in
+    omega arith
+
 pub turn-spec : {M : Type 1} → statement M
 turn-spec =
     tie.close
@@ -65,7 +73,7 @@ turn-spec =
     (omega (arith, c .before .head2 .ensures, b .before .slice-known2 .given (2 * k), b .slice-known3 .given (2 * k + 1)), omega (arith, c .weight2 .ensures)))
     (λ c. let w = within (c .before .before .before .before .before .before .before .before) in omega arith)
     (λ c. let w = within (c .before .before .before .before .before .before .before .before) in omega arith)
-    (λ c. let w = within (c .before .before .before .before .before .before .before .before) in let l = c .before .before .before .before .before .before .before .before .before in let z = length-set (l .loop .list) (2 * l .loop .k) (c .before .before .before .arc .result) in omega arith)
+    slice-write-list-2
     (λ c. search needs)
     (λ c. search needs)
     loop-again

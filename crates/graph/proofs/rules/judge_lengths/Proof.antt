@@ -15,9 +15,15 @@ three c =
     let e = two (c .before) in
     ⊎-elim (λ w. w .1 ∙ (e ∙ or-taken _ _ (sym e ∙ w .0 .taken))) (λ w. w .1 ∙ or-left _ _ (sym e ∙ w .0 .left)) (c .if2 .came)
 
+returns : tie.Need-returns
+returns c =
+    let a = c .before .before .before .before .before .before .args in
+    let e = three (c .before) ∙ or-nest (ltb (length (a .tails .now)) maxEdges) (ltb (length (a .heads .now)) maxEdges) (ltb (length (a .weights .now)) maxEdges) in
+    c .refuse-if .ensures ∙ ap (λ (b : Bool). refuseIf b 2 0) e
+
 pub judge-lengths-spec : {M : Type 1} → statement M
 judge-lengths-spec =
     tie.close
     (tie.spec
     (λ c κs. search needs)
-    (λ c. let a = c .before .before .before .before .before .before .args in let e = three (c .before) ∙ or-nest (ltb (length (a .tails .now)) maxEdges) (ltb (length (a .heads .now)) maxEdges) (ltb (length (a .weights .now)) maxEdges) in c .refuse-if .ensures ∙ ap (λ (b : Bool). refuseIf b 2 0) e))
+    returns)

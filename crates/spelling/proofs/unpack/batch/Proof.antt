@@ -19,11 +19,16 @@ returns-2 c =
     ∙ ap (batchCall (a .n) (a .landmarks .now) (network (a .tails .now) (a .heads .now) (a .weights .now) (a .forward .now) (a .backward .now) (a .count)))
     (changes-read (a .changes .now) (replicate maxBatch 0) (w .column .ensures) (x .column2 .ensures) (y .column3 .ensures) (z .column4 .ensures))
 
+returns : tie.Need-returns
+returns c =
+    let a = c .before .before .before .before .before .before .before .args in
+    batch-large (a .n) (a .landmarks .now) (a .tails .now) (a .heads .now) (a .weights .now) (a .forward .now) (a .backward .now) (a .count) (a .changes .now) (c .if1 .taken)
+
 pub batch-spec : {M : Type 1} → statement M
 batch-spec =
     tie.close
     (tie.spec
-    (λ c. let a = c .before .before .before .before .before .before .before .args in batch-large (a .n) (a .landmarks .now) (a .tails .now) (a .heads .now) (a .weights .now) (a .forward .now) (a .backward .now) (a .count) (a .changes .now) (c .if1 .taken))
+    returns
     (λ c. search needs)
     (λ c κs. search needs)
     (λ c. search needs)

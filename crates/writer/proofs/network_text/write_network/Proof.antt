@@ -75,13 +75,20 @@ returns-3 c =
       wrote-over (both-wrote _ _ (lines e) (room i) (p .put-problem .ensures) (b .put-arcs .ensures)),
     )
 
+returns : tie.Need-returns
+unfolding writeCall told _▷_ replied choose writing
+returns c =
+    let j = c .before .before .before in
+    let a = begin j .args in
+    rw (chain (a .n) (table (begin j)) (a .count) (a .text .now) _ (sym (j .judge-write .ensures) ∙ ap told (c .before .judged .given .1)))
+
 pub write-network-spec : {M : Type 1} → statement M
 write-network-spec =
     tie.close
     (tie.spec
     (λ c κs. search needs)
     (λ c. search needs)
-    (λ c. unfold writeCall told _▷_ replied choose writing in let j = c .before .before .before in let a = begin j .args in rw (chain (a .n) (table (begin j)) (a .count) (a .text .now) _ (sym (j .judge-write .ensures) ∙ ap told (c .before .judged .given .1))))
+    returns
     (λ c. search needs)
     (λ c κs. search needs)
     (λ c κs. (writable (c .before) .count, writable (c .before) .room))

@@ -1,6 +1,6 @@
 -- Tables that keep the rules, and the edges of one that precede an edge; and the words of a change stored. Assumes nothing.
 --
---   Kept n       == a table in its three lists that keeps the rules of n vertices
+--   Ruled n       == a table in its three lists that keeps the rules of n vertices
 --   all s        == its edges
 --   at s i       == its edge at index i
 --   Past s e j   == its first j edges precede e
@@ -19,7 +19,7 @@ use Rattle.affected.specs.Net.{counterpart}
 use Rattle.affected.proofs.Net.{counterpart-found}
 use Rattle.compare.specs.Code.{Passed}
 
-pub record Kept (n : ℕ) : Type 0 where
+pub record Ruled (n : ℕ) : Type 0 where
   pub count : ℕ
   pub ts : List ℕ
   pub hs : List ℕ
@@ -27,7 +27,7 @@ pub record Kept (n : ℕ) : Type 0 where
   pub room : Room count ts hs ws
   pub sound : rules n (edges ts hs ws count) ≡ accept
 
-module _ {n : ℕ} (s : Kept n) where
+module _ {n : ℕ} (s : Ruled n) where
   abbrev pub all : List Edge
   all = edges (s .ts) (s .hs) (s .ws) (s .count)
 
