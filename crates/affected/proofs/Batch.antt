@@ -15,7 +15,7 @@ use Rattle.affected.specs.Affected.{Affected, marked, affected}
 use Rattle.affected.specs.Net.{added}
 use Rattle.affected.specs.Prepared.{cleared, reopened, prepared}
 use Rattle.affected.proofs.Net.{removed-stands, added-stands}
-use Rattle.affected.proofs.Sweeps.{unaffected-unmarked, landmark-safe, affected-closed}
+use Rattle.affected.proofs.Hunt.{unaffected-unmarked, landmark-safe, affected-closed}
 use Rattle.theory.proofs.Settle.{Backed, Sound, Inv, settle-good, settle-rises}
 use Rattle.theory.proofs.Value.{none-quiet, settled-best, best-settled}
 use Rattle.theory.proofs.Tight.{Stands, source-word, settled-stands, still-sound}

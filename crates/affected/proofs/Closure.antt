@@ -1,14 +1,15 @@
--- The closure of affected vertices: its test agrees with its record, marks that are closed have all of it, and marks that sweeps make
--- are in it. Assumes nothing.
+-- The closure of affected vertices: its test agrees with its record, marks that are closed have all of it, and the mark that an edge
+-- makes is in it. Assumes nothing.
 --
 --   Closed P es fs s ws ms   == each edge that would mark its head finds it marked
-use Rattle.property.proofs.Basics.{_≡_, refl, sym, ap, _∙_, _≢_, Bool, true, false, not, _||_, cond, List, [], _∷_, foldl, List·Memᴰ, List·Memᴰ·head, List·Memᴰ·tail, ℕ, zero, suc, ℕ-discrete, set, getD-set-other, eqb, eqb-false, ne-eqb, not-true}
+use Rattle.property.proofs.Basics.{_≡_, refl, sym, ap, _∙_, _⊎_, inl, inr, ⊎-elim, _≢_, Bool, true, false, not, _||_, cond, List, List·Memᴰ, ℕ, _<_, ℕ-discrete, length, getD, set, getD-set-other, eqb, eqb-false, ne-eqb, not-true}
 use Rattle.property.specs.Property.{Property}
 use Rattle.graph.specs.Edge.{Edge}
 use Rattle.graph.proofs.Tests.{both, and-true, or-right}
+use Rattle.graph.proofs.Lists.{at-set}
 use Rattle.run.specs.Run.{word, tight}
 use Rattle.affected.specs.Net.{removed}
-use Rattle.affected.specs.Affected.{Held, Affected, Named, at-removed, onward, held, marked, touches, mark, sweep, sweeps}
+use Rattle.affected.specs.Affected.{Held, Affected, Named, at-removed, onward, held, marked, touches, mark}
 
 -- ---- the test and the record
 
@@ -25,6 +26,19 @@ module _ (P : Property) (s : ℕ) (ws : List ℕ) (e : Edge) where
   pub of-held : Held P s ws e → held P s ws e ≡ true
   of-held h = and-true (h .tight) (and-true (ap not (ne-eqb _ _ (h .elsewhere))) (ap not (ne-eqb _ _ (h .routed))))
 
+-- ---- one mark
+
+-- bit h of l is set where b holds
+module _ (l : List Bool) (h : ℕ) (b : Bool) where
+  pub raise-keeps : h < length l → (t : ℕ) → getD l t false ≡ true → getD (cond b (set l h true) l) t false ≡ true
+  raise-keeps k t q = elim b [ true ↦ ⊎-elim (λ z. z .1) (λ z. z .1 ∙ q) (at-set l h true t false k) | false ↦ q ]
+
+  pub raise-only : (t : ℕ) → getD (cond b (set l h true) l) t false ≡ true → (getD l t false ≡ true) ⊎ ((b ≡ true) × (t ≡ h))
+  raise-only t = elim b [
+    | true ↦ λ q. elim (ℕ-discrete t h) [ yes p ↦ inr (refl, p) | no d ↦ inl (sym (getD-set-other l h t true false d) ∙ q) ]
+    | false ↦ inl
+  ]
+
 -- ---- what marks say
 
 abbrev pub Closed : Property → List Edge → List Edge → ℕ → List ℕ → List Bool → Type 0
@@ -37,7 +51,7 @@ module _ (P : Property) (es fs : List Edge) (s : ℕ) (ws : List ℕ) where
   closed-marked ms c (at-removed {e = e} m r h) = c e m (and-true (of-held P s ws e h) (rw r))
   closed-marked ms c (onward {e = e} a m r h) = c e m (and-true (of-held P s ws e h) (or-right (removed P fs e) (closed-marked ms c a)))
 
-  -- ---- sweeps mark affected vertices alone
+  -- ---- an edge marks affected vertices alone
 
   pub touches-named : (ms : List Bool) (e : Edge) → Named P es fs s ws ms → List·Memᴰ e es → touches P fs s ws ms e ≡ true
       → Affected P es fs s ws (e .head)
@@ -47,28 +61,9 @@ module _ (P : Property) (es fs : List Edge) (s : ℕ) (ws : List ℕ) where
       pick k true r q = at-removed m r k
       pick k false r q = onward (g (e .tail) q) m r k
 
-  mark-named : (ms : List Bool) (e : Edge) → Named P es fs s ws ms → List·Memᴰ e es → Named P es fs s ws (mark P fs s ws ms e)
+  pub mark-named : (ms : List Bool) (e : Edge) → Named P es fs s ws ms → List·Memᴰ e es → Named P es fs s ws (mark P fs s ws ms e)
   unfolding mark
-  mark-named ms e g m = pick (touches P fs s ws ms e) refl
-    where
-      pick : (b : Bool) → touches P fs s ws ms e ≡ b → Named P es fs s ws (cond b (set ms (e .head) true) ms)
-      pick false h t q = g t q
-      pick true h t q = place (ℕ-discrete t (e .head))
-        where
-          place : Dec (t ≡ e .head) → Affected P es fs s ws t
-          place (yes p) = rw p (touches-named ms e g m h)
-          place (no d) = g t (sym (getD-set-other ms (e .head) t true false d) ∙ q)
-
-  fold-named : (xs : List Edge) (ms : List Bool) → ((e : Edge) → List·Memᴰ e xs → List·Memᴰ e es)
-      → Named P es fs s ws ms → Named P es fs s ws (foldl (mark P fs s ws) ms xs)
-  fold-named [] ms sub g = g
-  fold-named (x ∷ xs) ms sub g =
-      fold-named xs (mark P fs s ws ms x) (λ e m. sub e (List·Memᴰ·tail m)) (mark-named ms x g (sub x (List·Memᴰ·head refl)))
-
-  pub sweeps-named : (k : ℕ) (ms : List Bool) → Named P es fs s ws ms → Named P es fs s ws (sweeps P es fs s ws k ms)
-  unfolding sweeps sweep
-  sweeps-named zero ms g = g
-  sweeps-named (suc k) ms g = sweeps-named k (sweep P es fs s ws ms) (fold-named es ms (λ e m. m) g)
+  mark-named ms e g m t q = ⊎-elim (g t) (λ k. rw (k .1) (touches-named ms e g m (k .0))) (raise-only ms (e .head) (touches P fs s ws ms e) t q)
 
   -- ---- whom the closure never has
 

@@ -2,12 +2,13 @@
 use Rattle.property.proofs.Tables.{Said}
 use Rattle.property.proofs.Basics.{_≡_, refl, Bool, true, false, List, [], _∷_, map, ℕ}
 use Rattle.property.specs.Property.{M, sssp, sswp, ssr, property}
+use Rattle.frontier.specs.Waiting.{countOf}
 use Rattle.graph.specs.Edge.{Edge, edge, reverse, exists}
 use Rattle.graph.specs.Table.{insert, delete, update}
 use Rattle.graph.specs.Sorted as order
 use Rattle.run.specs.Run.{tight}
 use Rattle.affected.specs.Net.{counterpart, removed, added}
-use Rattle.affected.specs.Affected.{mark, sweep, sweeps, affected}
+use Rattle.affected.specs.Affected.{mark, sweep, hunt, affected}
 
 -- ---- deck A, landmark 0, of which 0→1 is taken
 
@@ -52,12 +53,12 @@ affectedA =
     ∷ []
 
 affectedA-said : Said affectedA
-unfolding affected sweeps sweep mark counterpart order.insert order.delete order.update
+unfolding affected hunt sweep mark countOf counterpart order.insert order.delete order.update
 affectedA-said = refl
 
 -- a bettered edge passes on by its old weight: 1→2 of 2 becomes 1, 0→1 goes, and the time 3 of 2 is affected
 passed-on : affected sssp (edge 0 1 1 ∷ edge 1 2 2 ∷ []) (edge 1 2 1 ∷ []) 0 (0 ∷ 1 ∷ 3 ∷ []) 3 ≡ false ∷ true ∷ true ∷ []
-unfolding affected sweeps sweep mark counterpart exists
+unfolding affected hunt sweep mark countOf counterpart exists
 passed-on = refl
 
 -- ---- whether a retuned pair counts as removed, and as added, for each property
@@ -90,7 +91,7 @@ ring = edge 0 1 1 ∷ edge 1 0 1 ∷ []
 -- the removal of either affects nobody: the one's head has no route, and the other's is the landmark, which has its word from itself
 never-taken : affected sssp (edge 1 2 4 ∷ []) [] 0 (0 ∷ M ∷ M ∷ []) 3 ∷ affected ssr ring (delete (edge 1 0 0) ring) 0 (1 ∷ 1 ∷ []) 2 ∷ []
     ≡ (false ∷ false ∷ false ∷ []) ∷ (false ∷ false ∷ []) ∷ []
-unfolding affected sweeps sweep mark counterpart order.delete
+unfolding affected hunt sweep mark countOf counterpart order.delete
 never-taken = refl
 
 -- ---- two tight edges into a head
@@ -100,5 +101,36 @@ diamond = edge 0 1 1 ∷ edge 0 2 1 ∷ edge 1 3 1 ∷ edge 2 3 1 ∷ []
 
 -- 3 is affected by the removal of 1→3, though 1 is not and 2→3 stays
 diamond-taken : affected sssp diamond (delete (edge 1 3 0) diamond) 0 (0 ∷ 1 ∷ 1 ∷ 2 ∷ []) 4 ≡ false ∷ false ∷ false ∷ true ∷ []
-unfolding affected sweeps sweep mark counterpart order.delete
+unfolding affected hunt sweep mark countOf counterpart order.delete
 diamond-taken = refl
+
+-- ---- passes from last to first: document 02, Three
+
+-- 2→1→0 leads down, and the row of headroom from landmark 2 is 1 1 M: without 2→1 the first pass finds both
+abbrev down : List Edge
+down = edge 1 0 2 ∷ edge 2 1 1 ∷ []
+
+abbrev cut : List Edge
+cut = delete (edge 2 1 0) down
+
+-- the row to landmark 0 goes over 0→1→2, which leads up: without 1→0 the first pass finds 1 alone, the second 2 as well, and a third none
+abbrev home : List Edge
+home = map reverse down
+
+abbrev left : List Edge
+left = map reverse (delete (edge 1 0 0) down)
+
+abbrev passed : List (List Bool × List Bool)
+passed =
+    (sweep sswp cut 2 (1 ∷ 1 ∷ M ∷ []) down (false ∷ false ∷ false ∷ []), true ∷ true ∷ false ∷ [])
+    ∷ (sweep sswp left 0 (M ∷ 2 ∷ 1 ∷ []) home (false ∷ false ∷ false ∷ []), false ∷ true ∷ false ∷ [])
+    ∷ (sweep sswp left 0 (M ∷ 2 ∷ 1 ∷ []) home (false ∷ true ∷ false ∷ []), false ∷ true ∷ true ∷ [])
+    ∷ (hunt sswp left 0 (M ∷ 2 ∷ 1 ∷ []) home 1 (false ∷ false ∷ false ∷ []), false ∷ true ∷ false ∷ [])
+    ∷ (hunt sswp left 0 (M ∷ 2 ∷ 1 ∷ []) home 3 (false ∷ false ∷ false ∷ []), false ∷ true ∷ true ∷ [])
+    -- the records in another order, one of them twice: the same in the end, here after one pass
+    ∷ (sweep sswp left 0 (M ∷ 2 ∷ 1 ∷ []) (edge 1 2 1 ∷ edge 0 1 2 ∷ edge 1 2 1 ∷ []) (false ∷ false ∷ false ∷ []), false ∷ true ∷ true ∷ [])
+    ∷ []
+
+passed-said : Said passed
+unfolding hunt sweep mark countOf counterpart order.delete
+passed-said = refl

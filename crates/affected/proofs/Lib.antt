@@ -1,6 +1,7 @@
 pub mod Net
 pub mod Closure
-pub mod Sweeps
+pub mod Hunt
+pub mod Passes
 pub mod Examples
 pub mod Batch
 pub mod Fits

@@ -7,9 +7,9 @@
 --   held P s ws e           == the same as Held, as a test
 --   marked ms t             == t is marked
 --   touches .. ms e         == e marks its head: held, and removed or its tail is marked
---   sweep .. ms             == one pass over the old edges, each marking its head where it does
---   sweeps .. k ms          == k passes
---   affected P es fs s ws n == the affected ones of n vertices, as marks: n passes find all
+--   sweep .. xs ms          == one pass over the edges xs, from last to first, each marking its head where it does
+--   hunt .. xs k ms         == pass by pass until one adds none, k passes at most
+--   affected P es fs s ws n == the affected ones of n vertices, as marks: n passes over the old edges find all
 --   AffectedExact           == the marks are the closure, for any words: proved as affected-exact
 --   Named P es fs s ws ms   == each mark of ms is of an affected vertex
 --   mark .. ms e            == the marks after one edge: its head is marked where it touches
@@ -19,12 +19,13 @@
 use mathlib.Core.Path.{_≡_}
 use mathlib.Core.Logic.{_≢_, _↔_}
 use mathlib.Core.Bool.{Bool, true, false, not, _&&_, _||_, cond}
-use mathlib.Core.List.{List, foldl, map, List·Memᴰ}
+use mathlib.Core.List.{List, foldr, map, List·Memᴰ}
 use Prim.Native.Nat.{ℕ, zero, suc, _<_}
 use lib.ListN.{getD, set, replicate}
 use lib.Dec.{eqb}
 use Rattle.property.specs.Property.{Property}
 use Rattle.property.specs.Laws.{Laws}
+use Rattle.frontier.specs.Waiting.{countOf}
 use Rattle.graph.specs.Refusal.{accept}
 use Rattle.graph.specs.Edge.{Edge, reverse, among}
 use Rattle.graph.specs.Table.{rules}
@@ -58,16 +59,15 @@ module _ (P : Property) (fs : List Edge) (s : ℕ) (ws : List ℕ) where
   unfoldable pub mark : List Bool → Edge → List Bool
   mark ms e = cond (touches ms e) (set ms (e .head) true) ms
 
-module _ (P : Property) (es fs : List Edge) (s : ℕ) (ws : List ℕ) where
-  unfoldable pub sweep : List Bool → List Bool
-  sweep ms = foldl (mark P fs s ws) ms es
+  unfoldable pub sweep : List Edge → List Bool → List Bool
+  sweep xs ms = foldr (λ e ls. mark ls e) ms xs
 
-  unfoldable pub sweeps : ℕ → List Bool → List Bool
-  sweeps zero ms = ms
-  sweeps (suc k) ms = sweeps k (sweep ms)
+  unfoldable pub hunt : List Edge → ℕ → List Bool → List Bool
+  hunt xs zero ms = ms
+  hunt xs (suc k) ms = cond (eqb (countOf (sweep xs ms)) (countOf ms)) ms (hunt xs k (sweep xs ms))
 
-  unfoldable pub affected : ℕ → List Bool
-  affected n = sweeps n (replicate n false)
+unfoldable pub affected : Property → List Edge → List Edge → ℕ → List ℕ → ℕ → List Bool
+affected P es fs s ws n = hunt P fs s ws es n (replicate n false)
 
 -- ---- that they are the closure
 

@@ -1,3 +1,4 @@
 pub mod Net
 pub mod Affected
+pub mod Hunt
 pub mod Prepared

@@ -3,7 +3,7 @@ use Rattle.property.proofs.Basics.{_≡_, _∙_, List, map, ℕ, length}
 use Rattle.graph.specs.Refusal.{accept, accepted, replied, choose}
 use Rattle.graph.specs.Edge.{Edge, reverse, edges}
 use Rattle.graph.specs.Index.{Own}
-use Rattle.graph.proofs.Order.{rules-accept, within}
+use Rattle.graph.proofs.Order.{rules-accept, sound-fit, within}
 use Rattle.compare.specs.Code.{Tables, Differences}
 use Rattle.graph.specs.Code.{columns}
 use Rattle.apply.specs.declared.Report.{Report}
@@ -37,6 +37,6 @@ pub sides-made : (n m : ℕ) (ts hs ws : List ℕ) (m′ : ℕ) (ts′ hs′ ws�
     → Own n is (edges ts hs ws m) → Own n ris (map reverse (edges ts hs ws m)) → Own n ns (edges ts′ hs′ ws′ m′) → Own n rns (map reverse (edges ts′ hs′ ws′ m′))
     → Sides n (edges ts hs ws m) (edges ts′ hs′ ws′ m′) xs is ris ns rns
 sides-made n m ts hs ws m′ ts′ hs′ ws′ xs is ris ns rns t d p q r s =
-    let a = within n (edges ts hs ws m) (rules-accept n (edges ts hs ws m) (t .old .2)) in
+    let a = sound-fit n (edges ts hs ws m) (rules-accept n (edges ts hs ws m) (t .old .2)) in
     let b = within n (edges ts′ hs′ ws′ m′) (rules-accept n (edges ts′ hs′ ws′ m′) (t .new .2)) in
-    record { before = λ e i. (a .tails e i, a .heads e i); after = λ e i. (b .tails e i, b .heads e i); old = p; rold = q; new = r; rnew = s; net = d }
+    record { before = λ e i. (a e i .tail-below, a e i .head-below, a e i .no-loop); after = λ e i. (b .tails e i, b .heads e i); old = p; rold = q; new = r; rnew = s; net = d }

@@ -1,3 +1,4 @@
 pub mod Ruled
 pub mod Walking
 pub mod Reversed
+pub mod Beside

@@ -8,19 +8,22 @@
 --                              whose pair has the weight o i in fs; each edge of es that differs is there; and each edge of es has a weight
 --   Differences es fs xs    == a list of changes has what a batch changed: the edges of es that differ in fs and those of fs that differ in es, each with
 --                              what stands in its place
+--   hits xs is k j          == place j of an index has the edge that change k says of before
+--   Faces n fs is os        == beside each arc of an index stands the arc whose weight the pair has in fs, 0 for none
 --   Passed ts hs ws m t h j == the first j edges, of m, precede the pair of t and h
 --   Tables n m ts hs ws ..  == two tables that keep the rules of n vertices
 use mathlib.Core.Path.{_≡_}
-use mathlib.Core.Bool.{Bool, true, not}
+use mathlib.Core.Bool.{Bool, true, not, _&&_}
 use mathlib.Core.List.{List, List·Memᴰ}
 use Prim.Native.Nat.{ℕ, _+_, _*_, _/_, _≤_, _<_}
 use lib.ListN.{length, getD}
-use lib.Dec.{eqb}
+use lib.Dec.{eqb, leb, ltb}
 use Rattle.graph.specs.Limits.{maxVertices, maxEdges}
 use Rattle.graph.specs.Refusal.{accept}
-use Rattle.graph.specs.Arc.{arcHead, arcWeight}
+use Rattle.graph.specs.Arc.{arc, arcHead, arcWeight}
 use Rattle.graph.specs.Edge.{Edge, edge, edges, precedes}
 use Rattle.graph.specs.Table.{rules}
+use Rattle.graph.specs.Index.{edgeOf}
 use Rattle.graph.specs.Code.{Room, edgeAt}
 use Rattle.affected.specs.Net.{counterpart}
 
@@ -51,6 +54,15 @@ pub record Lists (es fs : List Edge) (g : ℕ) (f : ℕ → Edge) (o : ℕ → �
 pub record Differences (es fs : List Edge) (xs : List ℕ) : Type 0 where
   pub old : Lists es fs (pairs xs) (before xs) (λ k. after xs k .weight)
   pub new : Lists fs es (pairs xs) (after xs) (λ k. before xs k .weight)
+
+-- ---- beside an index
+
+abbrev pub hits : List ℕ → List ℕ → ℕ → ℕ → Bool
+hits xs is k j =
+    leb (getD is (before xs k .tail) 0) j && (ltb j (getD is (before xs k .tail + 1) 0) && eqb (getD is j 0) (arc (before xs k .head) (before xs k .weight)))
+
+abbrev pub Faces : ℕ → List Edge → List ℕ → List ℕ → Type 0
+Faces n fs is os = (u j : ℕ) → u < n → getD is u 0 ≤ j → j < getD is (u + 1) 0 → counterpart fs (edgeOf is u j) ≡ arcWeight (getD os j 0)
 
 -- ---- two tables
 

@@ -2,6 +2,7 @@
 // before and after: an edge that a batch takes and adds again with its weight is none. One walk along both tables finds it.
 use graph::arc;
 use graph::rules;
+use graph::words;
 ghost use mathlib.Core.Path.{_≡_};
 ghost use mathlib.Core.Bool.{true, false, not, _&&_, cond};
 ghost use mathlib.Core.List.{List, map};
@@ -11,7 +12,8 @@ ghost use lib.Dec.{eqb, ltb};
 ghost use Rattle.graph.specs.Limits.{maxEdges};
 ghost use Rattle.graph.specs.Arc.{arcHeads, arcWeights, arc};
 ghost use Rattle.graph.specs.Edge.{Edge, edge, reverse, edges, precedes};
-ghost use Rattle.compare.specs.Code.{Tables, Inside, Differences};
+ghost use Rattle.graph.specs.Index.{Fit, Own};
+ghost use Rattle.compare.specs.Code.{Tables, Inside, Differences, hits, Faces};
 
 // Words of a list of changes: two for each edge of both tables, at most.
 pub const NET_WORDS: usize = 4 * graph::MAX_EDGES;
@@ -121,6 +123,46 @@ pub fn turn(list: &mut [u32])
         let b = list[at + 1];
         list[at] = arc::arc(arc::head(b), arc::weight(a));
         list[at + 1] = arc::arc(arc::head(a), arc::weight(b));
+        k += 1;
+    }
+}
+
+// One of two words.
+fn chosen(first: bool, a: u32, b: u32) -> u32
+    ensures { λ r. ⌜ r ≡ cond first a b ⌝ }
+{
+    if first { a } else { b }
+}
+
+// Change `k` of the list puts its second word, which has the weight after the batch, beside the arc of the edge that it says of before.
+fn align_change(k: usize, net: &[u32], old: &[u32], other: &mut [u32])
+    requires { ⌜ (2 * k + 1 < length (now net)) × ((n : ℕ) × Inside n (now net) × Fit n (now old)) × (length (now old) ≤ length (now other)) ⌝ }
+    ensures { λ _. ⌜ (length (now (other .exit)) ≡ length (now (other .entry))) × ((j : ℕ) → getD (now (other .exit)) j 0 ≡ cond (hits (now (net .entry)) (now (old .entry)) k j) (getD (now (net .entry)) (2 * k + 1) 0) (getD (now (other .entry)) j 0)) ⌝ }
+{
+    let at = 2 * k;
+    let t = arc::head(net[at]) as usize;
+    let b = net[at + 1];
+    let a = arc::arc(arc::head(b), arc::weight(net[at]));
+    let hi = old[t + 1] as usize;
+    let mut j = old[t] as usize;
+    while j < hi {
+        other[j] = chosen(old[j] == a, b, other[j]);
+        j += 1;
+    }
+}
+
+// Beside each arc of the index `old` of a table, `other` gets an arc with the weight that its pair has after the batch, 0 for none: where the
+// list has no change of it that is the arc itself.
+pub fn align(net: &[u32], old: &[u32], other: &mut [u32])
+    requires { ⌜ ((n : ℕ) × Inside n (now net) × Fit n (now old)) × (length (now old) ≤ length (now other)) ⌝ }
+    ensures { λ _. ⌜ ((n : ℕ) (es fs : List Edge) → Inside n (now (net .entry)) → Fit n (now (old .entry)) → Own n (now (old .entry)) es → Differences es fs (now (net .entry)) → Faces n fs (now (old .entry)) (now (other .exit))) ⌝ }
+    ensures { λ _. ⌜ length (now (other .exit)) ≡ length (now (other .entry)) ⌝ }
+{
+    words::copy(old.len(), old, other, 0);
+    let size = net.len() / 2;
+    let mut k = 0;
+    while k < size {
+        align_change(k, net, old, other);
         k += 1;
     }
 }

@@ -10,11 +10,12 @@
 --   OwnIn b n fs hs ws es      == they give each vertex its edges of es, in table order
 --   IndexesIn b n fs hs ws es  == both
 --   edgeOf, part, own, Fit, Own, Indexes == the same of an index, which is one list for all three
+--   inOrder is u k             == the edges of the k vertices from u on, vertex by vertex
 --   Indexable n m ts hs ws fs is == m edges that keep the rules of n vertices, and lists with room for their index: fs for its making, is for it
 --   ReversedArcs n m ts hs ws is == from place n + 1 on stand the arcs of the edges into 0, into 1, .., reversed
 use mathlib.Core.Path.{_≡_}
 use mathlib.Core.Bool.{Bool, true}
-use mathlib.Core.List.{List, [], _∷_}
+use mathlib.Core.List.{List, [], _∷_, _++_}
 use Prim.Native.Nat.{ℕ, zero, suc, _+_, _-_, _≤_, _<_}
 use lib.ListN.{length, getD, take}
 use Rattle.graph.specs.Limits.{maxVertices, maxEdges}
@@ -64,6 +65,10 @@ part is u j k = partIn true is is u j k
 
 abbrev pub own : List ℕ → ℕ → List Edge
 own is u = ownIn true is is is u
+
+unfoldable pub inOrder : List ℕ → ℕ → ℕ → List Edge
+inOrder is u zero = []
+inOrder is u (suc k) = own is u ++ inOrder is (suc u) k
 
 abbrev pub Fit : ℕ → List ℕ → Type 0
 Fit n is = FitIn true n is is is

@@ -14,7 +14,7 @@ use Rattle.theory.proofs.Rounds.{settle-all}
 use Rattle.affected.specs.Net.{added}
 use Rattle.affected.specs.Affected.{Affected, marked, affected}
 use Rattle.affected.specs.Prepared.{cleared, reopened, prepared}
-use Rattle.affected.proofs.Sweeps.{affected-length, unaffected-unmarked, affected-exact}
+use Rattle.affected.proofs.Hunt.{affected-length, unaffected-unmarked, affected-exact}
 use Rattle.network.specs.Network.{row, propertyOf, landmarkOf, unsettled, storesOf}
 use Rattle.network.specs.Batch.{affectedIn, batchRow, affectedOver}
 use Rattle.network.specs.History as claim

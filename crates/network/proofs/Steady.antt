@@ -25,7 +25,7 @@ use Rattle.affected.specs.Net.{added}
 use Rattle.affected.specs.Affected.{Affected, at-removed, onward, marked, affected}
 use Rattle.affected.specs.Prepared.{cleared, reopened, prepared}
 use Rattle.affected.proofs.Net.{Single, rules-single, single-reverse, kept-stays}
-use Rattle.affected.proofs.Sweeps.{unaffected-unmarked}
+use Rattle.affected.proofs.Hunt.{unaffected-unmarked}
 use Rattle.network.specs.Network.{Network, edgesIn, rowCount, shortRows, landmarks, faults, row, propertyOf, landmarkOf, rowsOf, flat, unsettled, storesOf}
 use Rattle.network.specs.Change.{Change, named, updates, edit, words, against, item, items}
 use Rattle.network.specs.Batch.{batchRow, batchRows, affectedOver, rewritten, newForward, newBackward, batchFaults, batchVerdict, batchMemory, report, batchCall}

@@ -1,20 +1,19 @@
--- The removed edges of a batch mark the heads that they held up, and where marks have spread they are those of the affected vertices. Assumes nothing.
-use Rattle.property.proofs.Basics.{_≡_, refl, sym, ap, _∙_, inl, inr, ⊎-elim, Bool, true, false, not, _||_, true≢false, false≢true, List, List·Memᴰ, ℕ, _<_, arith, getD, replicate, ltb, eqb, ltb-true, lt-ltb, eqb-true, ne-eqb}
+-- The changes of a batch that lose an edge, and the tails of removed edges from which the hunt for affected vertices starts. Assumes nothing.
+use Rattle.property.proofs.Basics.{_≡_, sym, ap, _∙_, Bool, true, false, not, true≢false, false≢true, List, List·Memᴰ, ℕ, _-_, _<_, arith, length, replicate, ltb, eqb, ltb-true, lt-ltb, eqb-true, ne-eqb}
 use Rattle.property.specs.Property.{Property}
 use Rattle.property.specs.Laws.{Laws}
 use Rattle.property.proofs.Tests.{by-test}
-use Rattle.frontier.specs.Waiting.{waitingOf, capacity}
+use Rattle.frontier.specs.Waiting.{capacity}
 use Rattle.graph.specs.Edge.{Edge}
+use Rattle.graph.specs.Index.{Own}
+use Rattle.graph.proofs.Edges.{leaving-in}
 use Rattle.graph.proofs.Tests.{both, and-true, or-false}
 use Rattle.graph.proofs.Lists.{replicate-at}
-use Rattle.run.specs.Code.{bits}
 use Rattle.affected.specs.Net.{counterpart, lost, removed}
-use Rattle.affected.specs.Affected.{held, marked, affected}
+use Rattle.affected.specs.Affected.{held, marked}
 use Rattle.compare.specs.Code.{before, after, pairs, Lists}
-use Rattle.spread.specs.Code.{Going, Covered, Spreads}
-use Rattle.prepare.specs.Code.{edgeLost, HeadsMarked}
-use Rattle.spread.proofs.Bits.{bits-all, bits-length}
-use Rattle.affected.proofs.Sweeps.{closed-exact}
+use Rattle.hunt.specs.Code.{Shut}
+use Rattle.prepare.specs.Code.{edgeLost, Raised, Started}
 
 -- ---- the listed edges that are lost
 
@@ -36,32 +35,18 @@ module _ {P : Property} (L : Laws P) {es fs : List Edge} {g : ℕ} {f : ℕ → 
       still : counterpart fs e ≡ e .weight → lost P (e .weight) (counterpart fs e) ≡ false
       still q = let l = d .weighs e m in rw q (or-false (ne-eqb (e .weight) 0 (λ z. omega arith)) (L .worse-irreflexive (e .weight)))
 
--- ---- the affected vertices
+-- ---- the start of the hunt
 
--- From no marks the removed edges mark heads, and marks go on until nothing is to do. Every mark is of an affected vertex. A removed
--- held edge is listed, so its head is marked; a held edge from a marked vertex has its head marked, since that vertex is not to do. So
--- the marks are closed, and are exactly the affected vertices.
-module _ (P : Property) (n s : ℕ) (xs vs : List ℕ) (bs ds bs′ ds′ bs″ ds″ : List ℕ) (p : waitingOf bs ≡ replicate capacity false) (q : waitingOf ds ≡ replicate capacity false)
-    (k : HeadsMarked P n s xs (pairs xs) vs bs ds bs′ ds′) (go : Going n bs″ ds″) (idle : (t : ℕ) → getD (waitingOf ds″) t false ≡ false) where
-  unmarked : (t : ℕ) → marked (waitingOf bs) t ≡ false
-  unmarked t = ap (λ (l : List Bool). getD l t false) p ∙ replicate-at capacity t false
+pub unmarked : {bs : List Bool} → bs ≡ replicate capacity false → (t : ℕ) → marked bs t ≡ true → ⊥
+unmarked e t q = false≢true (sym (replicate-at capacity t false) ∙ rw e at q)
 
-  module _ (es fs : List Edge) (sp : Spreads P n s es vs bs′ ds′ bs″ ds″) where
-    covered : Covered P es s vs (waitingOf bs″) (waitingOf ds″)
-    covered = sp .covered (λ e i h r. ⊎-elim (λ a. absurd (false≢true (sym (unmarked (e .tail)) ∙ a))) inr (k .grown .new (e .tail) r))
-
-    pub marks-found : Laws P → ((e : Edge) → List·Memᴰ e es → e .head < n) → Lists es fs (pairs xs) (before xs) (λ i. after xs i .weight) → bits n bs″ ≡ affected P es fs s vs n
-    marks-found L heads d =
-        closed-exact P es fs s vs n heads (bits n bs″) (bits-length n bs″ (go .marks))
-        (λ t h. sp .named fs (k .named es fs (λ i a b w. let z = listed-lost L d i b w in (z .0, inl (z .1))) (λ i h. absurd (false≢true (sym (unmarked i) ∙ h)))) t (sym (bits-all n bs″ (go .marks) t) ∙ h))
-        (λ e i h. bits-all n bs″ (go .marks) (e .head) ∙ shut e i (both (held P s vs e) _ h .0) (removed P fs e) refl (both (held P s vs e) _ h .1))
-      where
-        shut : (e : Edge) → List·Memᴰ e es → held P s vs e ≡ true → (b : Bool) → removed P fs e ≡ b → (b || marked (bits n bs″) (e .tail)) ≡ true
-            → marked (waitingOf bs″) (e .head) ≡ true
-        shut e i h false r c =
-            ⊎-elim (λ a. a) (λ a. absurd (false≢true (sym (idle (e .tail)) ∙ a))) (covered e i h (sym (bits-all n bs″ (go .marks) (e .tail)) ∙ c))
-        shut e i h true r c =
-            let y = lost-listed L d e i r in
-            let o : before xs (y .0) ≡ e = y .2 in
-            ap (λ (j : Edge). marked (waitingOf bs″) (j .head)) (sym o)
-            ∙ sp .keeps _ (k .heads (y .0) (omega arith) (y .1) (y .3) (ap (λ (j : Edge). held P s vs j) o ∙ h))
+-- Where no vertex is marked, an edge marks its head if it is held and removed: then it is listed, so that its tail is to do.
+pub start-shut : {P : Property} (L : Laws P) {n : ℕ} {es fs : List Edge} {ds ds′ : List Bool} (s : ℕ) (vs is xs : List ℕ) {bs : List Bool} → Own n is es
+    → Lists es fs (pairs xs) (before xs) (λ k. after xs k .weight) → length vs ≡ n → bs ≡ replicate capacity false → Raised ds ds′ (Started P s vs xs (pairs xs)) → Shut P n fs s vs is bs ds′
+start-shut {P} L {n} {es} {fs} s vs is xs o d size clear a u h idle e m q =
+    let z = both (held P s vs e) _ q in
+    let i = leaving-in u es e (rw (o u h) at m) in
+    let y = lost-listed L d e (i .0) (by-test (removed P fs e) (λ r. r) (λ r. absurd (unmarked clear (e .tail) (rw r at (z .1))))) in
+    let k : before xs (y .0) ≡ e = y .2 in
+    let to : length vs - 1 - before xs (y .0) .tail ≡ n - 1 - u = rw size (ap (λ (x : Edge). n - 1 - x .tail) k ∙ ap (λ t. n - 1 - t) (i .1)) in
+    absurd (false≢true (sym idle ∙ a .all _ (y .0, omega arith, y .1, and-true (y .3) (ap (λ (x : Edge). held P s vs x) k ∙ z .0), to)))

@@ -1,12 +1,12 @@
-// A row after a batch: the removed edges mark the heads that they held up, from which marks spread to all affected vertices, and the state in which
-// the row's rounds start. What a batch changed is a list `net` with two words for each pair: see `compare`.
+// A row after a batch: the hunt for its affected vertices starts at the removed edges that hold up their heads, and then the row has the state in which
+// its rounds start. What a batch changed is a list `net` with two words for each pair: see `compare`.
 use frontier::Next;
 use frontier::Words;
 use graph::arc;
 ghost use mathlib.Core.Path.{_≡_};
 ghost use mathlib.Core.Bool.{true, false, cond};
 ghost use mathlib.Core.List.{List};
-ghost use Prim.Native.Nat.{ℕ, _+_, _*_, _<_, _≤_};
+ghost use Prim.Native.Nat.{ℕ, _+_, _-_, _*_, _<_, _≤_};
 ghost use lib.ListN.{length, getD, set};
 ghost use Rattle.property.specs.Property.{property};
 ghost use Rattle.frontier.specs.Waiting.{waitingOf, countOf};
@@ -17,9 +17,8 @@ ghost use Rattle.run.specs.Run.{noTally};
 ghost use Rattle.run.specs.Code.{bits, Marks};
 ghost use Rattle.affected.specs.Affected as spec;
 ghost use Rattle.affected.specs.Prepared as start;
-ghost use Rattle.compare.specs.Code.{before, after, pairs, Inside};
-ghost use Rattle.spread.specs.Code.{Going};
-ghost use Rattle.prepare.specs.Code.{Batched, edgeLost, marksChange, HeadsMarked, Raised, Woken, Entering};
+ghost use Rattle.compare.specs.Code.{before, after, pairs, Inside, Faces};
+ghost use Rattle.prepare.specs.Code.{Batched, edgeLost, starts, Raised, Started, Woken, Entering};
 
 // ---- what the changes do
 
@@ -28,31 +27,23 @@ ghost use Rattle.prepare.specs.Code.{Batched, edgeLost, marksChange, Hea
 fn is_lost(p: u32, w: u32, other: u32) -> bool
     ensures { λ r. ⌜ r ≡ edgeLost (property p) w other ⌝ }
 {
-    0 < w && (other == 0 || property::worse(p, other, w))
+    0 < w && hunt::is_lost(p, w, other)
 }
 
-// Change `k` marks the head that its removed edge held up.
-fn mark_change(
-    p: u32,
-    n: usize,
-    s: u32,
-    k: usize,
-    net: &[u32],
-    words: &[u32],
-    marks: &mut Words,
-    todo: &mut Words,
-)
-    requires { ⌜ (2 * k + 1 < length (now net)) × Inside n (now net) × (n ≤ maxVertices) × (length (now words) ≡ n) ⌝ }
-    ensures { λ _. ⌜ waitingOf (now (marks .exit)) ≡ cond (marksChange (property p) s (now (words .entry)) (waitingOf (now (marks .entry))) (before (now (net .entry)) k) (after (now (net .entry)) k .weight)) (set (waitingOf (now (marks .entry))) (before (now (net .entry)) k .head) true) (waitingOf (now (marks .entry))) ⌝ }
-    ensures { λ _. ⌜ waitingOf (now (todo .exit)) ≡ cond (marksChange (property p) s (now (words .entry)) (waitingOf (now (marks .entry))) (before (now (net .entry)) k) (after (now (net .entry)) k .weight)) (set (waitingOf (now (todo .entry))) (before (now (net .entry)) k .head) true) (waitingOf (now (todo .entry))) ⌝ }
+// The tail of change `k` is to do where its removed edge holds up its head.
+fn start_change(p: u32, s: u32, k: usize, net: &[u32], words: &[u32], todo: &mut Words)
+    requires { ⌜ (2 * k + 1 < length (now net)) × Inside (length (now words)) (now net) × (length (now words) ≤ maxVertices) ⌝ }
+    ensures { λ _. ⌜ waitingOf (now (todo .exit)) ≡ cond (starts (property p) s (now (words .entry)) (now (net .entry)) k) (set (waitingOf (now (todo .entry))) (length (now (words .entry)) - 1 - before (now (net .entry)) k .tail) true) (waitingOf (now (todo .entry))) ⌝ }
 {
     let at = 2 * k;
-    let t = arc::head(net[at]);
     let w = arc::weight(net[at]);
-    let other = arc::weight(net[at + 1]);
+    if !is_lost(p, w, arc::weight(net[at + 1])) {
+        return;
+    }
+    let t = arc::head(net[at]) as usize;
     let h = arc::head(net[at + 1]);
-    if is_lost(p, w, other) {
-        spread::mark_head(p, n, s, t, h, w, words, marks, todo);
+    if hunt::is_held(p, s, words[t], w, h, words[h as usize]) {
+        frontier::insert(todo, words.len() - 1 - t);
     }
 }
 
@@ -68,25 +59,16 @@ fn wake_change(p: u32, k: usize, net: &[u32], waiting: &mut Words)
     }
 }
 
-// The changes of a batch: the removed edges mark the heads that they held up, and the tails of the added edges wait.
-fn take_changes(
-    p: u32,
-    n: usize,
-    s: u32,
-    net: &[u32],
-    words: &[u32],
-    marks: &mut Words,
-    todo: &mut Words,
-    waiting: &mut Words,
-)
-    requires { ⌜ Inside n (now net) × (n ≤ maxVertices) × (length (now words) ≡ n) × Going n (now marks) (now todo) × Marks n (now waiting) ⌝ }
-    ensures { λ _. ⌜ HeadsMarked (property p) n s (now (net .entry)) (pairs (now (net .entry))) (now (words .entry)) (now (marks .entry)) (now (todo .entry)) (now (marks .exit)) (now (todo .exit)) ⌝ }
-    ensures { λ _. ⌜ Raised (waitingOf (now (waiting .entry))) (waitingOf (now (waiting .exit))) (Woken (property p) (now (net .entry)) (pairs (now (net .entry)))) × Marks n (now (waiting .exit)) ⌝ }
+// The changes of a batch: the tails of the removed edges that hold up their heads are to do, and the tails of the added edges wait.
+fn take_changes(p: u32, s: u32, net: &[u32], words: &[u32], todo: &mut Words, waiting: &mut Words)
+    requires { ⌜ Inside (length (now words)) (now net) × Marks (length (now words)) (now todo) × Marks (length (now words)) (now waiting) ⌝ }
+    ensures { λ _. ⌜ Raised (waitingOf (now (todo .entry))) (waitingOf (now (todo .exit))) (Started (property p) s (now (words .entry)) (now (net .entry)) (pairs (now (net .entry)))) × Marks (length (now (words .entry))) (now (todo .exit)) ⌝ }
+    ensures { λ _. ⌜ Raised (waitingOf (now (waiting .entry))) (waitingOf (now (waiting .exit))) (Woken (property p) (now (net .entry)) (pairs (now (net .entry)))) × Marks (length (now (words .entry))) (now (waiting .exit)) ⌝ }
 {
     let size = net.len() / 2;
     let mut k = 0;
     while k < size {
-        mark_change(p, n, s, k, net, words, marks, todo);
+        start_change(p, s, k, net, words, todo);
         wake_change(p, k, net, waiting);
         k += 1;
     }
@@ -135,27 +117,28 @@ fn reopen_marked(
 }
 
 // A row after a batch: `words`, its words before it, become those that its rounds start from, `waiting` who waits then, and the answer is how
-// many vertices are affected. `net` is what the batch changed, `old` the index of the table before it, and `into` that of the reversed table
-// after it.
+// many vertices are affected. `net` is what the batch changed, `old` the index of the table before it, `other` what is now in the place of each of its
+// arcs, and `into` the index of the reversed table after it.
 pub fn prepare(
     p: u32,
     n: usize,
     s: u32,
     net: &[u32],
     old: &[u32],
+    other: &[u32],
     into: &[u32],
     words: &mut [u32],
     waiting: &mut Words,
 ) -> u64
-    requires { ⌜ Inside n (now net) × Fit n (now old) × Fit n (now into) × (length (now words) ≡ n) ⌝ }
-    ensures { λ r. ⌜ ((es fs : List Edge) → Batched n es fs (now (old .entry)) (now (into .entry)) (now (net .entry)) → (record { words = now (words .exit); waiting = bits n (now (waiting .exit)); tally = noTally } ≡ start.prepared (property p) es fs s (now (words .entry)) n) × (r ≡ countOf (spec.affected (property p) es fs s (now (words .entry)) n))) ⌝ }
+    requires { ⌜ Inside n (now net) × Fit n (now old) × (length (now old) ≤ length (now other)) × Fit n (now into) × (length (now words) ≡ n) ⌝ }
+    ensures { λ r. ⌜ ((es fs : List Edge) → Batched n es fs (now (old .entry)) (now (into .entry)) (now (net .entry)) → Faces n fs (now (old .entry)) (now (other .entry)) → (record { words = now (words .exit); waiting = bits n (now (waiting .exit)); tally = noTally } ≡ start.prepared (property p) es fs s (now (words .entry)) n) × (r ≡ countOf (spec.affected (property p) es fs s (now (words .entry)) n))) ⌝ }
     ensures { λ r. ⌜ Marks n (now (waiting .exit)) × (r ≤ maxVertices) ⌝ }
 {
     let mut marks = frontier::empty();
     let mut todo = frontier::empty();
     frontier::clear(waiting);
-    take_changes(p, n, s, net, words, &mut marks, &mut todo, waiting);
-    spread::spread(p, n, s, old, words, &mut marks, &mut todo);
+    take_changes(p, s, net, words, &mut todo, waiting);
+    hunt::hunt(p, n, s, old, other, words, &mut marks, &mut todo);
     reopen_marked(p, n, into, &marks, words, waiting);
     frontier::count(&marks) as u64
 }

@@ -2,14 +2,16 @@
 -- nothing.
 --
 --   Fair n ls w                  == a network that numbers 1 to 4 let pass
---   Lined n xs is ris ns rns     == what the rows are run on lies in range: the changes xs, and the indices of both tables and of both reversed ones
+--   Lined n xs is ris ns rns     == what the rows are run on lies in range: the changes xs, and the indices of both tables and of both reversed ones,
+--                                   those of the old one no longer than an index gets
 --   Sides n es fs xs is ris ns rns == they have the batch
 --   SidesDone n ls es fs f b f′ b′ a == the runs of all rows of the lists f and b came to a, and left f′ and b′
 use mathlib.Core.Path.{_≡_}
+use mathlib.Core.Logic.{_≢_}
 use mathlib.Core.List.{List, map, List·Memᴰ}
 use Prim.Native.Nat.{ℕ, _+_, _*_, _≤_, _<_}
 use lib.ListN.{length}
-use Rattle.graph.specs.Limits.{maxVertices}
+use Rattle.graph.specs.Limits.{maxVertices, maxEdges}
 use Rattle.graph.specs.Refusal.{over}
 use Rattle.graph.specs.Edge.{Edge, reverse}
 use Rattle.graph.specs.Index.{Fit, Own}
@@ -32,9 +34,10 @@ pub record Lined (n : ℕ) (xs is ris ns rns : List ℕ) : Type 0 where
   pub rold : Fit n ris
   pub new : Fit n ns
   pub rnew : Fit n rns
+  pub short : (length is ≤ maxVertices + 1 + maxEdges) × (length ris ≤ maxVertices + 1 + maxEdges)
 
 pub record Sides (n : ℕ) (es fs : List Edge) (xs is ris ns rns : List ℕ) : Type 0 where
-  pub before : (e : Edge) → List·Memᴰ e es → (e .tail < n) × (e .head < n)
+  pub before : (e : Edge) → List·Memᴰ e es → (e .tail < n) × (e .head < n) × (e .tail ≢ e .head)
   pub after : (e : Edge) → List·Memᴰ e fs → (e .tail < n) × (e .head < n)
   pub old : Own n is es
   pub rold : Own n ris (map reverse es)

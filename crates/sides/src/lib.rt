@@ -26,9 +26,9 @@ pub fn batch_sides(
     requires { ⌜ (rowCount (now landmarks) * n ≤ length (now forward)) × (rowCount (now landmarks) * n ≤ length (now backward)) ⌝ }
     ensures { λ r. ⌜ ((es fs : List Edge) → Sides n es fs (now (net .entry)) (now (old .entry)) (now (rold .entry)) (now (new .entry)) (now (rnew .entry)) → SidesDone n (now (landmarks .entry)) es fs (now (forward .entry)) (now (backward .entry)) (now (forward .exit)) (now (backward .exit)) r) ⌝ }
 {
-    let f = rows::batch_rows(n, landmarks, net, old, new, rnew, forward);
+    let f = rows::batch_side(n, landmarks, net, old, new, rnew, forward);
     compare::turn(net);
-    let b = rows::batch_rows(n, landmarks, net, rold, rnew, new, backward);
+    let b = rows::batch_side(n, landmarks, net, rold, rnew, new, backward);
     Rowed {
         affected: f.affected + b.affected,
         stores: f.stores + b.stores,

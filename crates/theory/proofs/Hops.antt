@@ -40,7 +40,7 @@ count-mono (false ∷ a) [] h = count-mono a [] (λ k. h (suc k))
 count-mono (false ∷ a) (false ∷ b) h = count-mono a b (λ k. h (suc k))
 count-mono (false ∷ a) (true ∷ b) h = let z = count-mono a b (λ k. h (suc k)) in omega arith
 
-count-less : (a b : List Bool) (y : ℕ) → y < length a → ((k : ℕ) → getD a k false ≡ true → getD b k false ≡ true)
+pub count-less : (a b : List Bool) (y : ℕ) → y < length a → ((k : ℕ) → getD a k false ≡ true → getD b k false ≡ true)
     → getD a y false ≡ false → getD b y false ≡ true → countOf a < countOf b
 count-less a b y l h p q =
     let z = count-mono (set a y true) b (λ k e. ⊎-elim (λ c. rw (c .0) q) (λ c. h k (sym (c .1) ∙ e)) (at-set a y true k false l)) in

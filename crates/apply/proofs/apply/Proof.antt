@@ -78,6 +78,7 @@ batch-sides-requires c κs =
           rold = r .index-reversed .ensures .fit;
           new = j .index2 .ensures .fit;
           rnew = q .index-reversed2 .ensures .fit;
+          short = (let z = length-replicate {A = ℕ} 2305 0 in (omega (arith, i .index .kept .1 .1 .1 .1 .1 .1 .0), omega (arith, r .index-reversed .kept .1 .1 .1 .1 .1 .1 .0)));
         },
       ),
       (p .forward, p .backward),

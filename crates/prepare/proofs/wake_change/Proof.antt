@@ -6,21 +6,10 @@ use Rattle.prepare.specs.Code.{edgeLost}
 use Rattle.prepare.proofs.wake_change.Statement.{statement}
 use Rattle.prepare.proofs.wake_change.Tie as tie
 
-insert-requires : tie.Need-insert-requires
-insert-requires c κs =
-    let s = c .before .before .before .before .before .before .before .before .before .before in
-    let x = s .pre .1 (2 * s .args .k) (let l = s .pre .0 in omega arith) in
-    omega (arith, x, c .before .before .before .before .before .before .before .head .ensures)
-
-abbrev start : tie.After-is-lost → tie.Start
-start c = c .before .before .before .before .before .before .before .before
-
 -- whether the change added an edge
-adds : (c : tie.After-is-lost) → let a = start c .args in c .is-lost .result ≡ edgeLost (property (a .p)) (after (a .net .now) (a .k) .weight) (before (a .net .now) (a .k) .weight)
-adds c = c .is-lost .ensures ∙ ap₂ (edgeLost (property (start c .args .p))) (c .before .before .before .weight .ensures) (c .before .weight2 .ensures)
-
-returns : tie.Need-returns
-returns c = let z = sym (adds (c .before .before .before)) ∙ c .before .before .if1 .taken in rw z (rw (c .before .before .before .before .before .before .before .before .head .ensures) at (c .insert .ensures))
+adds : (c : tie.After-is-lost) → let a = c .before .before .before .before .before .before .before .before .args in
+    c .is-lost .result ≡ edgeLost (property (a .p)) (after (a .net .now) (a .k) .weight) (before (a .net .now) (a .k) .weight)
+adds c = c .is-lost .ensures ∙ ap₂ (edgeLost (property _)) (c .before .before .before .weight .ensures) (c .before .weight2 .ensures)
 
 pub wake-change-spec : {M : Type 1} → statement M
 wake-change-spec =
@@ -39,6 +28,7 @@ wake-change-spec =
     (λ c. search needs)
     (λ c κs. search needs)
     (λ c κs. search needs)
-    insert-requires
-    returns
+    (λ c κs. let b = c .before .before in let s = b .before .before .before .before .before .before .before .before in
+    omega (arith, s .pre .1 (2 * s .args .k) (omega (arith, s .pre .0)), b .before .before .before .before .before .head .ensures))
+    (λ c. let b = c .before .before .before in let z = sym (adds b) ∙ c .before .before .if1 .taken in rw z (rw (b .before .before .before .before .before .head .ensures) at (c .insert .ensures)))
     (λ c. let z = sym (adds (c .before)) ∙ c .if1 .left in rw z))

@@ -1,45 +1,29 @@
 -- `prepare::wake_into` meets its contract. The loop's invariant is `Raised`. Assumes nothing.
-use Rattle.property.proofs.Basics.{_≡_, _+_, _-_, _≤_, _<_, arith, length, getD, needs}
+use Rattle.property.proofs.Basics.{_+_, _-_, _≤_, _<_, arith, length, getD, needs}
 use Rattle.frontier.specs.Waiting.{waitingOf}
 use Rattle.graph.specs.Arc.{arcHead}
+use Rattle.graph.proofs.Arcs.{fit-arc}
 use Rattle.run.specs.Code.{Marks}
-use Rattle.run.proofs.States.{marks-set}
 use Rattle.prepare.specs.Code.{Raised, Entering}
-use Rattle.spread.proofs.Spreading.{fit-arc}
-use Rattle.prepare.proofs.Starts.{raised-none, raised-turn}
+use Rattle.prepare.proofs.Starts.{raised-none, raised-turn, raised-as}
 use Rattle.prepare.proofs.wake_into.Statement.{statement}
 use Rattle.prepare.proofs.wake_into.Tie as tie
 
 abbrev Inv-loop : tie.InvT-loop
-Inv-loop n v into waiting₀ hi j₀ waiting j = Raised (waitingOf waiting₀) (waitingOf waiting) (Entering into j₀ j) × Marks n waiting × (j₀ ≤ j) × (j ≤ hi)
+Inv-loop n v into waiting₀ hi j₀ waiting j = (Raised (waitingOf waiting₀) (waitingOf waiting) (Entering into j₀ j) × Marks n waiting) × (j₀ ≤ j) × (j ≤ hi)
 
 abbrev μ-loop : tie.MeasureT-loop
 μ-loop n v into waiting₀ hi j₀ waiting j = hi - j
 
-abbrev start : tie.In-loop Inv-loop μ-loop → tie.Start Inv-loop μ-loop
-start t = t .before .before .before .before .before
-
 -- the arc at hand
-arc : (t : tie.In-loop Inv-loop μ-loop) → let a = start t .args in let j = t .before .loop .j in (j < length (a .into .now)) × (arcHead (getD (a .into .now) j 0) < a .n)
-arc t = let s = start t in let l = t .before .loop in fit-arc (s .pre .1) (s .args .v) (l .j) (s .pre .0) (l .inv .2) (t .loop-test .taken)
-
-insert-requires : tie.Need-insert-requires Inv-loop μ-loop
-insert-requires c κs = let z = arc (c .before .before .before) .1 in let y = c .before .before .before .before .loop .inv .1 .few in omega (arith, c .head .ensures)
+arc : (t : tie.In-loop Inv-loop μ-loop) → let a = t .before .before .before .before .before .args in let j = t .before .loop .j in (j < length (a .into .now)) × (arcHead (getD (a .into .now) j 0) < a .n)
+arc t = let s = t .before .before .before .before .before in let l = t .before .loop in fit-arc (s .pre .1) (s .args .v) (l .j) (s .pre .0) (l .inv .1) (t .loop-test .taken)
 
 loop-again : tie.Need-loop-again Inv-loop μ-loop
 loop-again c =
     let t = c .before .before .before .before in
-    let l = t .before in
-    let v = l .loop .inv in
-    let e = rw (c .before .head .ensures) at (c .insert .ensures) in
-    (raised-turn (v .0) (omega (arith, arc t .1, v .1 .few, v .1 .bits)) (v .2) _ e, marks-set _ _ _ _ _ (arc t .1) e (v .1), omega arith, omega arith)
-
-returns : tie.Need-returns Inv-loop μ-loop
-returns c =
-    let l = c .before in
-    let s = l .before .before .before .before in
-    let e : l .loop .j ≡ getD (s .args .into .now) (s .args .v + 1) 0 = omega (arith, c .loop-test .left, l .loop .inv .3) in
-    (rw e at (l .loop .inv .0), l .loop .inv .1)
+    let v = t .before .loop .inv in
+    (raised-turn (v .0) (arc t .1) (v .1) _ (rw (c .before .head .ensures) at (c .insert .ensures)), omega (arith, v .1), omega (arith, t .loop-test .taken))
 
 pub wake-into-spec : {M : Type 1} → statement M
 wake-into-spec =
@@ -54,13 +38,13 @@ wake-into-spec =
     (λ c. search needs)
     (λ c. search needs)
     (λ c. omega (arith, c .shared-slice-known3 .given (c .before .before .before .args .v)))
-    (λ c. let s = c .before .before .before in (raised-none _ _ (λ t q. let a = q .1 in let b = q .2 in omega arith), s .pre .2, omega arith, s .pre .1 .rising (s .args .v) (s .pre .0)))
+    (λ c. let s = c .before .before .before in ((raised-none _ _ (λ t q. let a = q .1 in let b = q .2 in omega arith), s .pre .2), omega arith, s .pre .1 .rising (s .args .v) (s .pre .0)))
     (λ c. let z = arc (c .before) .0 in search needs)
     (λ c. let z = arc (c .before .before) .0 in search needs)
     (λ c κs. search needs)
     (λ c. omega (arith, c .head .ensures))
-    insert-requires
+    (λ c κs. omega (arith, c .head .ensures, arc (c .before .before .before) .1, c .before .before .before .before .loop .inv .0 .1 .few))
     (λ c. let z = arc (c .before .before .before .before) .0 in search needs)
     (λ c. search needs)
     loop-again
-    returns)
+    (λ c. let v = c .before .loop .inv in raised-as (v .0) (omega (arith, c .loop-test .left, v .2))))
