@@ -1,15 +1,16 @@
 #!/usr/bin/env python3
-"""Passes and looks of the hunt for suspects on decks of 256 stations, by document 02's request Three as it stands here, with none of the library's code: every old
-record is looked at in each pass, from last to first, and a pass that adds no suspect is the last.
+"""Passes and looks of the hunt for suspects on decks of 256 stations, by document 02's request Three as it stands here, with none of the library's code.
 
     passes.py            the lines that the program beside this file must print
-    passes.py figures    passes and looks of both orders, first to last and last to first, for the note
+    passes.py figures    passes and looks from last to first and from first to last, of this file alone
 
 Decks: `down`, whose segments lead from each station to lower ones, with its hub at 255; `mostly`, with one segment in ten that leads up; and both mirrored, station v at
 255 - v, with the same batch. A row is one property from the hub at 255, or to station 0 over the reversed segments.
 
-A line has deck, side, property, passes, looks, and the suspects after each pass. In a pass the records of a station are looked at if the station is to do: at first the tails of
-tight removed records are, and then each station that became a suspect after its own records had their turn."""
+A line has deck, side, property, passes made, looks, and the suspects after each pass that adds any. The suspects are those of passes over every record of the table, from
+last to first, until one adds none (`every_record`). Passes made and looks are those of passes that leave out the stations that are not to do (`to_do`): at first the tails of tight removed
+records are to do, and then each station that becomes a suspect, until its records have their turn; the last pass is the one after which none is to do. What such a pass finds is
+held to what a pass over every record finds."""
 import sys
 
 M = 4294967295
@@ -65,24 +66,41 @@ def best(p, table, source):
     return words
 
 
-def hunt(p, table, gone, source, words, descending):
-    """Passes over every record; and looks, where only the records of stations to do are looked at."""
-    tight = lambda t, h, f: h != source and words[h] != NOROUTE[p] and along(p, words[t], f) == words[h]
-    marks, after, looks = set(), [], 0
-    todo = {t for t, h, f in gone if tight(t, h, f)}
+def is_tight(p, source, words, t, h, f):
+    return h != source and words[h] != NOROUTE[p] and along(p, words[t], f) == words[h]
+
+
+def every_record(p, records, gone, source, words):
+    """The suspects after each pass over the records in the order given, the last of which adds none."""
+    tight = [r for r in records if is_tight(p, source, words, *r)]
+    suspects, after = set(), []
+    while True:
+        for t, h, f in tight:
+            if (t, h, f) in gone or t in suspects:
+                suspects.add(h)
+        after.append(set(suspects))
+        if len(after) > 1 and after[-1] == after[-2] or not suspects:
+            return after
+
+
+def to_do(p, table, gone, source, words, descending):
+    """Passes made and looks, where only the records of stations to do are looked at."""
+    literal = every_record(p, table[::-1] if descending else table, gone, source, words)
+    todo = {t for t, h, f in gone if is_tight(p, source, words, t, h, f)}
+    suspects, made, looks = set(), 0, 0
     while todo:
         for station in range(N - 1, -1, -1) if descending else range(N):
-            seen = station in todo
-            todo.discard(station)
-            own = [r for r in table if r[0] == station]
-            looks += len(own) if seen else 0
-            for t, h, f in reversed(own) if descending else own:
-                if tight(t, h, f) and ((t, h, f) in gone or t in marks) and h not in marks:
-                    assert seen
-                    marks.add(h)
-                    todo.add(h)
-        after.append(len(marks))
-    return after, looks
+            if station in todo:
+                todo.remove(station)
+                for t, h, f in [r for r in table if r[0] == station]:
+                    looks += 1
+                    if is_tight(p, source, words, t, h, f) and ((t, h, f) in gone or t in suspects) and h not in suspects:
+                        suspects.add(h)
+                        todo.add(h)
+        assert suspects == literal[min(made, len(literal) - 1)]
+        made += 1
+    assert suspects == literal[-1]
+    return made, looks
 
 
 def rows():
@@ -97,22 +115,36 @@ def rows():
                 yield name, side, p, table, gone, post, best(p, table, post)
 
 
+def figures():
+    totals = {}
+    for name, side, p, table, gone, post, words in rows():
+        for descending in (True, False):
+            made, looks = to_do(p, table, gone, post, words, descending)
+            every = every_record(p, table[::-1] if descending else table, gone, post, words)
+            t = totals.setdefault((name, side, descending), [0, 0, 0, 0])
+            for i, value in enumerate((made, looks, len(every), len(every[-1]))):
+                t[i] += value
+    for (name, side, descending), (made, looks, every, suspects) in totals.items():
+        order = "last to first" if descending else "first to last"
+        print(f"{name} {side}, {order}: {suspects} suspects, {made} passes made, {looks} looks; {every} passes over every record, the one that adds none among them")
+    for name, ups, mirrored in DECKS:
+        place = (lambda v: N - 1 - v) if mirrored else (lambda v: v)
+        table, gone = deck_table(ups, place)
+        back = [(h, t, f) for t, h, f in table]
+        count = 0
+        for p in range(1, 6):
+            words = best(p, back, place(0))
+            count += len(every_record(p, back[::-1], {(h, t, f) for t, h, f in gone}, place(0), words))
+        print(f"{name} to, last to first by the table's own order: {count} passes over every record")
+
+
 def main():
     if sys.argv[1:] == ["figures"]:
-        totals = {}
-        for name, side, p, table, gone, post, words in rows():
-            for descending in (True, False):
-                after, looks = hunt(p, table, gone, post, words, descending)
-                t = totals.setdefault((name, side, descending), [0, 0, 0, len(table)])
-                t[0] += len(after)
-                t[1] += looks
-                t[2] += after[-1] if after else 0
-        for (name, side, descending), (passes, looks, suspects, records) in totals.items():
-            print(name, side, "last to first" if descending else "first to last", "passes", passes, "looks", looks, "suspects", suspects, "records", records)
-        return
+        return figures()
     for name, side, p, table, gone, post, words in rows():
-        after, looks = hunt(p, table, gone, post, words, True)
-        print(name, side, p, len(after), looks, *after)
+        made, looks = to_do(p, table, gone, post, words, True)
+        after = [len(s) for s in every_record(p, table[::-1], gone, post, words)]
+        print(name, side, p, made, looks, *(k for i, k in enumerate(after) if k > (after[i - 1] if i else 0)))
 
 
 if __name__ == "__main__":

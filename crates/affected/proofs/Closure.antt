@@ -1,20 +1,19 @@
 -- The closure of affected vertices: its test agrees with its record, marks that are closed have all of it, and the mark that an edge
 -- makes is in it. Assumes nothing.
---
---   Closed P es fs s ws ms   == each edge that would mark its head finds it marked
 use Rattle.property.proofs.Basics.{_≡_, refl, sym, ap, _∙_, _⊎_, inl, inr, ⊎-elim, _≢_, Bool, true, false, not, _||_, cond, List, List·Memᴰ, ℕ, _<_, ℕ-discrete, length, getD, set, getD-set-other, eqb, eqb-false, ne-eqb, not-true}
+use lib.Seq.{set-getD}
 use Rattle.property.specs.Property.{Property}
 use Rattle.graph.specs.Edge.{Edge}
 use Rattle.graph.proofs.Tests.{both, and-true, or-right}
 use Rattle.graph.proofs.Lists.{at-set}
 use Rattle.run.specs.Run.{word, tight}
 use Rattle.affected.specs.Net.{removed}
-use Rattle.affected.specs.Affected.{Held, Affected, Named, at-removed, onward, held, marked, touches, mark}
+use Rattle.affected.specs.Affected.{Held, Affected, Closed, Named, at-removed, onward, held, marked, touches, mark}
 
 -- ---- the test and the record
 
 module _ (P : Property) (s : ℕ) (ws : List ℕ) (e : Edge) where
-  pub held-of : held P s ws e ≡ true → Held P s ws e
+  held-of : held P s ws e ≡ true → Held P s ws e
   held-of h =
       let a = both (tight P ws e) _ h in
       let b = both (not (eqb (e .head) s)) (not (eqb (word P ws (e .head)) (P .none))) (a .1) in record {
@@ -27,6 +26,10 @@ module _ (P : Property) (s : ℕ) (ws : List ℕ) (e : Edge) where
   of-held h = and-true (h .tight) (and-true (ap not (ne-eqb _ _ (h .elsewhere))) (ap not (ne-eqb _ _ (h .routed))))
 
 -- ---- one mark
+
+-- to set a mark that is there changes nothing
+pub set-there : (ms : List Bool) (h : ℕ) → marked ms h ≡ true → set ms h true ≡ ms
+set-there ms h q = ap (set ms h) (sym q) ∙ set-getD ms h false
 
 -- bit h of l is set where b holds
 module _ (l : List Bool) (h : ℕ) (b : Bool) where
@@ -41,9 +44,6 @@ module _ (l : List Bool) (h : ℕ) (b : Bool) where
 
 -- ---- what marks say
 
-abbrev pub Closed : Property → List Edge → List Edge → ℕ → List ℕ → List Bool → Type 0
-Closed P es fs s ws ms = (e : Edge) → List·Memᴰ e es → touches P fs s ws ms e ≡ true → marked ms (e .head) ≡ true
-
 module _ (P : Property) (es fs : List Edge) (s : ℕ) (ws : List ℕ) where
   -- ---- closed marks have every affected vertex
 
@@ -53,7 +53,7 @@ module _ (P : Property) (es fs : List Edge) (s : ℕ) (ws : List ℕ) where
 
   -- ---- an edge marks affected vertices alone
 
-  pub touches-named : (ms : List Bool) (e : Edge) → Named P es fs s ws ms → List·Memᴰ e es → touches P fs s ws ms e ≡ true
+  touches-named : (ms : List Bool) (e : Edge) → Named P es fs s ws ms → List·Memᴰ e es → touches P fs s ws ms e ≡ true
       → Affected P es fs s ws (e .head)
   touches-named ms e g m h = let a = both (held P s ws e) _ h in pick (held-of P s ws e (a .0)) (removed P fs e) refl (a .1)
     where

@@ -120,8 +120,8 @@ home = map reverse down
 abbrev left : List Edge
 left = map reverse (delete (edge 1 0 0) down)
 
-abbrev passed : List (List Bool × List Bool)
-passed =
+abbrev afterPasses : List (List Bool × List Bool)
+afterPasses =
     (sweep sswp cut 2 (1 ∷ 1 ∷ M ∷ []) down (false ∷ false ∷ false ∷ []), true ∷ true ∷ false ∷ [])
     ∷ (sweep sswp left 0 (M ∷ 2 ∷ 1 ∷ []) home (false ∷ false ∷ false ∷ []), false ∷ true ∷ false ∷ [])
     ∷ (sweep sswp left 0 (M ∷ 2 ∷ 1 ∷ []) home (false ∷ true ∷ false ∷ []), false ∷ true ∷ true ∷ [])
@@ -131,6 +131,6 @@ passed =
     ∷ (sweep sswp left 0 (M ∷ 2 ∷ 1 ∷ []) (edge 1 2 1 ∷ edge 0 1 2 ∷ edge 1 2 1 ∷ []) (false ∷ false ∷ false ∷ []), false ∷ true ∷ true ∷ [])
     ∷ []
 
-passed-said : Said passed
+after-passes-said : Said afterPasses
 unfolding hunt sweep mark countOf counterpart order.delete
-passed-said = refl
+after-passes-said = refl

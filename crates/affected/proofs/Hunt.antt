@@ -1,9 +1,8 @@
 -- The hunt's passes come to rest, and where they rest the marks are exactly the closure, whatever the order of edges. Assumes nothing.
 --
---   Swept xs ms ls   == ls, the marks after edges xs were gone over from ms, are those before and closed, or they are more
+--   StillOrMore xs ms ls == ls, the marks after edges xs were gone over from ms, are those before and closed, or they are more
 use Rattle.property.proofs.Basics.{_≡_, refl, sym, ap, _∙_, _⊎_, inl, inr, ⊎-elim, _≢_, _↔_, Bool, true, false, not, cond, true≢false, false≢true, List, [], _∷_, map, List·Memᴰ, List·Memᴰ·head, List·Memᴰ·tail, List·Memᴰ·cases-cons, List·Memᴰ·not-nil, ℕ, zero, suc, _+_, _≤_, _<_, arith, length, set, replicate, length-set, length-replicate, ext-getD, eqb, eqb-true, eqb-false}
 use mathlib.Core.List.{List·Memᴰ·eq-of-singleton}
-use lib.Seq.{set-getD}
 use Rattle.property.specs.Property.{Property}
 use Rattle.property.specs.Laws.{Laws}
 use Rattle.property.proofs.Tests.{is-false, by-test}
@@ -17,10 +16,10 @@ use Rattle.graph.proofs.Edges.{among-mem}
 use Rattle.graph.proofs.Order.{Within}
 use Rattle.run.specs.Run.{word, tight}
 use Rattle.affected.specs.Net.{removed}
-use Rattle.affected.specs.Affected.{Held, Affected, Named, at-removed, onward, marked, touches, mark, sweep, hunt, affected, AffectedExact, Fewer, FewerAffected}
+use Rattle.affected.specs.Affected.{Held, Affected, Closed, Named, at-removed, onward, marked, touches, mark, sweep, hunt, affected, AffectedExact, Fewer, FewerAffected}
 use Rattle.affected.specs.Hunt.{AnyOrder}
 use Rattle.affected.proofs.Net.{Single, rules-single, single-reverse, kept-stays}
-use Rattle.affected.proofs.Closure.{Closed, mark-named, closed-marked, landmark-unaffected}
+use Rattle.affected.proofs.Closure.{set-there, mark-named, closed-marked, landmark-unaffected}
 
 pub none-named : (P : Property) (es fs : List Edge) (s : ℕ) (ws : List ℕ) (n : ℕ) → Named P es fs s ws (replicate n false)
 none-named P es fs s ws n t q = absurd (false≢true (sym (replicate-at n t false) ∙ q))
@@ -57,24 +56,24 @@ module _ (P : Property) (fs : List Edge) (s : ℕ) (ws : List ℕ) where
 
   -- ---- a pass leaves the marks as they are, or adds one
 
-  abbrev Swept : List Edge → List Bool → List Bool → Type 0
-  Swept xs ms ls = ((ls ≡ ms) × Closed P xs fs s ws ms) ⊎ (countOf ms < countOf ls)
+  abbrev StillOrMore : List Edge → List Bool → List Bool → Type 0
+  StillOrMore xs ms ls = ((ls ≡ ms) × Closed P xs fs s ws ms) ⊎ (countOf ms < countOf ls)
 
-  mark-swept : (ms : List Bool) (x : Edge) → x .head < length ms → Swept (x ∷ []) ms (mark P fs s ws ms x)
+  mark-swept : (ms : List Bool) (x : Edge) → x .head < length ms → StillOrMore (x ∷ []) ms (mark P fs s ws ms x)
   unfolding mark
   mark-swept ms x l = pick (touches P fs s ws ms x) refl (marked ms (x .head)) refl
     where
       only : (touches P fs s ws ms x ≡ true → marked ms (x .head) ≡ true) → Closed P (x ∷ []) fs s ws ms
       only c e m = rw (List·Memᴰ·eq-of-singleton m) c
 
-      pick : (b : Bool) → touches P fs s ws ms x ≡ b → (a : Bool) → marked ms (x .head) ≡ a → Swept (x ∷ []) ms (cond b (set ms (x .head) true) ms)
+      pick : (b : Bool) → touches P fs s ws ms x ≡ b → (a : Bool) → marked ms (x .head) ≡ a → StillOrMore (x ∷ []) ms (cond b (set ms (x .head) true) ms)
       pick false h a q = inl (refl, only (λ k. absurd (true≢false (sym k ∙ h))))
-      pick true h true q = inl (ap (set ms (x .head)) (sym q) ∙ set-getD ms (x .head) false, only (λ k. q))
+      pick true h true q = inl (set-there ms (x .head) q, only (λ k. q))
       pick true h false q = inr (let g = count-insert ms (x .head) l q in omega arith)
 
   module _ (n : ℕ) where
     sweep-swept : (xs : List Edge) → ((e : Edge) → List·Memᴰ e xs → e .head < n)
-        → (ms : List Bool) → length ms ≡ n → Swept xs ms (sweep P fs s ws xs ms)
+        → (ms : List Bool) → length ms ≡ n → StillOrMore xs ms (sweep P fs s ws xs ms)
     unfolding sweep
     sweep-swept [] heads ms h = inl (refl, λ e m. absurd (List·Memᴰ·not-nil m))
     sweep-swept (x ∷ xs) heads ms h = pick (sweep-swept xs (λ e m. heads e (List·Memᴰ·tail m)) ms h)
@@ -82,10 +81,10 @@ module _ (P : Property) (fs : List Edge) (s : ℕ) (ws : List ℕ) where
         rest : List Bool
         rest = sweep P fs s ws xs ms
 
-        last : Swept (x ∷ []) rest (mark P fs s ws rest x)
+        last : StillOrMore (x ∷ []) rest (mark P fs s ws rest x)
         last = mark-swept rest x (omega (arith, sweep-length xs ms, heads x (List·Memᴰ·head refl)))
 
-        pick : Swept xs ms rest → Swept (x ∷ xs) ms (mark P fs s ws rest x)
+        pick : StillOrMore xs ms rest → StillOrMore (x ∷ xs) ms (mark P fs s ws rest x)
         pick (inl (q, d)) = ⊎-elim (λ r. inl (r .0 ∙ q, λ e m. ⊎-elim (λ p. (rw q at (r .1)) e (List·Memᴰ·head p)) (d e) (List·Memᴰ·cases-cons m)))
             (λ g. inr (let z = ap countOf q in omega arith)) last
         pick (inr l) = inr (⊎-elim (λ r. let z = ap countOf (r .0) in omega arith) (λ g. omega arith) last)
@@ -109,7 +108,7 @@ module _ (P : Property) (fs : List Edge) (s : ℕ) (ws : List ℕ) where
       -- With k passes to come there are at most k vertices without a mark. A pass that changes something marks one of them, so k - 1
       -- are left with k - 1 passes to come. A pass that changes nothing is the last. Where no vertex is without a mark, there is none
       -- to add.
-      pub hunt-closed : (k : ℕ) (ms : List Bool) → length ms ≡ n → n ≤ countOf ms + k → Closed P xs fs s ws (hunt P fs s ws xs k ms)
+      hunt-closed : (k : ℕ) (ms : List Bool) → length ms ≡ n → n ≤ countOf ms + k → Closed P xs fs s ws (hunt P fs s ws xs k ms)
       unfolding hunt
       hunt-closed zero ms h l =
           ⊎-elim (λ r. r .1) (λ g. absurd (omega (arith, count-le (sweep P fs s ws xs ms), sweep-length xs ms))) (sweep-swept xs heads ms h)
@@ -129,13 +128,13 @@ module _ (P : Property) (es fs : List Edge) (s : ℕ) (ws : List ℕ) (n : ℕ) 
 
   pub affected-length : length marks ≡ n
   unfolding affected
-  affected-length = hunt-length P fs s ws es n n (replicate n false) (length-replicate n false)
+  affected-length = hunt-length P fs s ws es n _ (replicate n false) (length-replicate n false)
 
   -- the hunt starts from no marks and adds only those of affected vertices
   pub affected-named : Named P es fs s ws marks
   unfolding affected
   affected-named =
-      hunt-keeps P fs s ws (Named P es fs s ws) es (sweep-named P fs s ws es es (λ e m. m)) n (replicate n false) (none-named P es fs s ws n)
+      hunt-keeps P fs s ws (Named P es fs s ws) es (sweep-named P fs s ws es es (λ e m. m)) _ (replicate n false) (none-named P es fs s ws n)
 
   pub unaffected-unmarked : (t : ℕ) → (Affected P es fs s ws t → ⊥) → marked marks t ≡ false
   unaffected-unmarked t d = is-false (marked marks t) (λ q. d (affected-named t q))

@@ -1,40 +1,39 @@
 -- Passes over edges from last to first: what one does by parts, and how far a pass carries marks in a table, whose tails ascend. Assumes nothing.
 --
---   Rising es     == the tails of es never fall
---   above u xs    == the edges of xs with a tail above u
---   More ms ls    == what is marked in ms is in ls
-use Rattle.property.proofs.Basics.{_≡_, refl, sym, ap, _∙_, _⊎_, inl, inr, ⊎-elim, _≢_, Bool, true, false, cond, true≢false, List, [], _∷_, _++_, List·Memᴰ, List·Memᴰ·head, List·Memᴰ·tail, List·Memᴰ·cases-cons, List·Memᴰ·not-nil, ℕ, zero, suc, _+_, _-_, _≤_, _<_, zero-add, suc-add, add-zero, add-one, arith, length, set, replicate, length-replicate, getD-set-same, getD-set-other, ltb, ltb-true, ltb-false, lt-ltb, le-ltb, eqb, eqb-true, eqb-false, ne-eqb}
-use lib.Seq.{set-getD}
+--   TailsAscend es == the tails of es never fall
+--   above u xs     == the edges of xs with a tail above u
+--   More ms ls     == what is marked in ms is in ls
+use Rattle.property.proofs.Basics.{_≡_, refl, sym, ap, _∙_, _⊎_, inl, inr, ⊎-elim, _≢_, Bool, true, false, cond, List, [], _∷_, _++_, List·Memᴰ, List·Memᴰ·head, List·Memᴰ·tail, List·Memᴰ·cases-cons, List·Memᴰ·not-nil, ℕ, zero, suc, _+_, _-_, _≤_, _<_, zero-add, suc-add, add-zero, add-one, arith, length, replicate, length-replicate, getD-set-same, getD-set-other, ltb, ltb-true, ltb-false, lt-ltb, le-ltb, eqb, eqb-true, eqb-false, ne-eqb}
 use Rattle.property.specs.Property.{Property}
 use Rattle.property.proofs.Tests.{by-test}
 use Rattle.graph.specs.Edge.{Edge, keepIf, keep, leaving}
 use Rattle.graph.specs.Table.{tableOrder}
-use Rattle.graph.specs.Index.{own, Own, inOrder}
+use Rattle.graph.specs.Index.{Own, inOrder}
 use Rattle.graph.proofs.Tests.{both, and-true, or-right}
 use Rattle.graph.proofs.Edges.{keep-in, in-keep}
 use Rattle.graph.proofs.Order.{Sound, rules-accept, sound-fit, precedes-tail, within}
 use Rattle.graph.proofs.Sorted.{Ahead}
 use Rattle.affected.specs.Net.{removed}
-use Rattle.affected.specs.Affected.{Held, Affected, at-removed, onward, held, marked, touches, mark, sweep, hunt, affected}
-use Rattle.affected.specs.Hunt.{TableOrder, Descends, FirstPass, Chained, from-removed, along, PassBound}
-use Rattle.affected.proofs.Closure.{raise-keeps, raise-only, of-held}
+use Rattle.affected.specs.Affected.{Held, Affected, Closed, at-removed, onward, held, marked, touches, mark, sweep, hunt, affected}
+use Rattle.affected.specs.Hunt.{TableOrder, Descends, FirstPass, Chained, chain-removed, chain-onward, PassBound}
+use Rattle.affected.proofs.Closure.{set-there, raise-keeps, raise-only, of-held}
 use Rattle.affected.proofs.Hunt.{sweep-length, sweep-named, hunt-length, hunt-next, none-named, same-marks, affected-length, affected-named, all-marked}
 
 -- ---- a table's tails ascend
 
-abbrev pub Rising : List Edge → Type 0
-Rising [] = Unit {0}
-Rising (x ∷ xs) = ((e : Edge) → List·Memᴰ e xs → x .tail ≤ e .tail) × Rising xs
+abbrev TailsAscend : List Edge → Type 0
+TailsAscend [] = Unit {0}
+TailsAscend (x ∷ xs) = ((e : Edge) → List·Memᴰ e xs → x .tail ≤ e .tail) × TailsAscend xs
 
-pub sound-rising : (n : ℕ) (es : List Edge) → Sound n es → Rising es
+sound-rising : (n : ℕ) (es : List Edge) → Sound n es → TailsAscend es
 sound-rising n [] h = tt
 sound-rising n (x ∷ es) h = let r = sound-rising n es (h .2) in (after es (h .1) r, r)
   where
-    after : (xs : List Edge) → Ahead tableOrder x xs → Rising xs → (e : Edge) → List·Memᴰ e xs → x .tail ≤ e .tail
+    after : (xs : List Edge) → Ahead tableOrder x xs → TailsAscend xs → (e : Edge) → List·Memᴰ e xs → x .tail ≤ e .tail
     after [] a r e m = absurd (List·Memᴰ·not-nil m)
     after (y ∷ xs) a r e m = let z = precedes-tail x y a in ⊎-elim (λ q. rw q z) (λ k. let w = r .0 e k in omega arith) (List·Memᴰ·cases-cons m)
 
-keep-rising : (f : Edge → Bool) (xs : List Edge) → Rising xs → Rising (keep f xs)
+keep-rising : (f : Edge → Bool) (xs : List Edge) → TailsAscend xs → TailsAscend (keep f xs)
 unfolding keep keepIf
 keep-rising f [] r = tt
 keep-rising f (x ∷ xs) r =
@@ -56,7 +55,7 @@ abbrev More : List Bool → List Bool → Type 0
 More ms ls = (t : ℕ) → marked ms t ≡ true → marked ls t ≡ true
 
 module _ (P : Property) (fs : List Edge) (s : ℕ) (ws : List ℕ) where
-  pub mark-keeps : (ms : List Bool) (e : Edge) → e .head < length ms → More ms (mark P fs s ws ms e)
+  mark-keeps : (ms : List Bool) (e : Edge) → e .head < length ms → More ms (mark P fs s ws ms e)
   unfolding mark
   mark-keeps ms e h = raise-keeps ms (e .head) (touches P fs s ws ms e) h
 
@@ -65,7 +64,7 @@ module _ (P : Property) (fs : List Edge) (s : ℕ) (ws : List ℕ) where
   unfolding mark
   mark-only ms e = raise-only ms (e .head) (touches P fs s ws ms e)
 
-  pub mark-hits : (ms : List Bool) (e : Edge) → e .head < length ms → touches P fs s ws ms e ≡ true → marked (mark P fs s ws ms e) (e .head) ≡ true
+  mark-hits : (ms : List Bool) (e : Edge) → e .head < length ms → touches P fs s ws ms e ≡ true → marked (mark P fs s ws ms e) (e .head) ≡ true
   unfolding mark
   mark-hits ms e h q = rw q (getD-set-same ms (e .head) true false h)
 
@@ -83,7 +82,7 @@ module _ (P : Property) (fs : List Edge) (s : ℕ) (ws : List ℕ) where
   fits : (xs : List Edge) (ms : List Bool) (e : Edge) → e .head < length ms → e .head < length (sweep P fs s ws xs ms)
   fits xs ms e l = omega (arith, sweep-length P fs s ws xs ms)
 
-  pub sweep-keeps : (xs : List Edge) (ms : List Bool) → ((e : Edge) → List·Memᴰ e xs → e .head < length ms) → More ms (sweep P fs s ws xs ms)
+  sweep-keeps : (xs : List Edge) (ms : List Bool) → ((e : Edge) → List·Memᴰ e xs → e .head < length ms) → More ms (sweep P fs s ws xs ms)
   unfolding sweep
   sweep-keeps [] ms heads t q = q
   sweep-keeps (x ∷ xs) ms heads t q =
@@ -120,12 +119,11 @@ module _ (P : Property) (fs : List Edge) (s : ℕ) (ws : List ℕ) where
   sweep-elsewhere t (x ∷ xs) d ms = mark-elsewhere t x (d x (List·Memᴰ·head refl)) (sweep P fs s ws xs ms) ∙ sweep-elsewhere t xs (λ e m. d e (List·Memᴰ·tail m)) ms
 
   -- edges whose heads are marked wherever they touch change nothing
-  pub sweep-still : (xs : List Edge) (ms : List Bool) → ((e : Edge) → List·Memᴰ e xs → touches P fs s ws ms e ≡ true → marked ms (e .head) ≡ true)
-      → sweep P fs s ws xs ms ≡ ms
+  pub sweep-still : (xs : List Edge) (ms : List Bool) → Closed P xs fs s ws ms → sweep P fs s ws xs ms ≡ ms
   unfolding sweep mark
   sweep-still [] ms c = refl
   sweep-still (x ∷ xs) ms c = ap (λ ls. mark P fs s ws ls x) (sweep-still xs ms (λ e m. c e (List·Memᴰ·tail m))) ∙ by-test (touches P fs s ws ms x)
-      (λ q. rw q (ap (set ms (x .head)) (sym (c x (List·Memᴰ·head refl) q)) ∙ set-getD ms (x .head) false)) (λ q. rw q)
+      (λ q. rw q (set-there ms (x .head) (c x (List·Memᴰ·head refl) q))) (λ q. rw q)
 
 -- ---- how far a pass carries marks
 
@@ -142,7 +140,7 @@ module _ (P : Property) (fs : List Edge) (s : ℕ) (ws : List ℕ) where
       (λ q. rw q (λ t k. mark-keeps P fs s ws (sweep P fs s ws xs ms) x l t (r t k)))
 
   -- A held edge that is removed, or whose tail is marked once the edges of higher tails have been taken, leaves its head marked.
-  sweep-hits : (xs : List Edge) → Rising xs → (ms : List Bool) → ((e : Edge) → List·Memᴰ e xs → e .head < length ms) → (e : Edge) → List·Memᴰ e xs
+  sweep-hits : (xs : List Edge) → TailsAscend xs → (ms : List Bool) → ((e : Edge) → List·Memᴰ e xs → e .head < length ms) → (e : Edge) → List·Memᴰ e xs
       → Held P s ws e → (removed P fs e ≡ true) ⊎ (marked (sweep P fs s ws (above (e .tail) xs) ms) (e .tail) ≡ true) → marked (sweep P fs s ws xs ms) (e .head) ≡ true
   unfolding sweep keep keepIf
   sweep-hits [] r ms heads e m k c = absurd (List·Memᴰ·not-nil m)
@@ -203,12 +201,12 @@ module _ (P : Property) (es fs : List Edge) (s : ℕ) (ws : List ℕ) (n : ℕ) 
           (rw (above-above (e .tail) (e .head) (omega arith) es) c)))
 
       go : {t k : ℕ} → Chained P es fs s ws t k → marked (sweep P fs s ws (above t es) (found k)) t ≡ true
-      go (from-removed {e = e} m r h) = rw zero-add at (taken 0 e m h (inl r))
-      go (along {e = e} {k = k} c m h) = taken k e m h (inr (go c))
+      go (chain-removed {e = e} m r h) = rw zero-add at (taken 0 e m h (inl r))
+      go (chain-onward {e = e} {k = k} c m h) = taken k e m h (inr (go c))
 
   -- one pass more finds the end
-  passed : {t k : ℕ} → Chained P es fs s ws t k → marked (found (suc k)) t ≡ true
-  passed {t} {k} c = rw (next k) (sweep-some P fs s ws (λ e. ltb t (e .tail)) es (found k) (inside k) t (timely c))
+  found-next : {t k : ℕ} → Chained P es fs s ws t k → marked (found (suc k)) t ≡ true
+  found-next {t} {k} c = rw (next k) (sweep-some P fs s ws (λ e. ltb t (e .tail)) es (found k) (inside k) t (timely c))
 
   -- what was found stays
   later : (j k : ℕ) → More (found k) (found (j + k))
@@ -218,21 +216,21 @@ module _ (P : Property) (es fs : List Edge) (s : ℕ) (ws : List ℕ) (n : ℕ) 
   -- where held edges lead down no chain leads up
   descent : Descends P s ws es → {t : ℕ} → Affected P es fs s ws t → Chained P es fs s ws t 0
   descent d (at-removed {e = e} m r h) =
-      rw (le-ltb (e .tail) (e .head) (let z = d e m h in omega arith)) at (let c : Chained P es fs s ws (e .head) (cond (ltb (e .tail) (e .head)) 1 0) = from-removed m r h in c)
+      rw (le-ltb (e .tail) (e .head) (let z = d e m h in omega arith)) at (let c : Chained P es fs s ws (e .head) (cond (ltb (e .tail) (e .head)) 1 0) = chain-removed m r h in c)
   descent d (onward {e = e} a m r h) =
-      rw (le-ltb (e .tail) (e .head) (let z = d e m h in omega arith)) at (let c : Chained P es fs s ws (e .head) (0 + cond (ltb (e .tail) (e .head)) 1 0) = along (descent d a) m h in c)
+      rw (le-ltb (e .tail) (e .head) (let z = d e m h in omega arith)) at (let c : Chained P es fs s ws (e .head) (0 + cond (ltb (e .tail) (e .head)) 1 0) = chain-onward (descent d a) m h in c)
 
   first : Descends P s ws es → sweep P fs s ws es none ≡ affected P es fs s ws n
   unfolding hunt
   first d = same-marks (sweep P fs s ws es none) (affected P es fs s ws n) (sweep-length P fs s ws es none ∙ length-replicate n false ∙ sym (affected-length P es fs s ws n))
       (λ t. (
         λ q. all-marked P es fs s ws n heads (sweep-named P fs s ws es es (λ e m. m) none (none-named P es fs s ws n) t q),
-        λ q. rw (next 0) at (passed (descent d (affected-named P es fs s ws n t q))),
+        λ q. rw (next 0) at (found-next (descent d (affected-named P es fs s ws n t q))),
       ))
 
 pub pass-bound : PassBound
 pass-bound P es fs s ws n r k t u c l =
-    let z = later P es fs s ws n (rules-accept n es r) (k - suc u) (suc u) t (passed P es fs s ws n (rules-accept n es r) c) in
+    let z = later P es fs s ws n (rules-accept n es r) (k - suc u) (suc u) t (found-next P es fs s ws n (rules-accept n es r) c) in
     let e : k - suc u + suc u ≡ k = omega arith in
     rw e at z
 
@@ -257,7 +255,7 @@ above-all u (x ∷ xs) h =
     rw (ne-eqb (x .tail) u (λ q. omega arith), lt-ltb u (x .tail) l) (z .0, ap (λ l. x ∷ l) (z .1))
 
 -- a list whose tails ascend from u on: those of tail u, and then those above
-rising-parts : (u : ℕ) (xs : List Edge) → Rising xs → ((e : Edge) → List·Memᴰ e xs → u ≤ e .tail) → leaving u xs ++ above u xs ≡ xs
+rising-parts : (u : ℕ) (xs : List Edge) → TailsAscend xs → ((e : Edge) → List·Memᴰ e xs → u ≤ e .tail) → leaving u xs ++ above u xs ≡ xs
 unfolding keep keepIf
 rising-parts u [] r h = refl
 rising-parts u (x ∷ xs) r h = by-test (eqb (x .tail) u)
@@ -266,7 +264,7 @@ rising-parts u (x ∷ xs) r h = by-test (eqb (x .tail) u)
     let z = above-all u xs (λ e m. omega (arith, r .0 e m)) in
     rw (q, lt-ltb u (x .tail) l) (rw (z .0) (ap (λ l. x ∷ l) (z .1))))
 
-order-all : (n : ℕ) (is : List ℕ) (es : List Edge) → Own n is es → (k u : ℕ) → u + k ≡ n → (xs : List Edge) → Rising xs
+order-all : (n : ℕ) (is : List ℕ) (es : List Edge) → Own n is es → (k u : ℕ) → u + k ≡ n → (xs : List Edge) → TailsAscend xs
     → ((v : ℕ) → u ≤ v → leaving v es ≡ leaving v xs) → ((e : Edge) → List·Memᴰ e xs → (u ≤ e .tail) × (e .tail < n)) → inOrder is u k ≡ xs
 unfolding inOrder
 order-all n is es o zero u h [] r f w = refl

@@ -10,6 +10,7 @@
 --   sweep .. xs ms          == one pass over the edges xs, from last to first, each marking its head where it does
 --   hunt .. xs k ms         == pass by pass until one adds none, k passes at most
 --   affected P es fs s ws n == the affected ones of n vertices, as marks: n passes over the old edges find all
+--   Closed P es fs s ws ms  == each edge that would mark its head finds it marked
 --   AffectedExact           == the marks are the closure, for any words: proved as affected-exact
 --   Named P es fs s ws ms   == each mark of ms is of an affected vertex
 --   mark .. ms e            == the marks after one edge: its head is marked where it touches
@@ -60,7 +61,7 @@ module _ (P : Property) (fs : List Edge) (s : ℕ) (ws : List ℕ) where
   mark ms e = cond (touches ms e) (set ms (e .head) true) ms
 
   unfoldable pub sweep : List Edge → List Bool → List Bool
-  sweep xs ms = foldr (λ e ls. mark ls e) ms xs
+  sweep xs ms = foldr (λ e rest. mark rest e) ms xs
 
   unfoldable pub hunt : List Edge → ℕ → List Bool → List Bool
   hunt xs zero ms = ms
@@ -74,6 +75,9 @@ affected P es fs s ws n = hunt P fs s ws es n (replicate n false)
 abbrev pub AffectedExact : Type 0
 AffectedExact = (P : Property) (es fs : List Edge) (s : ℕ) (ws : List ℕ) (n : ℕ) → ((e : Edge) → List·Memᴰ e es → e .head < n)
     → (t : ℕ) → (marked (affected P es fs s ws n) t ≡ true) ↔ Affected P es fs s ws t
+
+abbrev pub Closed : Property → List Edge → List Edge → ℕ → List ℕ → List Bool → Type 0
+Closed P es fs s ws ms = (e : Edge) → List·Memᴰ e es → touches P fs s ws ms e ≡ true → marked ms (e .head) ≡ true
 
 abbrev pub Named : Property → List Edge → List Edge → ℕ → List ℕ → List Bool → Type 0
 Named P es fs s ws ms = (t : ℕ) → marked ms t ≡ true → Affected P es fs s ws t

@@ -7,9 +7,9 @@
 --   TableOrder              == an index has a table's edges in the table's own order, so that a pass over an index from its last vertex to its first, and
 --                              over the edges of each from last to first, is one over the table's records from last to first: proved as table-order
 --   Descends P s ws es      == each held edge has its tail above its head
---   FirstPass               == the first pass finds all of a row where each held edge of the table has its tail above its head, so where each edge
---                              of the table has: proved as first-pass
---   rises e                 == 1 where e leads up, to a head above its tail, else 0
+--   FirstPass               == the first pass over a table finds all affected vertices where each held edge has its tail above its head, and so where each
+--                              edge of the table has: proved as first-pass
+--   leadsUp e               == 1 where e leads up, to a head above its tail, else 0
 --   Chained P es fs s ws t k == a chain of held edges that leads up k times goes from a removed one, which counts too, to t
 --   PassBound               == k passes find each vertex to which a chain leads that leads up fewer than k times: proved as pass-bound
 use mathlib.Core.Path.{_≡_}
@@ -42,12 +42,12 @@ FirstPass = (P : Property) (es fs : List Edge) (s : ℕ) (ws : List ℕ) (n : �
     → (Descends P s ws es → sweep P fs s ws es (replicate n false) ≡ affected P es fs s ws n)
     × (((e : Edge) → List·Memᴰ e es → e .head < e .tail) → sweep P fs s ws es (replicate n false) ≡ affected P es fs s ws n)
 
-abbrev pub rises : Edge → ℕ
-rises e = cond (ltb (e .tail) (e .head)) 1 0
+abbrev pub leadsUp : Edge → ℕ
+leadsUp e = cond (ltb (e .tail) (e .head)) 1 0
 
 pub data Chained (P : Property) (es fs : List Edge) (s : ℕ) (ws : List ℕ) : ℕ → ℕ → Type 0 where
-  from-removed : {e : Edge} → List·Memᴰ e es → removed P fs e ≡ true → Held P s ws e → Chained P es fs s ws (e .head) (rises e)
-  along : {e : Edge} {k : ℕ} → Chained P es fs s ws (e .tail) k → List·Memᴰ e es → Held P s ws e → Chained P es fs s ws (e .head) (k + rises e)
+  chain-removed : {e : Edge} → List·Memᴰ e es → removed P fs e ≡ true → Held P s ws e → Chained P es fs s ws (e .head) (leadsUp e)
+  chain-onward : {e : Edge} {k : ℕ} → Chained P es fs s ws (e .tail) k → List·Memᴰ e es → Held P s ws e → Chained P es fs s ws (e .head) (k + leadsUp e)
 
 abbrev pub PassBound : Type 0
 PassBound = (P : Property) (es fs : List Edge) (s : ℕ) (ws : List ℕ) (n : ℕ) → rules n es ≡ accept

@@ -1,10 +1,10 @@
 -- Beside each arc of an index, what the batch made of it: the changes are gone over one by one, and so are the places of each. Assumes nothing.
 --
---   Hit p v j os ys    == of the places below j, those that p holds of have the word v in ys; all others have what they had in os
+--   Stored p v j os ys == of the places below j, those that p holds of have the word v in ys; all others have what they had in os
 --   Aligned xs is k os == the first k changes are gone over: beside each arc stands the weight that its pair has after the batch, or else its own,
 --                         where none of these changes is of its edge
 --
--- A change hits the place of the edge that it says of before, and no other, since the places of a vertex are no other's. It leaves the weight
+-- A change tells of the place of the edge that it says of before, and no other, since the places of a vertex are no other's. It leaves the weight
 -- after the batch there. An edge of no change does not differ, so that its own weight, which the copy of the index has, is the one after the batch.
 use Rattle.property.proofs.Basics.{_≡_, refl, sym, ap, subst, _∙_, _⊎_, inl, inr, ⊎-elim, Bool, true, not, cond, true≢false, List, ℕ, zero, suc, _+_, _*_, _≤_, _<_, ℕ-discrete, decLt, add-one, arith, length, getD, set, drop, length-set, getD-set-same, getD-set-other, paste, List·getD-append, eqb, leb, ltb, eqb-true, eq-eqb, leb-true, ltb-true, le-leb, lt-ltb}
 use Rattle.property.proofs.Tests.{is-false, by-test}
@@ -15,21 +15,21 @@ use Rattle.graph.proofs.Tests.{both}
 use Rattle.graph.proofs.Arcs.{fit-arc, own-reads}
 use Rattle.graph.proofs.Copies.{paste-over}
 use Rattle.affected.specs.Net.{counterpart}
-use Rattle.compare.specs.Code.{before, pairs, Inside, Differences, hits, Faces}
+use Rattle.compare.specs.Code.{before, pairs, Inside, Differences, tellsOf, Faces}
 
 -- ---- the places of a change
 
-pub record Hit (p : ℕ → Bool) (v j : ℕ) (os ys : List ℕ) : Type 0 where
+pub record Stored (p : ℕ → Bool) (v j : ℕ) (os ys : List ℕ) : Type 0 where
   pub size : length ys ≡ length os
   pub done : (i : ℕ) → i < j → getD ys i 0 ≡ cond (p i) v (getD os i 0)
   pub rest : (i : ℕ) → j ≤ i → getD ys i 0 ≡ getD os i 0
 
 module _ (p : ℕ → Bool) (v j : ℕ) (os : List ℕ) where
-  pub hit-none : ((i : ℕ) → p i ≡ true → j ≤ i) → Hit p v j os os
-  hit-none h = record { size = refl; done = λ i l. rw (is-false (p i) (λ q. let z = h i q in omega arith)); rest = λ i l. refl }
+  pub stored-none : ((i : ℕ) → p i ≡ true → j ≤ i) → Stored p v j os os
+  stored-none h = record { size = refl; done = λ i l. rw (is-false (p i) (λ q. let z = h i q in omega arith)); rest = λ i l. refl }
 
-  pub hit-turn : (w : ℕ) (ys : List ℕ) → Hit p v j os ys → j < length ys → w ≡ cond (p j) v (getD ys j 0) → Hit p v (j + 1) os (set ys j w)
-  hit-turn w ys t l q = record {
+  pub stored-turn : (w : ℕ) (ys : List ℕ) → Stored p v j os ys → j < length ys → w ≡ cond (p j) v (getD ys j 0) → Stored p v (j + 1) os (set ys j w)
+  stored-turn w ys t l q = record {
     size = length-set ys j w ∙ t .size;
     done = λ i b. at i b (ℕ-discrete i j);
     rest = λ i b. getD-set-other ys j i w 0 (λ e. omega arith) ∙ t .rest i (omega arith);
@@ -39,8 +39,8 @@ module _ (p : ℕ → Bool) (v j : ℕ) (os : List ℕ) where
       at i b (yes e) = rw e (getD-set-same ys j w 0 l ∙ q ∙ ap (cond (p j) v) (t .rest j (omega arith)))
       at i b (no d) = getD-set-other ys j i w 0 d ∙ t .done i (omega arith)
 
-  pub hit-done : (ys : List ℕ) → Hit p v j os ys → ((i : ℕ) → p i ≡ true → i < j) → (i : ℕ) → getD ys i 0 ≡ cond (p i) v (getD os i 0)
-  hit-done ys t h i = elim (decLt i j) [
+  pub stored-done : (ys : List ℕ) → Stored p v j os ys → ((i : ℕ) → p i ≡ true → i < j) → (i : ℕ) → getD ys i 0 ≡ cond (p i) v (getD os i 0)
+  stored-done ys t h i = elim (decLt i j) [
     | yes l ↦ t .done i l
     | no d ↦ rw (is-false (p i) (λ q. d (h i q))) (t .rest i (omega arith))
   ]
@@ -63,25 +63,25 @@ places-once f u t j k l a b c d = pick (decLt u t) (decLt t u)
     pick (no x) (no y) = omega arith
 
 module _ (xs is : List ℕ) (k j t : ℕ) (e : t ≡ before xs k .tail) where
-  pub hits-place : hits xs is k j ≡ true → (getD is t 0 ≤ j) × (j < getD is (t + 1) 0) × (getD is j 0 ≡ arc (before xs k .head) (before xs k .weight))
-  hits-place h =
+  pub tells-place : tellsOf xs is k j ≡ true → (getD is t 0 ≤ j) × (j < getD is (t + 1) 0) × (getD is j 0 ≡ arc (before xs k .head) (before xs k .weight))
+  tells-place h =
       let (a, q) = both (leb (getD is (before xs k .tail) 0) j) _ h in
       let (b, c) = both (ltb j (getD is (before xs k .tail + 1) 0)) _ q in
       rw e (leb-true _ _ a, ltb-true _ _ b, eqb-true _ _ c)
 
-  pub hits-test : (x : ℕ) → x ≡ arc (before xs k .head) (before xs k .weight) → getD is t 0 ≤ j → j < getD is (t + 1) 0 → hits xs is k j ≡ eqb (getD is j 0) x
-  hits-test x q a b = rw (← e, ← q, le-leb (getD is t 0) j a, lt-ltb j (getD is (t + 1) 0) b)
+  pub tells-test : (x : ℕ) → x ≡ arc (before xs k .head) (before xs k .weight) → getD is t 0 ≤ j → j < getD is (t + 1) 0 → tellsOf xs is k j ≡ eqb (getD is j 0) x
+  tells-test x q a b = rw (← e, ← q, le-leb (getD is t 0) j a, lt-ltb j (getD is (t + 1) 0) b)
 
 module _ (xs is : List ℕ) (k u j : ℕ) (a : getD is u 0 ≤ j) (b : j < getD is (u + 1) 0) where
-  edge-hit : before xs k ≡ edgeOf is u j → hits xs is k j ≡ true
-  edge-hit q =
+  edge-told : before xs k ≡ edgeOf is u j → tellsOf xs is k j ≡ true
+  edge-told q =
       let v = ap (λ (e : Edge). e .head) q in
       let w = ap (λ (e : Edge). e .weight) q in
-      hits-test xs is k j u (ap (λ (e : Edge). e .tail) (sym q)) (getD is j 0) (omega arith) a b ∙ eq-eqb (getD is j 0) _ refl
+      tells-test xs is k j u (ap (λ (e : Edge). e .tail) (sym q)) (getD is j 0) (omega arith) a b ∙ eq-eqb (getD is j 0) _ refl
 
-  hit-edge : {n : ℕ} → Inside n xs → Fit n is → 2 * k < length xs → u < n → hits xs is k j ≡ true → before xs k ≡ edgeOf is u j
-  hit-edge i f l h q =
-      let (x, y, z) = hits-place xs is k j _ refl q in
+  told-edge : {n : ℕ} → Inside n xs → Fit n is → 2 * k < length xs → u < n → tellsOf xs is k j ≡ true → before xs k ≡ edgeOf is u j
+  told-edge i f l h q =
+      let (x, y, z) = tells-place xs is k j _ refl q in
       let t = places-once f (before xs k .tail) u j (i (2 * k) l) h x y a b in
       let v : before xs k .head ≡ arcHead (getD is j 0) = omega arith in
       let w : before xs k .weight ≡ arcWeight (getD is j 0) = omega arith in
@@ -100,10 +100,10 @@ module _ (xs is os : List ℕ) where
       let e = ap (λ (l : List ℕ). getD l j 0) (q ∙ paste-over os₀ is (length is) refl) ∙ List·getD-append is (drop (length is) os₀) 0 j (fit-arc f u j h a b .0) in
       inr (ap arcWeight (sym e), λ k l. absurd (omega arith))
 
-  pub aligned-turn : (ys : List ℕ) (k : ℕ) → k < pairs xs → ((j : ℕ) → getD ys j 0 ≡ cond (hits xs is k j) (getD xs (2 * k + 1) 0) (getD os j 0)) → Aligned xs is k os → Aligned xs is (k + 1) ys
-  aligned-turn ys k l q s n es fs i f o d u j h a b = by-test (hits xs is k j)
+  pub aligned-turn : (ys : List ℕ) (k : ℕ) → k < pairs xs → ((j : ℕ) → getD ys j 0 ≡ cond (tellsOf xs is k j) (getD xs (2 * k + 1) 0) (getD os j 0)) → Aligned xs is k os → Aligned xs is (k + 1) ys
+  aligned-turn ys k l q s n es fs i f o d u j h a b = by-test (tellsOf xs is k j)
       (λ e.
-      let z = hit-edge xs is k u j a b i f (omega arith) h e in
+      let z = told-edge xs is k u j a b i f (omega arith) h e in
       let w = subst (λ (x : Edge). 0 < x .weight) (sym z) (d .old .weighs _ (own-reads n is es o u j h a b)) in
       inl (ap (counterpart fs) (sym z) ∙ d .old .other k l w ∙ ap arcWeight (sym (q j ∙ rw e))))
       (λ e.
@@ -111,7 +111,7 @@ module _ (xs is os : List ℕ) where
       ⊎-elim (λ p. inl (p ∙ y)) (λ p. inr (
         p .0 ∙ y,
         λ m c z. elim (ℕ-discrete m k) [
-          | yes g ↦ true≢false (sym (edge-hit xs is k u j a b (rw g at z)) ∙ e)
+          | yes g ↦ true≢false (sym (edge-told xs is k u j a b (rw g at z)) ∙ e)
           | no g ↦ p .1 m (omega arith) z
         ],
       )) (s n es fs i f o d u j h a b))

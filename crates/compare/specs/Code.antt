@@ -8,8 +8,8 @@
 --                              whose pair has the weight o i in fs; each edge of es that differs is there; and each edge of es has a weight
 --   Differences es fs xs    == a list of changes has what a batch changed: the edges of es that differ in fs and those of fs that differ in es, each with
 --                              what stands in its place
---   hits xs is k j          == place j of an index has the edge that change k says of before
---   Faces n fs is os        == beside each arc of an index stands the arc whose weight the pair has in fs, 0 for none
+--   tellsOf xs is k j       == change k tells of the edge at place j of an index, as it was before
+--   Faces n fs is os        == beside each arc of an index stands one with the weight that its pair has in fs, 0 for none
 --   Passed ts hs ws m t h j == the first j edges, of m, precede the pair of t and h
 --   Tables n m ts hs ws ..  == two tables that keep the rules of n vertices
 use mathlib.Core.Path.{_≡_}
@@ -57,8 +57,8 @@ pub record Differences (es fs : List Edge) (xs : List ℕ) : Type 0 where
 
 -- ---- beside an index
 
-abbrev pub hits : List ℕ → List ℕ → ℕ → ℕ → Bool
-hits xs is k j =
+abbrev pub tellsOf : List ℕ → List ℕ → ℕ → ℕ → Bool
+tellsOf xs is k j =
     leb (getD is (before xs k .tail) 0) j && (ltb j (getD is (before xs k .tail + 1) 0) && eqb (getD is j 0) (arc (before xs k .head) (before xs k .weight)))
 
 abbrev pub Faces : ℕ → List Edge → List ℕ → List ℕ → Type 0

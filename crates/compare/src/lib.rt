@@ -1,5 +1,6 @@
 // Two tables compared: what a batch changed, net, as one list of two words for each pair of vertices whose edge differs, with its weight
 // before and after: an edge that a batch takes and adds again with its weight is none. One walk along both tables finds it.
+// And a list beside an index of the old table, with what each pair weighs after the batch.
 use graph::arc;
 use graph::rules;
 use graph::words;
@@ -13,7 +14,7 @@ ghost use Rattle.graph.specs.Limits.{maxEdges};
 ghost use Rattle.graph.specs.Arc.{arcHeads, arcWeights, arc};
 ghost use Rattle.graph.specs.Edge.{Edge, edge, reverse, edges, precedes};
 ghost use Rattle.graph.specs.Index.{Fit, Own};
-ghost use Rattle.compare.specs.Code.{Tables, Inside, Differences, hits, Faces};
+ghost use Rattle.compare.specs.Code.{Tables, Inside, Differences, tellsOf, Faces};
 
 // Words of a list of changes: two for each edge of both tables, at most.
 pub const NET_WORDS: usize = 4 * graph::MAX_EDGES;
@@ -137,7 +138,7 @@ fn chosen(first: bool, a: u32, b: u32) -> u32
 // Change `k` of the list puts its second word, which has the weight after the batch, beside the arc of the edge that it says of before.
 fn align_change(k: usize, net: &[u32], old: &[u32], other: &mut [u32])
     requires { ⌜ (2 * k + 1 < length (now net)) × ((n : ℕ) × Inside n (now net) × Fit n (now old)) × (length (now old) ≤ length (now other)) ⌝ }
-    ensures { λ _. ⌜ (length (now (other .exit)) ≡ length (now (other .entry))) × ((j : ℕ) → getD (now (other .exit)) j 0 ≡ cond (hits (now (net .entry)) (now (old .entry)) k j) (getD (now (net .entry)) (2 * k + 1) 0) (getD (now (other .entry)) j 0)) ⌝ }
+    ensures { λ _. ⌜ (length (now (other .exit)) ≡ length (now (other .entry))) × ((j : ℕ) → getD (now (other .exit)) j 0 ≡ cond (tellsOf (now (net .entry)) (now (old .entry)) k j) (getD (now (net .entry)) (2 * k + 1) 0) (getD (now (other .entry)) j 0)) ⌝ }
 {
     let at = 2 * k;
     let t = arc::head(net[at]) as usize;

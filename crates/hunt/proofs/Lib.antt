@@ -1,3 +1,4 @@
 pub mod Bits
 pub mod Touching
-pub mod Passing
+pub mod Sweeping
+pub mod First

@@ -16,7 +16,7 @@ use Rattle.affected.specs.Net.{removed}
 use Rattle.affected.specs.Affected.{held, marked, touches, mark, sweep}
 use Rattle.affected.proofs.Closure.{raise-keeps, raise-only}
 use Rattle.affected.proofs.Passes.{sweep-elsewhere}
-use Rattle.hunt.specs.Code.{holds, marksHead, Hunting, Facing, Grown, Touched}
+use Rattle.hunt.specs.Code.{holds, marksHead, fromEnd, Hunting, Counterparts, Grown, Touched}
 use Rattle.hunt.proofs.Bits.{marks-if}
 
 -- an edge by what the code reads
@@ -28,10 +28,10 @@ same-held P s t h w ws tail head =
 
 -- ---- growth
 
-pub grown-none : (n : ℕ) (ms ds : List Bool) → Grown n ms ds ms ds
-grown-none n ms ds = record { keeps = λ t q. q; due = λ k q. q; new = λ t. inl; only = λ k. inl }
+grown-none : (n : ℕ) (ms gs : List Bool) → Grown n ms gs ms gs
+grown-none n ms gs = record { keeps = λ t q. q; due = λ k q. q; new = λ t. inl; only = λ k. inl }
 
-pub grown-then : {n : ℕ} {ms ds ms′ ds′ ms″ ds″ : List Bool} → Grown n ms ds ms′ ds′ → Grown n ms′ ds′ ms″ ds″ → Grown n ms ds ms″ ds″
+grown-then : {n : ℕ} {ms gs ms′ gs′ ms″ gs″ : List Bool} → Grown n ms gs ms′ gs′ → Grown n ms′ gs′ ms″ gs″ → Grown n ms gs ms″ gs″
 grown-then p q = record {
   keeps = λ t h. q .keeps t (p .keeps t h);
   due = λ k h. q .due k (p .due k h);
@@ -41,15 +41,15 @@ grown-then p q = record {
 }
 
 -- vertex h gets a mark and is to do
-grown-if : (n h : ℕ) (b : Bool) (ms ds : List Bool) → h < n → h < length ms → n - 1 - h < length ds → (b ≡ true → marked ms h ≡ false)
-    → Grown n ms ds (cond b (set ms h true) ms) (cond b (set ds (n - 1 - h) true) ds)
-grown-if n h false ms ds l a d f = grown-none n ms ds
-grown-if n h true ms ds l a d f = record {
+grown-if : (n h : ℕ) (b : Bool) (ms gs : List Bool) → h < n → h < length ms → fromEnd n h < length gs → (b ≡ true → marked ms h ≡ false)
+    → Grown n ms gs (cond b (set ms h true) ms) (cond b (set gs (fromEnd n h) true) gs)
+grown-if n h false ms gs l a d f = grown-none n ms gs
+grown-if n h true ms gs l a d f = record {
   keeps = raise-keeps ms h true a;
-  due = raise-keeps ds (n - 1 - h) true d;
-  new = λ t y. ⊎-elim inl (λ z. inr (rw (z .1) (getD-set-same ds (n - 1 - h) true false d))) (raise-only ms h true t y);
-  only = λ k y. ⊎-elim inl (λ z. let i = z .1 in let e : n - 1 - k ≡ h = omega arith in
-      inr (omega arith, rw e (f refl), rw e (getD-set-same ms h true false a))) (raise-only ds (n - 1 - h) true k y);
+  due = raise-keeps gs (fromEnd n h) true d;
+  new = λ t y. ⊎-elim inl (λ z. inr (rw (z .1) (getD-set-same gs (fromEnd n h) true false d))) (raise-only ms h true t y);
+  only = λ k y. ⊎-elim inl (λ z. let i = z .1 in let e : fromEnd n k ≡ h = omega arith in
+      inr (omega arith, rw e (f refl), rw e (getD-set-same ms h true false a))) (raise-only gs (fromEnd n h) true k y);
 }
 
 -- ---- the edges of u
@@ -59,13 +59,13 @@ late : (ms : List Bool) (h : ℕ) (b : Bool) → cond (not (marked ms h) && b) (
 late ms h true = by-test (marked ms h) (λ q. rw q (sym (ap (set ms h) (sym q) ∙ set-getD ms h false))) (λ q. rw q)
 late ms h false = by-test (marked ms h) (λ q. rw q) (λ q. rw q)
 
-module _ {P : Property} {n s : ℕ} {vs is os : List ℕ} {u : ℕ} {on : Bool} {bs ds : List ℕ} where
-  pub touched-none : Hunting n vs is os bs ds → (j k : ℕ) → k ≡ 0 → Touched P n s vs is os u on j k bs ds bs ds
+module _ {P : Property} {n s : ℕ} {vs is os : List ℕ} {u : ℕ} {on : Bool} {bs gs : List ℕ} where
+  pub touched-none : Hunting n vs is os bs gs → (j k : ℕ) → k ≡ 0 → Touched P n s vs is os u on j k bs gs bs gs
   unfolding sweep partIn
-  touched-none h j k e = rw e record { marks = h .marks; todo = h .todo; grown = grown-none n (waitingOf bs) (waitingOf ds); swept = λ fs f o. refl }
+  touched-none h j k e = rw e record { marks = h .marks; todo = h .todo; grown = grown-none n (waitingOf bs) (waitingOf gs); swept = λ fs f o. refl }
 
   -- One edge more, at place j. No arc of u leads to u, so that u is marked or not as it was at first.
-  module _ {cs es : List ℕ} (i : ℕ) (at : Touched P n s vs is os u on i (getD is (u + 1) 0 - i) bs ds cs es) (hunting : Hunting n vs is os bs ds) (vertex : u < n)
+  module _ {cs ks : List ℕ} (i : ℕ) (at : Touched P n s vs is os u on i (getD is (u + 1) 0 - i) bs gs cs ks) (hunting : Hunting n vs is os bs gs) (vertex : u < n)
       (low : getD is u 0 < i) (high : i ≤ getD is (u + 1) 0) where
     abbrev j : ℕ
     j = i - 1
@@ -79,27 +79,27 @@ module _ {P : Property} {n s : ℕ} {vs is os : List ℕ} {u : ℕ} {on : Bool} 
     inside : h < n
     inside = fit-arc (hunting .index) u j vertex (omega arith) (omega arith) .1
 
-    stays : (fs : List Edge) → Facing n fs is os → marked (sweep P fs s vs (part is u i (getD is (u + 1) 0 - i)) (waitingOf bs)) u ≡ marked (waitingOf bs) u
+    stays : (fs : List Edge) → Counterparts n fs is os → marked (sweep P fs s vs (part is u i (getD is (u + 1) 0 - i)) (waitingOf bs)) u ≡ marked (waitingOf bs) u
     stays fs f = sweep-elsewhere P fs s vs u (part is u i (getD is (u + 1) 0 - i)) (λ e m. let z = mem-part is u i (getD is (u + 1) 0 - i) e m in
-        let a = z .1 in let b = z .2 in rw (sym (z .3)) (f .apart u (z .0) vertex (omega arith) (omega arith))) (waitingOf bs)
+        let a = z .1 in let b = z .2 in rw (sym (z .3)) (f .loopless u (z .0) vertex (omega arith) (omega arith))) (waitingOf bs)
 
-    module _ (cs′ es′ : List ℕ) (p : waitingOf cs′ ≡ cond hit (set (waitingOf cs) h true) (waitingOf cs)) (q : waitingOf es′ ≡ cond hit (set (waitingOf es) (n - 1 - h) true) (waitingOf es)) where
-      one : (fs : List Edge) → Facing n fs is os → on ≡ marked (waitingOf cs) u → waitingOf cs′ ≡ mark P fs s vs (waitingOf cs) (edgeOf is u j)
+    module _ (cs′ ks′ : List ℕ) (p : waitingOf cs′ ≡ cond hit (set (waitingOf cs) h true) (waitingOf cs)) (q : waitingOf ks′ ≡ cond hit (set (waitingOf ks) (fromEnd n h) true) (waitingOf ks)) where
+      one : (fs : List Edge) → Counterparts n fs is os → on ≡ marked (waitingOf cs) u → waitingOf cs′ ≡ mark P fs s vs (waitingOf cs) (edgeOf is u j)
       unfolding mark
       one fs f o =
           let e = edgeOf is u j in
           let a = same-held P s u h (e .weight) vs (omega (arith, hunting .words)) (omega (arith, inside, hunting .words)) in
           p ∙ rw (a, o, sym (f .other u j vertex (omega arith) (omega arith)), or-comm (marked (waitingOf cs) u) (removed P fs e)) (late (waitingOf cs) h (touches P fs s vs (waitingOf cs) e))
 
-      pub touched-turn : Touched P n s vs is os u on (i - 1) (getD is (u + 1) 0 - (i - 1)) bs ds cs′ es′
+      pub touched-turn : Touched P n s vs is os u on (i - 1) (getD is (u + 1) 0 - (i - 1)) bs gs cs′ ks′
       unfolding sweep partIn
       touched-turn =
           let e : getD is (u + 1) 0 - (i - 1) ≡ suc (getD is (u + 1) 0 - i) = omega arith in
           let g : suc (i - 1) ≡ i = omega arith in
           record {
             marks = marks-if n cs cs′ h hit inside p (at .marks);
-            todo = marks-if n es es′ (n - 1 - h) hit (omega (arith, inside)) q (at .todo);
-            grown = grown-then (at .grown) (rw (p, q) (grown-if n h hit (waitingOf cs) (waitingOf es) inside (omega (arith, inside, at .marks .bits, at .marks .few))
+            todo = marks-if n ks ks′ (fromEnd n h) hit (omega (arith, inside)) q (at .todo);
+            grown = grown-then (at .grown) (rw (p, q) (grown-if n h hit (waitingOf cs) (waitingOf ks) inside (omega (arith, inside, at .marks .bits, at .marks .few))
                 (omega (arith, inside, at .todo .bits, at .todo .few)) (λ y. not-true _ (both (not (marked (waitingOf cs) h)) _ y .0))));
             swept = λ fs f o. let z = at .swept fs f o in
                 rw (e, g) (one fs f (o ∙ sym (stays fs f) ∙ ap (λ l. marked l u) (sym z)) ∙ ap (λ l. mark P fs s vs l (edgeOf is u j)) z);

@@ -1,22 +1,23 @@
--- What the functions of the hunt for a row's affected vertices are told and answer. A vertex t of n is to do under the number n - 1 - t, so that the
+-- What the functions of the hunt for a row's affected vertices are told and answer. A vertex is to do under its number from the far end, so that the
 -- lowest number to do is that of the highest vertex. Assumes nothing.
 --
 --   holds P s v w h x            == an edge's words as a test, as `held`: v at its tail, weight w, head h with x
 --   marksHead P s ws ms v on a o == arc a, from a vertex with word v, marks its head: it has no mark yet, the edge holds it up, and the tail is marked (on)
 --                                   or the edge is lost where the weight of o stands in its place
---   Hunting n vs is os bs ds     == what a hunt goes over lies in range: a row vs, an index is, arcs os beside it, marks bs and vertices to do, ds
---   Facing n fs is os            == os has beside each arc what its pair has in fs, and no arc leads to the vertex that it leaves
+--   fromEnd n t                  == the number of vertex t of n from the far end, and the vertex of number t
+--   Hunting n vs is os bs gs     == what a hunt goes over lies in range: a row vs, an index is, arcs os beside it, marks bs and vertices to do, gs
+--   Counterparts n fs is os      == os has beside each arc what its pair has in fs, and no arc leads to the vertex that it leaves
 --   Fresh n ms ms′ k             == number k stands for a vertex that is marked in ms′ and was not in ms
---   Grown n ms ds ms′ ds′        == marks ms with ds to do became ms′ and ds′: none was taken away, each new mark is to do, and nothing else is to do anew
---   Touched P n s vs is os u on j k bs ds bs′ ds′ == the k edges of u at places from j on were taken from last to first: the marks are those of the pass
---                                   over these edges, on saying whether u is marked
---   Shut P n fs s vs is ms ds    == an edge of a vertex that is not to do has its head marked if it would mark it
---   PassDone P n s vs is os bs ds bs′ ds′ == a pass was made: from marks that are shut its marks are those of the pass over every edge of the index from
+--   Grown n ms gs ms′ gs′        == marks ms with gs to do became ms′ and gs′: none was taken away, each new mark is to do, and nothing else is to do anew
+--   Touched P n s vs is os u on j k bs gs bs′ gs′ == the k edges of u at places from j on were taken: marks and who is to do grew, and where on says
+--                                   whether u is marked, the marks are those of the pass over these edges from last to first
+--   Shut P n fs s vs is ms gs    == an edge of a vertex that is not to do has its head marked if it would mark it
+--   SweepDone P n s vs is os bs gs bs′ gs′ == a pass was made: from marks that are shut its marks are those of the pass over every edge of the index from
 --                                   last to first, and they are shut again; what is to do then was marked in it
 use mathlib.Core.Path.{_≡_}
 use mathlib.Core.Logic.{_⊎_, _≢_}
 use mathlib.Core.Bool.{Bool, true, false, not, _&&_, _||_}
-use mathlib.Core.List.{List, List·Memᴰ}
+use mathlib.Core.List.{List}
 use Prim.Native.Nat.{ℕ, _+_, _-_, _≤_, _<_}
 use lib.ListN.{length, getD}
 use lib.Dec.{eqb}
@@ -27,7 +28,7 @@ use Rattle.graph.specs.Edge.{Edge}
 use Rattle.graph.specs.Index.{part, own, inOrder, Fit}
 use Rattle.run.specs.Code.{Marks}
 use Rattle.affected.specs.Net.{lost}
-use Rattle.affected.specs.Affected.{marked, touches, sweep}
+use Rattle.affected.specs.Affected.{marked, sweep, Closed}
 use Rattle.compare.specs.Code.{Faces}
 
 -- ---- one edge
@@ -41,40 +42,42 @@ marksHead P s ws ms v on a o =
 
 -- ---- a hunt
 
-pub record Hunting (n : ℕ) (vs is os bs ds : List ℕ) : Type 0 where
+abbrev pub fromEnd : ℕ → ℕ → ℕ
+fromEnd n t = n - 1 - t
+
+pub record Hunting (n : ℕ) (vs is os bs gs : List ℕ) : Type 0 where
   pub words : length vs ≡ n
   pub index : Fit n is
   pub room : length is ≤ length os
   pub marks : Marks n bs
-  pub todo : Marks n ds
+  pub todo : Marks n gs
 
-pub record Facing (n : ℕ) (fs : List Edge) (is os : List ℕ) : Type 0 where
+pub record Counterparts (n : ℕ) (fs : List Edge) (is os : List ℕ) : Type 0 where
   pub other : Faces n fs is os
-  pub apart : (u j : ℕ) → u < n → getD is u 0 ≤ j → j < getD is (u + 1) 0 → arcHead (getD is j 0) ≢ u
+  pub loopless : (u j : ℕ) → u < n → getD is u 0 ≤ j → j < getD is (u + 1) 0 → arcHead (getD is j 0) ≢ u
 
 abbrev pub Fresh : ℕ → List Bool → List Bool → ℕ → Type 0
-Fresh n ms ms′ k = (k < n) × (marked ms (n - 1 - k) ≡ false) × (marked ms′ (n - 1 - k) ≡ true)
+Fresh n ms ms′ k = (k < n) × (marked ms (fromEnd n k) ≡ false) × (marked ms′ (fromEnd n k) ≡ true)
 
-pub record Grown (n : ℕ) (ms ds ms′ ds′ : List Bool) : Type 0 where
+pub record Grown (n : ℕ) (ms gs ms′ gs′ : List Bool) : Type 0 where
   pub keeps : (t : ℕ) → marked ms t ≡ true → marked ms′ t ≡ true
-  pub due : (k : ℕ) → marked ds k ≡ true → marked ds′ k ≡ true
-  pub new : (t : ℕ) → marked ms′ t ≡ true → (marked ms t ≡ true) ⊎ (marked ds′ (n - 1 - t) ≡ true)
-  pub only : (k : ℕ) → marked ds′ k ≡ true → (marked ds k ≡ true) ⊎ Fresh n ms ms′ k
+  pub due : (k : ℕ) → marked gs k ≡ true → marked gs′ k ≡ true
+  pub new : (t : ℕ) → marked ms′ t ≡ true → (marked ms t ≡ true) ⊎ (marked gs′ (fromEnd n t) ≡ true)
+  pub only : (k : ℕ) → marked gs′ k ≡ true → (marked gs k ≡ true) ⊎ Fresh n ms ms′ k
 
-pub record Touched (P : Property) (n s : ℕ) (vs is os : List ℕ) (u : ℕ) (on : Bool) (j k : ℕ) (bs ds bs′ ds′ : List ℕ) : Type 0 where
+pub record Touched (P : Property) (n s : ℕ) (vs is os : List ℕ) (u : ℕ) (on : Bool) (j k : ℕ) (bs gs bs′ gs′ : List ℕ) : Type 0 where
   pub marks : Marks n bs′
-  pub todo : Marks n ds′
-  pub grown : Grown n (waitingOf bs) (waitingOf ds) (waitingOf bs′) (waitingOf ds′)
-  pub swept : (fs : List Edge) → Facing n fs is os → on ≡ marked (waitingOf bs) u → waitingOf bs′ ≡ sweep P fs s vs (part is u j k) (waitingOf bs)
+  pub todo : Marks n gs′
+  pub grown : Grown n (waitingOf bs) (waitingOf gs) (waitingOf bs′) (waitingOf gs′)
+  pub swept : (fs : List Edge) → Counterparts n fs is os → on ≡ marked (waitingOf bs) u → waitingOf bs′ ≡ sweep P fs s vs (part is u j k) (waitingOf bs)
 
 abbrev pub Shut : Property → ℕ → List Edge → ℕ → List ℕ → List ℕ → List Bool → List Bool → Type 0
-Shut P n fs s vs is ms ds = (u : ℕ) → u < n → marked ds (n - 1 - u) ≡ false → (e : Edge) → List·Memᴰ e (own is u)
-    → touches P fs s vs ms e ≡ true → marked ms (e .head) ≡ true
+Shut P n fs s vs is ms gs = (u : ℕ) → u < n → marked gs (fromEnd n u) ≡ false → Closed P (own is u) fs s vs ms
 
-pub record PassDone (P : Property) (n s : ℕ) (vs is os bs ds bs′ ds′ : List ℕ) : Type 0 where
+pub record SweepDone (P : Property) (n s : ℕ) (vs is os bs gs bs′ gs′ : List ℕ) : Type 0 where
   pub marks : Marks n bs′
-  pub todo : Marks n ds′
+  pub todo : Marks n gs′
   pub keeps : (t : ℕ) → marked (waitingOf bs) t ≡ true → marked (waitingOf bs′) t ≡ true
-  pub only : (k : ℕ) → marked (waitingOf ds′) k ≡ true → Fresh n (waitingOf bs) (waitingOf bs′) k
-  pub swept : (fs : List Edge) → Facing n fs is os → Shut P n fs s vs is (waitingOf bs) (waitingOf ds)
-      → (waitingOf bs′ ≡ sweep P fs s vs (inOrder is 0 n) (waitingOf bs)) × Shut P n fs s vs is (waitingOf bs′) (waitingOf ds′)
+  pub only : (k : ℕ) → marked (waitingOf gs′) k ≡ true → Fresh n (waitingOf bs) (waitingOf bs′) k
+  pub swept : (fs : List Edge) → Counterparts n fs is os → Shut P n fs s vs is (waitingOf bs) (waitingOf gs)
+      → (waitingOf bs′ ≡ sweep P fs s vs (inOrder is 0 n) (waitingOf bs)) × Shut P n fs s vs is (waitingOf bs′) (waitingOf gs′)

@@ -18,7 +18,7 @@ ghost use Rattle.graph.specs.Index.{Own};
 ghost use Rattle.run.specs.Code.{bits, Marks};
 ghost use Rattle.affected.specs.Net.{lost};
 ghost use Rattle.affected.specs.Affected.{Named, marked, affected};
-ghost use Rattle.hunt.specs.Code.{holds, marksHead, Hunting, Facing, Touched, Shut, PassDone};
+ghost use Rattle.hunt.specs.Code.{holds, marksHead, fromEnd, Hunting, Counterparts, Touched, Shut, SweepDone};
 
 // Whether the edge from a vertex with word `v`, of weight `w`, holds up its head `h`, whose word is `x`: it is tight, and the head
 // is not the landmark `s` and has a route.
@@ -50,7 +50,7 @@ fn touch(
 )
     requires { ⌜ (arcHead a < length (now words)) × (length (now words) ≤ maxVertices) ⌝ }
     ensures { λ _. ⌜ waitingOf (now (marks .exit)) ≡ cond (marksHead (property p) s (now (words .entry)) (waitingOf (now (marks .entry))) v on a other) (set (waitingOf (now (marks .entry))) (arcHead a) true) (waitingOf (now (marks .entry))) ⌝ }
-    ensures { λ _. ⌜ waitingOf (now (todo .exit)) ≡ cond (marksHead (property p) s (now (words .entry)) (waitingOf (now (marks .entry))) v on a other) (set (waitingOf (now (todo .entry))) (length (now (words .entry)) - 1 - arcHead a) true) (waitingOf (now (todo .entry))) ⌝ }
+    ensures { λ _. ⌜ waitingOf (now (todo .exit)) ≡ cond (marksHead (property p) s (now (words .entry)) (waitingOf (now (marks .entry))) v on a other) (set (waitingOf (now (todo .entry))) (fromEnd (length (now (words .entry))) (arcHead a)) true) (waitingOf (now (todo .entry))) ⌝ }
 {
     let h = arc::head(a);
     let j = h as usize;
@@ -102,49 +102,28 @@ fn touch_vertex(
     requires { ⌜ (u < length (now words)) × Hunting (length (now words)) (now words) (now old) (now other) (now marks) (now todo) ⌝ }
     ensures { λ _. ⌜ Touched (property p) (length (now (words .entry))) s (now (words .entry)) (now (old .entry)) (now (other .entry)) u (marked (waitingOf (now (marks .entry))) u) (getD (now (old .entry)) u 0) (getD (now (old .entry)) (u + 1) 0 - getD (now (old .entry)) u 0) (now (marks .entry)) (now (todo .entry)) (now (marks .exit)) (now (todo .exit)) ⌝ }
 {
-    let on = frontier::contains(marks, u);
-    match p {
-        1 => {
-            if on {
-                touch_all(1, s, u, true, old, other, words, marks, todo)
-            } else {
-                touch_all(1, s, u, false, old, other, words, marks, todo)
-            }
+    if frontier::contains(marks, u) {
+        match p {
+            1 => touch_all(1, s, u, true, old, other, words, marks, todo),
+            2 => touch_all(2, s, u, true, old, other, words, marks, todo),
+            3 => touch_all(3, s, u, true, old, other, words, marks, todo),
+            4 => touch_all(4, s, u, true, old, other, words, marks, todo),
+            _ => touch_all(5, s, u, true, old, other, words, marks, todo),
         }
-        2 => {
-            if on {
-                touch_all(2, s, u, true, old, other, words, marks, todo)
-            } else {
-                touch_all(2, s, u, false, old, other, words, marks, todo)
-            }
-        }
-        3 => {
-            if on {
-                touch_all(3, s, u, true, old, other, words, marks, todo)
-            } else {
-                touch_all(3, s, u, false, old, other, words, marks, todo)
-            }
-        }
-        4 => {
-            if on {
-                touch_all(4, s, u, true, old, other, words, marks, todo)
-            } else {
-                touch_all(4, s, u, false, old, other, words, marks, todo)
-            }
-        }
-        _ => {
-            if on {
-                touch_all(5, s, u, true, old, other, words, marks, todo)
-            } else {
-                touch_all(5, s, u, false, old, other, words, marks, todo)
-            }
+    } else {
+        match p {
+            1 => touch_all(1, s, u, false, old, other, words, marks, todo),
+            2 => touch_all(2, s, u, false, old, other, words, marks, todo),
+            3 => touch_all(3, s, u, false, old, other, words, marks, todo),
+            4 => touch_all(4, s, u, false, old, other, words, marks, todo),
+            _ => touch_all(5, s, u, false, old, other, words, marks, todo),
         }
     }
 }
 
 // A pass: the vertices that are to do, from the highest down, and of each the old edges from last to first. A vertex is to do no more when its edges
 // are taken; one that is marked on the way is, and comes later in the pass where it is lower. No edge of any other vertex can mark its head.
-pub fn pass(
+pub fn sweep(
     p: u32,
     n: usize,
     s: u32,
@@ -155,7 +134,7 @@ pub fn pass(
     todo: &mut Words,
 )
     requires { ⌜ Hunting n (now words) (now old) (now other) (now marks) (now todo) ⌝ }
-    ensures { λ _. ⌜ PassDone (property p) n s (now (words .entry)) (now (old .entry)) (now (other .entry)) (now (marks .entry)) (now (todo .entry)) (now (marks .exit)) (now (todo .exit)) ⌝ }
+    ensures { λ _. ⌜ SweepDone (property p) n s (now (words .entry)) (now (old .entry)) (now (other .entry)) (now (marks .entry)) (now (todo .entry)) (now (marks .exit)) (now (todo .exit)) ⌝ }
 {
     let mut i = 0;
     while i < n {
@@ -182,9 +161,9 @@ pub fn hunt(
 )
     requires { ⌜ Hunting n (now words) (now old) (now other) (now marks) (now todo) ⌝ }
     ensures { λ _. ⌜ Marks n (now (marks .exit)) ⌝ }
-    ensures { λ _. ⌜ ((es fs : List Edge) → ((e : Edge) → List·Memᴰ e es → (e .tail < n) × (e .head < n)) → Own n (now (old .entry)) es → Facing n fs (now (old .entry)) (now (other .entry)) → Named (property p) es fs s (now (words .entry)) (waitingOf (now (marks .entry))) → Shut (property p) n fs s (now (words .entry)) (now (old .entry)) (waitingOf (now (marks .entry))) (waitingOf (now (todo .entry))) → bits n (now (marks .exit)) ≡ affected (property p) es fs s (now (words .entry)) n) ⌝ }
+    ensures { λ _. ⌜ ((es fs : List Edge) → ((e : Edge) → List·Memᴰ e es → (e .tail < n) × (e .head < n)) → Own n (now (old .entry)) es → Counterparts n fs (now (old .entry)) (now (other .entry)) → Named (property p) es fs s (now (words .entry)) (waitingOf (now (marks .entry))) → Shut (property p) n fs s (now (words .entry)) (now (old .entry)) (waitingOf (now (marks .entry))) (waitingOf (now (todo .entry))) → bits n (now (marks .exit)) ≡ affected (property p) es fs s (now (words .entry)) n) ⌝ }
 {
     while frontier::any(todo) {
-        pass(p, n, s, old, other, words, marks, todo);
+        sweep(p, n, s, old, other, words, marks, todo);
     }
 }

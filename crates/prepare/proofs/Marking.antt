@@ -12,7 +12,7 @@ use Rattle.graph.proofs.Lists.{replicate-at}
 use Rattle.affected.specs.Net.{counterpart, lost, removed}
 use Rattle.affected.specs.Affected.{held, marked}
 use Rattle.compare.specs.Code.{before, after, pairs, Lists}
-use Rattle.hunt.specs.Code.{Shut}
+use Rattle.hunt.specs.Code.{fromEnd, Shut}
 use Rattle.prepare.specs.Code.{edgeLost, Raised, Started}
 
 -- ---- the listed edges that are lost
@@ -48,5 +48,5 @@ start-shut {P} L {n} {es} {fs} s vs is xs o d size clear a u h idle e m q =
     let i = leaving-in u es e (rw (o u h) at m) in
     let y = lost-listed L d e (i .0) (by-test (removed P fs e) (λ r. r) (λ r. absurd (unmarked clear (e .tail) (rw r at (z .1))))) in
     let k : before xs (y .0) ≡ e = y .2 in
-    let to : length vs - 1 - before xs (y .0) .tail ≡ n - 1 - u = rw size (ap (λ (x : Edge). n - 1 - x .tail) k ∙ ap (λ t. n - 1 - t) (i .1)) in
+    let to : fromEnd (length vs) (before xs (y .0) .tail) ≡ fromEnd n u = rw size (ap (λ (x : Edge). fromEnd n (x .tail)) k ∙ ap (fromEnd n) (i .1)) in
     absurd (false≢true (sym idle ∙ a .all _ (y .0, omega arith, y .1, and-true (y .3) (ap (λ (x : Edge). held P s vs x) k ∙ z .0), to)))

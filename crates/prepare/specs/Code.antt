@@ -13,7 +13,7 @@ use mathlib.Core.Path.{_≡_}
 use mathlib.Core.Logic.{_⊎_, _≢_}
 use mathlib.Core.Bool.{Bool, true, false, _&&_}
 use mathlib.Core.List.{List, map, List·Memᴰ}
-use Prim.Native.Nat.{ℕ, _-_, _≤_, _<_}
+use Prim.Native.Nat.{ℕ, _≤_, _<_}
 use lib.ListN.{length, getD}
 use lib.Dec.{ltb}
 use Rattle.property.specs.Property.{Property}
@@ -23,6 +23,7 @@ use Rattle.graph.specs.Index.{Own}
 use Rattle.affected.specs.Net.{lost}
 use Rattle.affected.specs.Affected.{held}
 use Rattle.compare.specs.Code.{before, after, Differences}
+use Rattle.hunt.specs.Code.{fromEnd}
 
 -- ---- the changes
 
@@ -50,7 +51,7 @@ abbrev pub Reached : (ℕ → ℕ) → (ℕ → Bool) → ℕ → ℕ → ℕ �
 Reached f on j k t = (i : ℕ) × (j ≤ i) × (i < k) × (on i ≡ true) × (f i ≡ t)
 
 abbrev pub Started : Property → ℕ → List ℕ → List ℕ → ℕ → ℕ → Type 0
-Started P s ws xs k = Reached (λ i. length ws - 1 - before xs i .tail) (starts P s ws xs) 0 k
+Started P s ws xs k = Reached (λ i. fromEnd (length ws) (before xs i .tail)) (starts P s ws xs) 0 k
 
 abbrev pub Woken : Property → List ℕ → ℕ → ℕ → Type 0
 Woken P xs k = Reached (λ i. after xs i .tail) (λ i. edgeLost P (after xs i .weight) (before xs i .weight)) 0 k

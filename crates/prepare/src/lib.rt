@@ -6,7 +6,7 @@ use graph::arc;
 ghost use mathlib.Core.Path.{_≡_};
 ghost use mathlib.Core.Bool.{true, false, cond};
 ghost use mathlib.Core.List.{List};
-ghost use Prim.Native.Nat.{ℕ, _+_, _-_, _*_, _<_, _≤_};
+ghost use Prim.Native.Nat.{ℕ, _+_, _*_, _<_, _≤_};
 ghost use lib.ListN.{length, getD, set};
 ghost use Rattle.property.specs.Property.{property};
 ghost use Rattle.frontier.specs.Waiting.{waitingOf, countOf};
@@ -18,13 +18,14 @@ ghost use Rattle.run.specs.Code.{bits, Marks};
 ghost use Rattle.affected.specs.Affected as spec;
 ghost use Rattle.affected.specs.Prepared as start;
 ghost use Rattle.compare.specs.Code.{before, after, pairs, Inside, Faces};
+ghost use Rattle.hunt.specs.Code.{fromEnd};
 ghost use Rattle.prepare.specs.Code.{Batched, edgeLost, starts, Raised, Started, Woken, Entering};
 
 // ---- what the changes do
 
 // Whether an edge of weight `w` is lost to the property where its pair has the weight `other`, 0 for none: there is such an edge, and nothing or
 // a worse weight in its place. So an old edge is removed by the new weight, and a new one added by the old.
-fn is_lost(p: u32, w: u32, other: u32) -> bool
+fn is_edge_lost(p: u32, w: u32, other: u32) -> bool
     ensures { λ r. ⌜ r ≡ edgeLost (property p) w other ⌝ }
 {
     0 < w && hunt::is_lost(p, w, other)
@@ -33,11 +34,11 @@ fn is_lost(p: u32, w: u32, other: u32) -> bool
 // The tail of change `k` is to do where its removed edge holds up its head.
 fn start_change(p: u32, s: u32, k: usize, net: &[u32], words: &[u32], todo: &mut Words)
     requires { ⌜ (2 * k + 1 < length (now net)) × Inside (length (now words)) (now net) × (length (now words) ≤ maxVertices) ⌝ }
-    ensures { λ _. ⌜ waitingOf (now (todo .exit)) ≡ cond (starts (property p) s (now (words .entry)) (now (net .entry)) k) (set (waitingOf (now (todo .entry))) (length (now (words .entry)) - 1 - before (now (net .entry)) k .tail) true) (waitingOf (now (todo .entry))) ⌝ }
+    ensures { λ _. ⌜ waitingOf (now (todo .exit)) ≡ cond (starts (property p) s (now (words .entry)) (now (net .entry)) k) (set (waitingOf (now (todo .entry))) (fromEnd (length (now (words .entry))) (before (now (net .entry)) k .tail)) true) (waitingOf (now (todo .entry))) ⌝ }
 {
     let at = 2 * k;
     let w = arc::weight(net[at]);
-    if !is_lost(p, w, arc::weight(net[at + 1])) {
+    if !is_edge_lost(p, w, arc::weight(net[at + 1])) {
         return;
     }
     let t = arc::head(net[at]) as usize;
@@ -54,7 +55,7 @@ fn wake_change(p: u32, k: usize, net: &[u32], waiting: &mut Words)
 {
     let at = 2 * k;
     let t = arc::head(net[at]) as usize;
-    if is_lost(p, arc::weight(net[at + 1]), arc::weight(net[at])) {
+    if is_edge_lost(p, arc::weight(net[at + 1]), arc::weight(net[at])) {
         frontier::insert(waiting, t);
     }
 }

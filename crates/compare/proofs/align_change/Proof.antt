@@ -1,13 +1,13 @@
 -- `compare::align_change` meets its contract: the arcs of the vertex at hand are gone over one by one. Assumes nothing.
 use Rattle.property.proofs.Basics.{needs, arith, ap₂, _∙_, _+_, _-_, _*_, _<_, _≤_, length, getD}
 use Rattle.graph.specs.Arc.{arc}
-use Rattle.compare.specs.Code.{hits}
-use Rattle.compare.proofs.Beside.{Hit, hit-none, hit-turn, hit-done, hits-place, hits-test}
+use Rattle.compare.specs.Code.{tellsOf}
+use Rattle.compare.proofs.Beside.{Stored, stored-none, stored-turn, stored-done, tells-place, tells-test}
 use Rattle.compare.proofs.align_change.Statement.{statement}
 use Rattle.compare.proofs.align_change.Tie as tie
 
 abbrev Inv-loop : tie.InvT-loop
-Inv-loop k net old other₀ at t b a hi j₀ other j = Hit (hits net old k) (getD net (2 * k + 1) 0) j other₀ other × (j₀ ≤ j)
+Inv-loop k net old other₀ at t b a hi j₀ other j = Stored (tellsOf net old k) (getD net (2 * k + 1) 0) j other₀ other × (j₀ ≤ j)
 
 abbrev μ-loop : tie.MeasureT-loop
 μ-loop k net old other₀ at t b a hi j₀ other j = hi - j
@@ -50,8 +50,8 @@ loop-again c =
     let h = headed l in
     let a = start h .args in
     let r = l .before .before .before in
-    let q = hits-test (a .net .now) (a .old .now) (a .k) (l .loop .j) _ (h .head .ensures) _ (r .arc .ensures ∙ ap₂ arc (r .before .before .before .head2 .ensures) (r .before .weight .ensures)) (l .loop .inv .1) (t .loop-test .taken) in
-    (hit-turn _ _ (l .loop .j) _ _ (l .loop .other) (l .loop .inv .0) (inside t .1) (c .chosen .ensures ∙ rw q), omega (arith, l .loop .inv .1))
+    let q = tells-test (a .net .now) (a .old .now) (a .k) (l .loop .j) _ (h .head .ensures) _ (r .arc .ensures ∙ ap₂ arc (r .before .before .before .head2 .ensures) (r .before .weight .ensures)) (l .loop .inv .1) (t .loop-test .taken) in
+    (stored-turn _ _ (l .loop .j) _ _ (l .loop .other) (l .loop .inv .0) (inside t .1) (c .chosen .ensures ∙ rw q), omega (arith, l .loop .inv .1))
 
 pub align-change-spec : {M : Type 1} → statement M
 align-change-spec =
@@ -79,7 +79,7 @@ align-change-spec =
     (λ c. search needs)
     (λ c. let z = within (c .before .before .before .before .before .before .before) .0 in omega arith)
     (λ c. let z = c .shared-slice-known7 .given (c .before .before .before .before .before .before .before .head .result) in omega arith)
-    (λ c. let h = c .before .before .before .before .before .before .before in let a = start h .args in (hit-none _ _ _ _ (λ i q. hits-place (a .net .now) (a .old .now) (a .k) i _ (h .head .ensures) q .0), omega arith))
+    (λ c. let h = c .before .before .before .before .before .before .before in let a = start h .args in (stored-none _ _ _ _ (λ i q. tells-place (a .net .now) (a .old .now) (a .k) i _ (h .head .ensures) q .0), omega arith))
     (λ c. let z = inside c .0 in omega arith)
     (λ c. inside (c .before) .0)
     (λ c. let z = inside (c .before) .1 in omega arith)
@@ -95,4 +95,4 @@ align-change-spec =
     let l = c .before in
     let h = headed l in
     let a = start h .args in
-    (l .loop .inv .0 .size, hit-done _ _ (l .loop .j) _ _ (l .loop .inv .0) (λ i q. let z = hits-place (a .net .now) (a .old .now) (a .k) i _ (h .head .ensures) q .1 in omega (arith, c .loop-test .left)))))
+    (l .loop .inv .0 .size, stored-done _ _ (l .loop .j) _ _ (l .loop .inv .0) (λ i q. let z = tells-place (a .net .now) (a .old .now) (a .k) i _ (h .head .ensures) q .1 in omega (arith, c .loop-test .left)))))

@@ -2,7 +2,7 @@
 use Rattle.property.proofs.Basics.{sym, _∙_, cond, suc, _-_, needs}
 use Rattle.property.specs.Property.{property}
 use Rattle.frontier.specs.Waiting.{waitingOf, capacity, anyOf, countOf}
-use Rattle.hunt.proofs.Passing.{Hunted, hunted-turn, hunted-less, hunted-done}
+use Rattle.hunt.proofs.Sweeping.{Hunted, hunted-turn, hunted-less, hunted-done}
 use Rattle.hunt.proofs.hunt.Statement.{statement}
 use Rattle.hunt.proofs.hunt.Tie as tie
 
@@ -21,6 +21,6 @@ hunt-spec =
     (λ c. record { hunting = c .before .before .before .pre; kept = λ es fs o f g h. (g, h) })
     (λ c κs. search needs)
     (λ c κs. c .before .before .before .before .before .loop .inv .hunting)
-    (λ c. let t = c .before .before .before in hunted-less (t .before .before .before .loop .inv) (c .pass .ensures) (sym (t .before .any .ensures) ∙ t .if1 .taken))
-    (λ c. hunted-turn (c .before .before .before .before .before .before .loop .inv) (c .pass .ensures))
+    (λ c. let t = c .before .before .before in hunted-less (t .before .before .before .loop .inv) (c .sweep .ensures) (sym (t .before .any .ensures) ∙ t .if1 .taken))
+    (λ c. hunted-turn (c .before .before .before .before .before .before .loop .inv) (c .sweep .ensures))
     (λ c. let v = c .before .before .before .loop .inv in (v .hunting .marks, hunted-done v (sym (c .before .any .ensures) ∙ c .if1 .left))))

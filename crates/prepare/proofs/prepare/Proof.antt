@@ -31,7 +31,7 @@ returns c =
     let k = bits-count (a .n) ms m in (
       (λ es fs d face.
           let f = g .hunt .ensures .1 es fs (λ e i. let z = d .inside e i in (z .0, z .1)) (d .old)
-          record { other = face; apart = λ u j h x y q. d .inside _ (own-reads (a .n) (a .old .now) es (d .old) u j h x y) .2 (sym q) }
+          record { other = face; loopless = λ u j h x y q. d .inside _ (own-reads (a .n) (a .old .now) es (d .old) u j h x y) .2 (sym q) }
           (λ t q. absurd (unmarked none t q)) (start-shut laws (a .s) (a .words .now) (a .old .now) (a .net .now) (d .old) (d .net .old) (s .pre .4) none (w .take-changes .ensures .0 .0)) in
           (prepared-made laws d _ _ m (b .before .before .before .clear .ensures) (w .take-changes .ensures .1 .0) (r .1 .0) (r .1 .1) (a .s) (a .words .now) f (r .0), c .count .ensures ∙ k ∙ ap countOf f)),
       (r .1 .1, (let x = count-le (bits (a .n) ms) in let y = bits-length (a .n) ms m in omega (arith, c .count .ensures, k, s .pre .1 .few))),

@@ -13,9 +13,9 @@ abbrev start : tie.After-head2 → tie.Start
 start c = c .before .before .before .before .before .before .before .before .before .before .before .before
 
 -- whether the change removed an edge
-removes : (c : tie.After-is-lost) → let a = c .before .before .before .before .before .before .before .args in
-    c .is-lost .result ≡ edgeLost (property (a .p)) (before (a .net .now) (a .k) .weight) (after (a .net .now) (a .k) .weight)
-removes c = c .is-lost .ensures ∙ ap₂ (edgeLost (property _)) (c .before .before .before .weight .ensures) (c .before .weight2 .ensures)
+removes : (c : tie.After-is-edge-lost) → let a = c .before .before .before .before .before .before .before .args in
+    c .is-edge-lost .result ≡ edgeLost (property (a .p)) (before (a .net .now) (a .k) .weight) (after (a .net .now) (a .k) .weight)
+removes c = c .is-edge-lost .ensures ∙ ap₂ (edgeLost (property _)) (c .before .before .before .weight .ensures) (c .before .weight2 .ensures)
 
 -- its two vertices have words
 ends : (c : tie.After-head2) → let n = length (start c .args .words .now) in (c .before .before .head .result < n) × (c .head2 .result < n)

@@ -7,9 +7,9 @@ use Rattle.prepare.proofs.wake_change.Statement.{statement}
 use Rattle.prepare.proofs.wake_change.Tie as tie
 
 -- whether the change added an edge
-adds : (c : tie.After-is-lost) → let a = c .before .before .before .before .before .before .before .before .args in
-    c .is-lost .result ≡ edgeLost (property (a .p)) (after (a .net .now) (a .k) .weight) (before (a .net .now) (a .k) .weight)
-adds c = c .is-lost .ensures ∙ ap₂ (edgeLost (property _)) (c .before .before .before .weight .ensures) (c .before .weight2 .ensures)
+adds : (c : tie.After-is-edge-lost) → let a = c .before .before .before .before .before .before .before .before .args in
+    c .is-edge-lost .result ≡ edgeLost (property (a .p)) (after (a .net .now) (a .k) .weight) (before (a .net .now) (a .k) .weight)
+adds c = c .is-edge-lost .ensures ∙ ap₂ (edgeLost (property _)) (c .before .before .before .weight .ensures) (c .before .weight2 .ensures)
 
 pub wake-change-spec : {M : Type 1} → statement M
 wake-change-spec =

@@ -1,9 +1,9 @@
 -- A pass that leaves out the vertices that are not to do, and passes until nothing is to do. Assumes nothing.
 --
---   Passing .. i bs ds bs′ ds′ == a pass came as far as number i: from marks that are shut, the edges of the vertices below make of its marks what every edge
+--   Sweeping .. i bs gs bs′ gs′ == a pass came as far as number i: from marks that are shut, the edges of the vertices below make of its marks what every edge
 --                                 makes of those at its start, and its marks are shut; what is to do again under a number below i was marked in it
---   Hunted .. bs ds bs′ ds′    == passes were made: from marks of affected vertices that are shut, these are such marks again
-use Rattle.property.proofs.Basics.{_≡_, refl, sym, _∙_, ⊎-elim, Bool, true, false, true≢false, cond, List, [], _∷_, _++_, List·Memᴰ, List·Memᴰ·head, List·Memᴰ·tail, List·Memᴰ·cases-cons, List·Memᴰ·not-nil, ℕ, zero, suc, _+_, _-_, _≤_, _<_, ℕ-discrete, zero-add, add-zero, sub-zero, suc-add, append-assoc, arith, length, getD, set, getD-set-other}
+--   Hunted .. bs gs bs′ gs′    == passes were made: from marks of affected vertices that are shut, these are such marks again
+use Rattle.property.proofs.Basics.{_≡_, refl, sym, _∙_, ⊎-elim, true, false, true≢false, cond, List, _++_, List·Memᴰ, List·Memᴰ·not-nil, ℕ, zero, suc, _+_, _-_, _≤_, _<_, ℕ-discrete, zero-add, add-zero, sub-zero, suc-add, append-assoc, arith, length, getD, set, getD-set-other}
 use mathlib.Core.List.{List·Memᴰ·append-cases}
 use Rattle.property.specs.Property.{Property}
 use Rattle.property.proofs.Tests.{is-false, by-test}
@@ -21,7 +21,7 @@ use Rattle.theory.proofs.Hops.{count-less}
 use Rattle.affected.specs.Affected.{Named, marked, sweep, affected}
 use Rattle.affected.proofs.Hunt.{sweep-named, closed-exact}
 use Rattle.affected.proofs.Passes.{touches-as, sweep-taken, sweep-append, sweep-still}
-use Rattle.hunt.specs.Code.{Hunting, Facing, Fresh, Touched, Shut, PassDone}
+use Rattle.hunt.specs.Code.{fromEnd, Hunting, Counterparts, Fresh, Touched, Shut, SweepDone}
 use Rattle.hunt.proofs.Bits.{bits-length, bits-all}
 
 -- ---- the edges of an index
@@ -44,28 +44,28 @@ own-edge {n} {is} f u e h m = let z = mem-part is u (getD is u 0) (getD is (u + 
 
 -- ---- a pass
 
-pub record Passing (P : Property) (n s : ℕ) (vs is os : List ℕ) (i : ℕ) (bs ds bs′ ds′ : List ℕ) : Type 0 where
-  pub hunting : Hunting n vs is os bs′ ds′
+pub record Sweeping (P : Property) (n s : ℕ) (vs is os : List ℕ) (i : ℕ) (bs gs bs′ gs′ : List ℕ) : Type 0 where
+  pub hunting : Hunting n vs is os bs′ gs′
   pub keeps : (t : ℕ) → marked (waitingOf bs) t ≡ true → marked (waitingOf bs′) t ≡ true
-  pub only : (k : ℕ) → marked (waitingOf ds′) k ≡ true → (i ≤ k → ⊥) → Fresh n (waitingOf bs) (waitingOf bs′) k
-  pub swept : (fs : List Edge) → Facing n fs is os → Shut P n fs s vs is (waitingOf bs) (waitingOf ds)
-      → (sweep P fs s vs (inOrder is 0 (n - i)) (waitingOf bs′) ≡ sweep P fs s vs (inOrder is 0 n) (waitingOf bs)) × Shut P n fs s vs is (waitingOf bs′) (waitingOf ds′)
+  pub only : (k : ℕ) → marked (waitingOf gs′) k ≡ true → (i ≤ k → ⊥) → Fresh n (waitingOf bs) (waitingOf bs′) k
+  pub swept : (fs : List Edge) → Counterparts n fs is os → Shut P n fs s vs is (waitingOf bs) (waitingOf gs)
+      → (sweep P fs s vs (inOrder is 0 (n - i)) (waitingOf bs′) ≡ sweep P fs s vs (inOrder is 0 n) (waitingOf bs)) × Shut P n fs s vs is (waitingOf bs′) (waitingOf gs′)
 
-pub passing-start : {P : Property} {n s : ℕ} {vs is os bs ds : List ℕ} → Hunting n vs is os bs ds → Passing P n s vs is os 0 bs ds bs ds
-passing-start {n = n} h = record { hunting = h; keeps = λ t q. q; only = λ k q l. absurd (l (omega arith)); swept = λ fs f g. (rw (sub-zero n), g) }
+pub sweeping-start : {P : Property} {n s : ℕ} {vs is os bs gs : List ℕ} → Hunting n vs is os bs gs → Sweeping P n s vs is os 0 bs gs bs gs
+sweeping-start {n = n} h = record { hunting = h; keeps = λ t q. q; only = λ k q l. absurd (l (omega arith)); swept = λ fs f g. (rw (sub-zero n), g) }
 
-with-marks : {n : ℕ} {vs is os bs ds bs′ ds′ : List ℕ} → Hunting n vs is os bs ds → Marks n bs′ → Marks n ds′ → Hunting n vs is os bs′ ds′
+with-marks : {n : ℕ} {vs is os bs gs bs′ gs′ : List ℕ} → Hunting n vs is os bs gs → Marks n bs′ → Marks n gs′ → Hunting n vs is os bs′ gs′
 with-marks h a b = record { words = h .words; index = h .index; room = h .room; marks = a; todo = b }
 
-module _ {P : Property} {n s : ℕ} {vs is os bs ds bs′ ds′ : List ℕ} {i : ℕ} (at : Passing P n s vs is os i bs ds bs′ ds′) where
+module _ {P : Property} {n s : ℕ} {vs is os bs gs bs′ gs′ : List ℕ} {i : ℕ} (at : Sweeping P n s vs is os i bs gs bs′ gs′) where
   -- vertices that are not to do change nothing
-  still : (fs : List Edge) → Shut P n fs s vs is (waitingOf bs′) (waitingOf ds′) → (u j : ℕ) → u + j ≡ n - i
-      → ((k : ℕ) → i ≤ k → k + u < n → marked (waitingOf ds′) k ≡ false) → sweep P fs s vs (inOrder is u j) (waitingOf bs′) ≡ waitingOf bs′
+  still : (fs : List Edge) → Shut P n fs s vs is (waitingOf bs′) (waitingOf gs′) → (u j : ℕ) → u + j ≡ n - i
+      → ((k : ℕ) → i ≤ k → k + u < n → marked (waitingOf gs′) k ≡ false) → sweep P fs s vs (inOrder is u j) (waitingOf bs′) ≡ waitingOf bs′
   still fs h u j l f = sweep-still P fs s vs (inOrder is u j) (waitingOf bs′) (λ e m. let o = order-mem is u j e m in
-      let a = o .1 in let b = o .2 in h (o .0) (omega arith) (f (n - 1 - o .0) (omega arith) (omega arith)) e (o .3))
+      let a = o .1 in let b = o .2 in h (o .0) (omega arith) (f (fromEnd n (o .0)) (omega arith) (omega arith)) e (o .3))
 
-  pub passing-done : ((k : ℕ) → i ≤ k → marked (waitingOf ds′) k ≡ false) → PassDone P n s vs is os bs ds bs′ ds′
-  passing-done none = record {
+  pub sweeping-done : ((k : ℕ) → i ≤ k → marked (waitingOf gs′) k ≡ false) → SweepDone P n s vs is os bs gs bs′ gs′
+  sweeping-done none = record {
     marks = at .hunting .marks;
     todo = at .hunting .todo;
     keeps = at .keeps;
@@ -75,29 +75,29 @@ module _ {P : Property} {n s : ℕ} {vs is os bs ds bs′ ds′ : List ℕ} {i :
 
   -- The next that is to do, number k, is taken out, and its edges are taken: those that touch have their heads marked. Another vertex that is not to do
   -- has no new mark, so that its edges touch no more than before, and no mark is taken away.
-  module _ {u k : ℕ} {es : List ℕ} (f : First (waitingOf ds′) i k × (k < n)) (o : u ≡ n - 1 - k) (e : waitingOf es ≡ set (waitingOf ds′) k false) where
-    pub passing-next : (u < length vs) × Hunting (length vs) vs is os bs′ es
-    passing-next = rw (at .hunting .words) (omega (arith, f .1), with-marks (at .hunting) (at .hunting .marks) (marks-set n k ds′ es false (f .1) e (at .hunting .todo)))
+  module _ {u k : ℕ} {ks : List ℕ} (f : First (waitingOf gs′) i k × (k < n)) (o : u ≡ fromEnd n k) (e : waitingOf ks ≡ set (waitingOf gs′) k false) where
+    pub sweeping-next : (u < length vs) × Hunting (length vs) vs is os bs′ ks
+    sweeping-next = rw (at .hunting .words) (omega (arith, f .1), with-marks (at .hunting) (at .hunting .marks) (marks-set n k gs′ ks false (f .1) e (at .hunting .todo)))
 
-    module _ {bs″ ds″ : List ℕ} (t : Touched P n s vs is os u (marked (waitingOf bs′) u) (getD is u 0) (getD is (u + 1) 0 - getD is u 0) bs′ es bs″ ds″) where
-      shut-turn : (fs : List Edge) → Facing n fs is os → Shut P n fs s vs is (waitingOf bs′) (waitingOf ds′) → Shut P n fs s vs is (waitingOf bs″) (waitingOf ds″)
+    module _ {bs″ gs″ : List ℕ} (t : Touched P n s vs is os u (marked (waitingOf bs′) u) (getD is u 0) (getD is (u + 1) 0 - getD is u 0) bs′ ks bs″ gs″) where
+      shut-turn : (fs : List Edge) → Counterparts n fs is os → Shut P n fs s vs is (waitingOf bs′) (waitingOf gs′) → Shut P n fs s vs is (waitingOf bs″) (waitingOf gs″)
       shut-turn fs g h v b q x m w =
           let was = touches-as P fs s vs (waitingOf bs″) (waitingOf bs′) x
           (λ y. ⊎-elim (λ z. z) (λ z. absurd (true≢false (sym (rw (own-edge (at .hunting .index) v x b m .0) at z) ∙ q))) (t .grown .new (x .tail) y)) w in
           elim (ℕ-discrete v u) [
             | yes p ↦ rw (t .swept fs g refl) (sweep-taken P fs s vs (own is u) (waitingOf bs′)
                 (λ y j. omega (arith, own-edge (at .hunting .index) u y (omega (arith, f .1)) j .1, at .hunting .marks .few, at .hunting .marks .bits)) x (rw p at m) was)
-            | no d ↦ t .grown .keeps (x .head) (h v b (is-false _ (λ y. true≢false (sym (t .grown .due (n - 1 - v)
-                (rw e (getD-set-other (waitingOf ds′) k (n - 1 - v) false false (λ p. d (omega (arith, f .1))) ∙ y))) ∙ q))) x m was)
+            | no d ↦ t .grown .keeps (x .head) (h v b (is-false _ (λ y. true≢false (sym (t .grown .due (fromEnd n v)
+                (rw e (getD-set-other (waitingOf gs′) k (fromEnd n v) false false (λ p. d (omega (arith, f .1))) ∙ y))) ∙ q))) x m was)
           ]
 
-      pub passing-turn : Passing P n s vs is os (k + 1) bs ds bs″ ds″
-      passing-turn = record {
+      pub sweeping-turn : Sweeping P n s vs is os (k + 1) bs gs bs″ gs″
+      sweeping-turn = record {
         hunting = with-marks (at .hunting) (t .marks) (t .todo);
         keeps = λ v q. t .grown .keeps v (at .keeps v q);
         only = λ j q b. ⊎-elim (λ y. ⊎-elim (λ z. absurd (true≢false (sym (rw e at y) ∙ z .1)))
             (λ z. let on = sym (z .1) ∙ rw e at y in let o = at .only j on (λ a. true≢false (sym on ∙ f .0 .before j a (omega (arith, z .0)))) in (o .0, o .1, t .grown .keeps _ (o .2)))
-            (at-set (waitingOf ds′) k false j false (f .0 .within))) (λ y. (y .0, is-false _ (λ z. true≢false (sym (at .keeps _ z) ∙ y .1)), y .2)) (t .grown .only j q);
+            (at-set (waitingOf gs′) k false j false (f .0 .within))) (λ y. (y .0, is-false _ (λ z. true≢false (sym (at .keeps _ z) ∙ y .1)), y .2)) (t .grown .only j q);
         swept = λ fs g h.
             let z = at .swept fs g h in
             let p : n - i ≡ u + suc (k - i) = omega (arith, f .0 .from, f .1) in let r : n - (k + 1) ≡ u = omega arith in
@@ -108,14 +108,14 @@ module _ {P : Property} {n s : ℕ} {vs is os bs ds bs′ ds′ : List ℕ} {i :
 
 -- ---- pass by pass
 
-pub record Hunted (P : Property) (n s : ℕ) (vs is os bs ds bs′ ds′ : List ℕ) : Type 0 where
-  pub hunting : Hunting n vs is os bs′ ds′
-  pub kept : (es fs : List Edge) → Own n is es → Facing n fs is os → Named P es fs s vs (waitingOf bs) → Shut P n fs s vs is (waitingOf bs) (waitingOf ds)
-      → Named P es fs s vs (waitingOf bs′) × Shut P n fs s vs is (waitingOf bs′) (waitingOf ds′)
+pub record Hunted (P : Property) (n s : ℕ) (vs is os bs gs bs′ gs′ : List ℕ) : Type 0 where
+  pub hunting : Hunting n vs is os bs′ gs′
+  pub kept : (es fs : List Edge) → Own n is es → Counterparts n fs is os → Named P es fs s vs (waitingOf bs) → Shut P n fs s vs is (waitingOf bs) (waitingOf gs)
+      → Named P es fs s vs (waitingOf bs′) × Shut P n fs s vs is (waitingOf bs′) (waitingOf gs′)
 
-module _ {P : Property} {n s : ℕ} {vs is os bs ds bs′ ds′ : List ℕ} (at : Hunted P n s vs is os bs ds bs′ ds′) where
-  module _ {bs″ ds″ : List ℕ} (d : PassDone P n s vs is os bs′ ds′ bs″ ds″) where
-    pub hunted-turn : Hunted P n s vs is os bs ds bs″ ds″
+module _ {P : Property} {n s : ℕ} {vs is os bs gs bs′ gs′ : List ℕ} (at : Hunted P n s vs is os bs gs bs′ gs′) where
+  module _ {bs″ gs″ : List ℕ} (d : SweepDone P n s vs is os bs′ gs′ bs″ gs″) where
+    pub hunted-turn : Hunted P n s vs is os bs gs bs″ gs″
     hunted-turn = record {
       hunting = with-marks (at .hunting) (d .marks) (d .todo);
       kept = λ es fs o f a b.
@@ -126,18 +126,18 @@ module _ {P : Property} {n s : ℕ} {vs is os bs ds bs′ ds′ : List ℕ} (at 
     }
 
     -- what is to do after a pass was marked in it: there are fewer vertices without a mark
-    pub hunted-less : anyOf (waitingOf ds′) ≡ true
-        → cond (anyOf (waitingOf ds″)) (suc (capacity - countOf (waitingOf bs″))) 0 < cond (anyOf (waitingOf ds′)) (suc (capacity - countOf (waitingOf bs′))) 0
-    hunted-less on = rw on (by-test (anyOf (waitingOf ds″))
-        (λ q. rw q (let (k, _, w) = any-some (waitingOf ds″) q in let f = d .only k w in
-        let c = count-less (waitingOf bs′) (waitingOf bs″) (n - 1 - k) (omega (arith, f .0, at .hunting .marks .few, at .hunting .marks .bits)) (d .keeps) (f .1) (f .2) in
+    pub hunted-less : anyOf (waitingOf gs′) ≡ true
+        → cond (anyOf (waitingOf gs″)) (suc (capacity - countOf (waitingOf bs″))) 0 < cond (anyOf (waitingOf gs′)) (suc (capacity - countOf (waitingOf bs′))) 0
+    hunted-less on = rw on (by-test (anyOf (waitingOf gs″))
+        (λ q. rw q (let (k, _, w) = any-some (waitingOf gs″) q in let f = d .only k w in
+        let c = count-less (waitingOf bs′) (waitingOf bs″) (fromEnd n k) (omega (arith, f .0, at .hunting .marks .few, at .hunting .marks .bits)) (d .keeps) (f .1) (f .2) in
         omega (arith, count-le (waitingOf bs″), d .marks .bits))) (λ q. rw q (omega arith)))
 
   -- where nothing is to do, marks that are shut are closed
-  pub hunted-done : anyOf (waitingOf ds′) ≡ false → (es fs : List Edge) → ((e : Edge) → List·Memᴰ e es → (e .tail < n) × (e .head < n)) → Own n is es → Facing n fs is os
-      → Named P es fs s vs (waitingOf bs) → Shut P n fs s vs is (waitingOf bs) (waitingOf ds) → bits n bs′ ≡ affected P es fs s vs n
+  pub hunted-done : anyOf (waitingOf gs′) ≡ false → (es fs : List Edge) → ((e : Edge) → List·Memᴰ e es → (e .tail < n) × (e .head < n)) → Own n is es → Counterparts n fs is os
+      → Named P es fs s vs (waitingOf bs) → Shut P n fs s vs is (waitingOf bs) (waitingOf gs) → bits n bs′ ≡ affected P es fs s vs n
   hunted-done none es fs inside o f a b =
       let m = at .hunting .marks in let z = at .kept es fs o f a b in
       closed-exact P es fs s vs n (λ e i. inside e i .1) (bits n bs′) (bits-length n bs′ m) (λ t q. z .0 t (sym (bits-all n bs′ m t) ∙ q))
-      (λ e i q. bits-all n bs′ m (e .head) ∙ z .1 (e .tail) (inside e i .0) (any-none (waitingOf ds′) none _) e (rw (o (e .tail) (inside e i .0)) (in-leaving (e .tail) i refl))
+      (λ e i q. bits-all n bs′ m (e .head) ∙ z .1 (e .tail) (inside e i .0) (any-none (waitingOf gs′) none _) e (rw (o (e .tail) (inside e i .0)) (in-leaving (e .tail) i refl))
       (touches-as P fs s vs (bits n bs′) (waitingOf bs′) e (λ y. sym (bits-all n bs′ m (e .tail)) ∙ y) q))

@@ -1,7 +1,0 @@
--- `prepare::is_lost` meets its contract. Assumes nothing.
-use Rattle.property.proofs.Basics.{needs, lt-ltb, le-ltb}
-use Rattle.prepare.proofs.is_lost.Statement.{statement}
-use Rattle.prepare.proofs.is_lost.Tie as tie
-
-pub is-lost-spec : {M : Type 1} → statement M
-is-lost-spec = tie.close (tie.spec (λ c κs. search needs) (λ c. rw (lt-ltb _ _ (c .before .if1 .taken)) (c .is-lost .ensures)) (λ c. rw (le-ltb _ _ (c .if1 .left))))
