@@ -4,10 +4,10 @@
     passes.py            the lines that the program beside this file must print
     passes.py figures    passes and looks from last to first and from first to last, of this file alone
 
-Decks: `down`, whose segments lead from each station to lower ones, with its hub at 255; `mostly`, with one segment in ten that leads up; and both mirrored, station v at
+Decks: `down`, whose segments lead from each station to lower ones, with its hub at 255; `mostly`, with one segment in eleven that leads up; and both mirrored, station v at
 255 - v, with the same batch. A row is one property from the hub at 255, or to station 0 over the reversed segments.
 
-A line has deck, side, property, passes made, looks, and the suspects after each pass that adds any. The suspects are those of passes over every record of the table, from
+A line has deck, side, property, passes made, looks, and how many suspects there are after each pass that adds any. The suspects are those of passes over every record of the table, from
 last to first, until one adds none (`every_record`). Passes made and looks are those of passes that leave out the stations that are not to do (`to_do`): at first the tails of tight removed
 records are to do, and then each station that becomes a suspect, until its records have their turn; the last pass is the one after which none is to do. What such a pass finds is
 held to what a pass over every record finds."""

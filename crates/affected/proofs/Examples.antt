@@ -1,4 +1,4 @@
--- Affected vertices of small networks, computed: document 01, "Near the edges, and a small deck"; document 02, One. Assumes nothing.
+-- Affected vertices of small networks, computed: document 01, "Near the edges, and a small deck"; document 02, One and Three. Assumes nothing.
 use Rattle.property.proofs.Tables.{Said}
 use Rattle.property.proofs.Basics.{_≡_, refl, Bool, true, false, List, [], _∷_, map, ℕ}
 use Rattle.property.specs.Property.{M, sssp, sswp, ssr, property}

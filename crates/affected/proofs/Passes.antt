@@ -25,19 +25,19 @@ abbrev TailsAscend : List Edge → Type 0
 TailsAscend [] = Unit {0}
 TailsAscend (x ∷ xs) = ((e : Edge) → List·Memᴰ e xs → x .tail ≤ e .tail) × TailsAscend xs
 
-sound-rising : (n : ℕ) (es : List Edge) → Sound n es → TailsAscend es
-sound-rising n [] h = tt
-sound-rising n (x ∷ es) h = let r = sound-rising n es (h .2) in (after es (h .1) r, r)
+sound-ascends : (n : ℕ) (es : List Edge) → Sound n es → TailsAscend es
+sound-ascends n [] h = tt
+sound-ascends n (x ∷ es) h = let r = sound-ascends n es (h .2) in (after es (h .1) r, r)
   where
     after : (xs : List Edge) → Ahead tableOrder x xs → TailsAscend xs → (e : Edge) → List·Memᴰ e xs → x .tail ≤ e .tail
     after [] a r e m = absurd (List·Memᴰ·not-nil m)
     after (y ∷ xs) a r e m = let z = precedes-tail x y a in ⊎-elim (λ q. rw q z) (λ k. let w = r .0 e k in omega arith) (List·Memᴰ·cases-cons m)
 
-keep-rising : (f : Edge → Bool) (xs : List Edge) → TailsAscend xs → TailsAscend (keep f xs)
+keep-ascends : (f : Edge → Bool) (xs : List Edge) → TailsAscend xs → TailsAscend (keep f xs)
 unfolding keep keepIf
-keep-rising f [] r = tt
-keep-rising f (x ∷ xs) r =
-    by-test (f x) (λ q. rw q ((λ e m. r .0 e (keep-in f xs e m .0)), keep-rising f xs (r .1))) (λ q. rw q (keep-rising f xs (r .1)))
+keep-ascends f [] r = tt
+keep-ascends f (x ∷ xs) r =
+    by-test (f x) (λ q. rw q ((λ e m. r .0 e (keep-in f xs e m .0)), keep-ascends f xs (r .1))) (λ q. rw q (keep-ascends f xs (r .1)))
 
 abbrev above : ℕ → List Edge → List Edge
 above u xs = keep (λ e. ltb u (e .tail)) xs
@@ -64,9 +64,9 @@ module _ (P : Property) (fs : List Edge) (s : ℕ) (ws : List ℕ) where
   unfolding mark
   mark-only ms e = raise-only ms (e .head) (touches P fs s ws ms e)
 
-  mark-hits : (ms : List Bool) (e : Edge) → e .head < length ms → touches P fs s ws ms e ≡ true → marked (mark P fs s ws ms e) (e .head) ≡ true
+  mark-touched : (ms : List Bool) (e : Edge) → e .head < length ms → touches P fs s ws ms e ≡ true → marked (mark P fs s ws ms e) (e .head) ≡ true
   unfolding mark
-  mark-hits ms e h q = rw q (getD-set-same ms (e .head) true false h)
+  mark-touched ms e h q = rw q (getD-set-same ms (e .head) true false h)
 
   -- an edge that touches still does where its tail keeps its mark
   pub touches-as : (ms ls : List Bool) (e : Edge) → (marked ms (e .tail) ≡ true → marked ls (e .tail) ≡ true) → touches P fs s ws ms e ≡ true
@@ -77,7 +77,7 @@ module _ (P : Property) (fs : List Edge) (s : ℕ) (ws : List ℕ) where
 
   mark-more : (ms ls : List Bool) (e : Edge) → e .head < length ls → More ms ls → More (mark P fs s ws ms e) (mark P fs s ws ls e)
   mark-more ms ls e h f t q =
-      ⊎-elim (λ k. mark-keeps ls e h t (f t k)) (λ k. rw (k .1) (mark-hits ls e h (touches-as ms ls e (f (e .tail)) (k .0)))) (mark-only ms e t q)
+      ⊎-elim (λ k. mark-keeps ls e h t (f t k)) (λ k. rw (k .1) (mark-touched ls e h (touches-as ms ls e (f (e .tail)) (k .0)))) (mark-only ms e t q)
 
   fits : (xs : List Edge) (ms : List Bool) (e : Edge) → e .head < length ms → e .head < length (sweep P fs s ws xs ms)
   fits xs ms e l = omega (arith, sweep-length P fs s ws xs ms)
@@ -97,7 +97,7 @@ module _ (P : Property) (fs : List Edge) (s : ℕ) (ws : List ℕ) where
       let rest = sweep P fs s ws xs ms in
       let inner : (i : Edge) → List·Memᴰ i xs → i .head < length ms = λ i j. heads i (List·Memᴰ·tail j) in
       let l = fits xs ms x (heads x (List·Memᴰ·head refl)) in
-      ⊎-elim (λ p. rw p (mark-hits rest x l (touches-as ms rest x (sweep-keeps xs ms inner (x .tail)) (rw p at q))))
+      ⊎-elim (λ p. rw p (mark-touched rest x l (touches-as ms rest x (sweep-keeps xs ms inner (x .tail)) (rw p at q))))
       (λ i. mark-keeps rest x l (e .head) (sweep-taken xs ms inner e i q)) (List·Memᴰ·cases-cons m)
 
   -- ---- a pass by parts
@@ -140,12 +140,12 @@ module _ (P : Property) (fs : List Edge) (s : ℕ) (ws : List ℕ) where
       (λ q. rw q (λ t k. mark-keeps P fs s ws (sweep P fs s ws xs ms) x l t (r t k)))
 
   -- A held edge that is removed, or whose tail is marked once the edges of higher tails have been taken, leaves its head marked.
-  sweep-hits : (xs : List Edge) → TailsAscend xs → (ms : List Bool) → ((e : Edge) → List·Memᴰ e xs → e .head < length ms) → (e : Edge) → List·Memᴰ e xs
+  sweep-held : (xs : List Edge) → TailsAscend xs → (ms : List Bool) → ((e : Edge) → List·Memᴰ e xs → e .head < length ms) → (e : Edge) → List·Memᴰ e xs
       → Held P s ws e → (removed P fs e ≡ true) ⊎ (marked (sweep P fs s ws (above (e .tail) xs) ms) (e .tail) ≡ true) → marked (sweep P fs s ws xs ms) (e .head) ≡ true
   unfolding sweep keep keepIf
-  sweep-hits [] r ms heads e m k c = absurd (List·Memᴰ·not-nil m)
-  sweep-hits (x ∷ xs) r ms heads e m k c =
-      ⊎-elim first (λ i. mark-keeps P fs s ws rest x l (e .head) (sweep-hits xs (r .1) ms inner e i k (below (r .0 e i)))) (List·Memᴰ·cases-cons m)
+  sweep-held [] r ms heads e m k c = absurd (List·Memᴰ·not-nil m)
+  sweep-held (x ∷ xs) r ms heads e m k c =
+      ⊎-elim first (λ i. mark-keeps P fs s ws rest x l (e .head) (sweep-held xs (r .1) ms inner e i k (below (r .0 e i)))) (List·Memᴰ·cases-cons m)
     where
       rest : List Bool
       rest = sweep P fs s ws xs ms
@@ -160,7 +160,7 @@ module _ (P : Property) (fs : List Edge) (s : ℕ) (ws : List ℕ) where
       below o = rw (le-ltb (e .tail) (x .tail) o) at c
 
       first : e ≡ x → marked (mark P fs s ws rest x) (e .head) ≡ true
-      first q = rw q (mark-hits P fs s ws rest x l (rw q at (and-true (of-held P s ws e k) (⊎-elim (λ y. rw y)
+      first q = rw q (mark-touched P fs s ws rest x l (rw q at (and-true (of-held P s ws e k) (⊎-elim (λ y. rw y)
           (λ y. or-right (removed P fs e) (sweep-some (λ i. ltb (e .tail) (i .tail)) xs ms inner (e .tail) y)) (below (rw q (omega arith)))))))
 
 -- ---- passes over a table
@@ -194,9 +194,9 @@ module _ (P : Property) (es fs : List Edge) (s : ℕ) (ws : List ℕ) (n : ℕ) 
           → marked (sweep P fs s ws (above (e .head) es) (found (k + cond (ltb (e .tail) (e .head)) 1 0))) (e .head) ≡ true
       taken k e m h c = by-test (ltb (e .tail) (e .head))
           (λ q. rw (q, add-one k, next k) (sweep-keeps P fs s ws (above (e .head) es) (sweep P fs s ws es (found k)) (λ x i. fits P fs s ws es (found k) x (inside k x (keep-in _ es x i .0)))
-          (e .head) (sweep-hits P fs s ws es (sound-rising n es sound) (found k) (inside k) e m h c)))
+          (e .head) (sweep-held P fs s ws es (sound-ascends n es sound) (found k) (inside k) e m h c)))
           (λ q. let d : e .head < e .tail = omega (arith, ltb-false (e .tail) (e .head) q, sound-fit n es sound e m .no-loop) in
-          rw (q, add-zero k) (sweep-hits P fs s ws (above (e .head) es) (keep-rising _ es (sound-rising n es sound)) (found k)
+          rw (q, add-zero k) (sweep-held P fs s ws (above (e .head) es) (keep-ascends _ es (sound-ascends n es sound)) (found k)
           (λ x i. inside k x (keep-in _ es x i .0)) e (in-keep (λ x. ltb (e .head) (x .tail)) m (lt-ltb _ _ d)) h
           (rw (above-above (e .tail) (e .head) (omega arith) es) c)))
 
@@ -255,11 +255,11 @@ above-all u (x ∷ xs) h =
     rw (ne-eqb (x .tail) u (λ q. omega arith), lt-ltb u (x .tail) l) (z .0, ap (λ l. x ∷ l) (z .1))
 
 -- a list whose tails ascend from u on: those of tail u, and then those above
-rising-parts : (u : ℕ) (xs : List Edge) → TailsAscend xs → ((e : Edge) → List·Memᴰ e xs → u ≤ e .tail) → leaving u xs ++ above u xs ≡ xs
+ascending-parts : (u : ℕ) (xs : List Edge) → TailsAscend xs → ((e : Edge) → List·Memᴰ e xs → u ≤ e .tail) → leaving u xs ++ above u xs ≡ xs
 unfolding keep keepIf
-rising-parts u [] r h = refl
-rising-parts u (x ∷ xs) r h = by-test (eqb (x .tail) u)
-    (λ q. rw (q, le-ltb u (x .tail) (let z = eqb-true (x .tail) u q in omega arith)) (ap (λ l. x ∷ l) (rising-parts u xs (r .1) (λ e m. h e (List·Memᴰ·tail m)))))
+ascending-parts u [] r h = refl
+ascending-parts u (x ∷ xs) r h = by-test (eqb (x .tail) u)
+    (λ q. rw (q, le-ltb u (x .tail) (let z = eqb-true (x .tail) u q in omega arith)) (ap (λ l. x ∷ l) (ascending-parts u xs (r .1) (λ e m. h e (List·Memᴰ·tail m)))))
     (λ q. let l : u < x .tail = omega (arith, eqb-false (x .tail) u q, h x (List·Memᴰ·head refl)) in
     let z = above-all u xs (λ e m. omega (arith, r .0 e m)) in
     rw (q, lt-ltb u (x .tail) l) (rw (z .0) (ap (λ l. x ∷ l) (z .1))))
@@ -270,11 +270,11 @@ unfolding inOrder
 order-all n is es o zero u h [] r f w = refl
 order-all n is es o zero u h (x ∷ xs) r f w = absurd (let z = w x (List·Memᴰ·head refl) in let a = z .0 in let b = z .1 in omega arith)
 order-all n is es o (suc k) u h xs r f w =
-    let i = order-all n is es o k (suc u) (omega arith) (above u xs) (keep-rising _ xs r) (λ v l. f v (omega arith) ∙ sym (leaving-above u v l xs))
+    let i = order-all n is es o k (suc u) (omega arith) (above u xs) (keep-ascends _ xs r) (λ v l. f v (omega arith) ∙ sym (leaving-above u v l xs))
     (λ e m. let z = keep-in (λ e. ltb u (e .tail)) xs e m in (ltb-true u (e .tail) (z .1), w e (z .0) .1)) in
-    rw (o u (omega arith), f u (omega arith), i) (rising-parts u xs r (λ e m. w e m .0))
+    rw (o u (omega arith), f u (omega arith), i) (ascending-parts u xs r (λ e m. w e m .0))
 
 pub table-order : TableOrder
 table-order n is es a o =
     let z = rules-accept n es a in
-    order-all n is es o n 0 (zero-add n) es (sound-rising n es z) (λ v l. refl) (λ e m. (omega arith, within n es z .tails e m))
+    order-all n is es o n 0 (zero-add n) es (sound-ascends n es z) (λ v l. refl) (λ e m. (omega arith, within n es z .tails e m))

@@ -1,4 +1,4 @@
--- Affected vertices of a row ("suspects"): document 01, "Batch"; document 02, One. Assumes nothing.
+-- Affected vertices of a row ("suspects"): document 01, "Batch"; document 02, One and Three. Assumes nothing.
 --
 -- es is the list of edges before the batch, fs the list after it, s the landmark of the row, ws its words.
 --

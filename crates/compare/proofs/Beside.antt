@@ -4,7 +4,7 @@
 --   Aligned xs is k os == the first k changes are gone over: beside each arc stands the weight that its pair has after the batch, or else its own,
 --                         where none of these changes is of its edge
 --
--- A change tells of the place of the edge that it says of before, and no other, since the places of a vertex are no other's. It leaves the weight
+-- A change tells of the place of its edge as it was before, and of no other, since the places of a vertex are no other's. It leaves the weight
 -- after the batch there. An edge of no change does not differ, so that its own weight, which the copy of the index has, is the one after the batch.
 use Rattle.property.proofs.Basics.{_≡_, refl, sym, ap, subst, _∙_, _⊎_, inl, inr, ⊎-elim, Bool, true, not, cond, true≢false, List, ℕ, zero, suc, _+_, _*_, _≤_, _<_, ℕ-discrete, decLt, add-one, arith, length, getD, set, drop, length-set, getD-set-same, getD-set-other, paste, List·getD-append, eqb, leb, ltb, eqb-true, eq-eqb, leb-true, ltb-true, le-leb, lt-ltb}
 use Rattle.property.proofs.Tests.{is-false, by-test}

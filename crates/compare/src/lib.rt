@@ -135,7 +135,7 @@ fn chosen(first: bool, a: u32, b: u32) -> u32
     if first { a } else { b }
 }
 
-// Change `k` of the list puts its second word, which has the weight after the batch, beside the arc of the edge that it says of before.
+// Change `k` of the list puts its second word, which has the weight after the batch, beside the arc of its edge as it was before.
 fn align_change(k: usize, net: &[u32], old: &[u32], other: &mut [u32])
     requires { ⌜ (2 * k + 1 < length (now net)) × ((n : ℕ) × Inside n (now net) × Fit n (now old)) × (length (now old) ≤ length (now other)) ⌝ }
     ensures { λ _. ⌜ (length (now (other .exit)) ≡ length (now (other .entry))) × ((j : ℕ) → getD (now (other .exit)) j 0 ≡ cond (tellsOf (now (net .entry)) (now (old .entry)) k j) (getD (now (net .entry)) (2 * k + 1) 0) (getD (now (other .entry)) j 0)) ⌝ }

@@ -1,4 +1,3 @@
 pub mod Bits
 pub mod Touching
 pub mod Sweeping
-pub mod First

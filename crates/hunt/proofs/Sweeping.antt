@@ -1,9 +1,9 @@
--- A pass that leaves out the vertices that are not to do, and passes until nothing is to do. Assumes nothing.
+-- A pass that leaves out the vertices that are not to do, passes until nothing is to do, and what the first one finds. Assumes nothing.
 --
 --   Sweeping .. i bs gs bs′ gs′ == a pass came as far as number i: from marks that are shut, the edges of the vertices below make of its marks what every edge
 --                                 makes of those at its start, and its marks are shut; what is to do again under a number below i was marked in it
 --   Hunted .. bs gs bs′ gs′    == passes were made: from marks of affected vertices that are shut, these are such marks again
-use Rattle.property.proofs.Basics.{_≡_, refl, sym, _∙_, ⊎-elim, true, false, true≢false, cond, List, _++_, List·Memᴰ, List·Memᴰ·not-nil, ℕ, zero, suc, _+_, _-_, _≤_, _<_, ℕ-discrete, zero-add, add-zero, sub-zero, suc-add, append-assoc, arith, length, getD, set, getD-set-other}
+use Rattle.property.proofs.Basics.{_≡_, refl, sym, _∙_, ⊎-elim, true, false, true≢false, cond, List, _++_, List·Memᴰ, List·Memᴰ·not-nil, ℕ, zero, suc, _+_, _-_, _≤_, _<_, ℕ-discrete, zero-add, add-zero, sub-zero, suc-add, append-assoc, arith, length, getD, set, getD-set-other, [], _∷_, ltb, ltb-true, lt-ltb}
 use mathlib.Core.List.{List·Memᴰ·append-cases}
 use Rattle.property.specs.Property.{Property}
 use Rattle.property.proofs.Tests.{is-false, by-test}
@@ -12,16 +12,18 @@ use Rattle.frontier.proofs.Laws.{First, any-some, any-none}
 use Rattle.frontier.proofs.Counts.{count-le}
 use Rattle.graph.specs.Edge.{Edge}
 use Rattle.graph.specs.Index.{own, inOrder, Fit, Own}
+use Rattle.graph.proofs.Tests.{both, and-true}
 use Rattle.graph.proofs.Lists.{at-set}
 use Rattle.graph.proofs.Edges.{leaving-in, in-leaving}
+use Rattle.graph.proofs.Order.{Sound, rules-accept, accept-rules, within}
 use Rattle.graph.proofs.Arcs.{fit-arc, mem-part}
 use Rattle.run.specs.Code.{bits, Marks}
 use Rattle.run.proofs.States.{marks-set}
 use Rattle.theory.proofs.Hops.{count-less}
 use Rattle.affected.specs.Affected.{Named, marked, sweep, affected}
-use Rattle.affected.proofs.Hunt.{sweep-named, closed-exact}
-use Rattle.affected.proofs.Passes.{touches-as, sweep-taken, sweep-append, sweep-still}
-use Rattle.hunt.specs.Code.{fromEnd, Hunting, Counterparts, Fresh, Touched, Shut, SweepDone}
+use Rattle.affected.proofs.Hunt.{same-marks, sweep-named, affected-length, affected-named, all-marked, closed-exact}
+use Rattle.affected.proofs.Passes.{touches-as, sweep-taken, sweep-append, sweep-still, table-order, first-pass}
+use Rattle.hunt.specs.Code.{fromEnd, Hunting, Counterparts, Fresh, Touched, Shut, SweepDone, FirstSweep}
 use Rattle.hunt.proofs.Bits.{bits-length, bits-all}
 
 -- ---- the edges of an index
@@ -141,3 +143,28 @@ module _ {P : Property} {n s : ℕ} {vs is os bs gs bs′ gs′ : List ℕ} (at 
       closed-exact P es fs s vs n (λ e i. inside e i .1) (bits n bs′) (bits-length n bs′ m) (λ t q. z .0 t (sym (bits-all n bs′ m t) ∙ q))
       (λ e i q. bits-all n bs′ m (e .head) ∙ z .1 (e .tail) (inside e i .0) (any-none (waitingOf gs′) none _) e (rw (o (e .tail) (inside e i .0)) (in-leaving (e .tail) i refl))
       (touches-as P fs s vs (bits n bs′) (waitingOf bs′) e (λ y. sym (bits-all n bs′ m (e .tail)) ∙ y) q))
+
+-- ---- the first pass
+
+-- what keeps the rules of n vertices keeps those of more
+sound-more : (n m : ℕ) (es : List Edge) → n ≤ m → Sound n es → Sound m es
+sound-more n m [] l h = tt
+sound-more n m (x ∷ es) l h =
+    let (p, r) = both (ltb (x .tail) n) _ (h .0) in
+    let (q, w) = both (ltb (x .head) n) _ r in
+    let more : (i : ℕ) → ltb i n ≡ true → ltb i m ≡ true = λ i y. lt-ltb i m (let z = ltb-true i n y in omega arith) in
+    (and-true (more (x .tail) p) (and-true (more (x .head) q) w), h .1, sound-more n m es l (h .2))
+
+-- The pass's equation is over all 256 marks and the edges of the index, and an index has a table's edges in the table's order. By either number of vertices
+-- the marks are the closure.
+pub first-sweep : FirstSweep
+first-sweep P n s vs is os bs gs bs′ gs′ es fs a o c none shut d done =
+    let m = done .marks in
+    let sound = rules-accept n es a in
+    let more = sound-more n capacity es (m .few) sound in
+    let all : waitingOf bs′ ≡ affected P es fs s vs capacity =
+    done .swept fs c shut .0 ∙ rw (table-order n is es a o, none) (first-pass P es fs s vs capacity (accept-rules capacity es more) .0 d) in
+    same-marks (bits n bs′) (affected P es fs s vs n) (bits-length n bs′ m ∙ sym (affected-length P es fs s vs n)) (λ t. (
+      λ q. all-marked P es fs s vs n (within n es sound .heads) (affected-named P es fs s vs capacity t (rw all at (sym (bits-all n bs′ m t) ∙ q))),
+      λ q. bits-all n bs′ m t ∙ rw all (all-marked P es fs s vs capacity (within capacity es more .heads) (affected-named P es fs s vs n t q)),
+    ))

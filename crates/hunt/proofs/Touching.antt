@@ -73,8 +73,8 @@ module _ {P : Property} {n s : ℕ} {vs is os : List ℕ} {u : ℕ} {on : Bool} 
     abbrev h : ℕ
     h = arcHead (getD is j 0)
 
-    abbrev hit : Bool
-    hit = marksHead P s vs (waitingOf cs) (getD vs u 0) on (getD is j 0) (getD os j 0)
+    abbrev marking : Bool
+    marking = marksHead P s vs (waitingOf cs) (getD vs u 0) on (getD is j 0) (getD os j 0)
 
     inside : h < n
     inside = fit-arc (hunting .index) u j vertex (omega arith) (omega arith) .1
@@ -83,7 +83,7 @@ module _ {P : Property} {n s : ℕ} {vs is os : List ℕ} {u : ℕ} {on : Bool} 
     stays fs f = sweep-elsewhere P fs s vs u (part is u i (getD is (u + 1) 0 - i)) (λ e m. let z = mem-part is u i (getD is (u + 1) 0 - i) e m in
         let a = z .1 in let b = z .2 in rw (sym (z .3)) (f .loopless u (z .0) vertex (omega arith) (omega arith))) (waitingOf bs)
 
-    module _ (cs′ ks′ : List ℕ) (p : waitingOf cs′ ≡ cond hit (set (waitingOf cs) h true) (waitingOf cs)) (q : waitingOf ks′ ≡ cond hit (set (waitingOf ks) (fromEnd n h) true) (waitingOf ks)) where
+    module _ (cs′ ks′ : List ℕ) (p : waitingOf cs′ ≡ cond marking (set (waitingOf cs) h true) (waitingOf cs)) (q : waitingOf ks′ ≡ cond marking (set (waitingOf ks) (fromEnd n h) true) (waitingOf ks)) where
       one : (fs : List Edge) → Counterparts n fs is os → on ≡ marked (waitingOf cs) u → waitingOf cs′ ≡ mark P fs s vs (waitingOf cs) (edgeOf is u j)
       unfolding mark
       one fs f o =
@@ -97,9 +97,9 @@ module _ {P : Property} {n s : ℕ} {vs is os : List ℕ} {u : ℕ} {on : Bool} 
           let e : getD is (u + 1) 0 - (i - 1) ≡ suc (getD is (u + 1) 0 - i) = omega arith in
           let g : suc (i - 1) ≡ i = omega arith in
           record {
-            marks = marks-if n cs cs′ h hit inside p (at .marks);
-            todo = marks-if n ks ks′ (fromEnd n h) hit (omega (arith, inside)) q (at .todo);
-            grown = grown-then (at .grown) (rw (p, q) (grown-if n h hit (waitingOf cs) (waitingOf ks) inside (omega (arith, inside, at .marks .bits, at .marks .few))
+            marks = marks-if n cs cs′ h marking inside p (at .marks);
+            todo = marks-if n ks ks′ (fromEnd n h) marking (omega (arith, inside)) q (at .todo);
+            grown = grown-then (at .grown) (rw (p, q) (grown-if n h marking (waitingOf cs) (waitingOf ks) inside (omega (arith, inside, at .marks .bits, at .marks .few))
                 (omega (arith, inside, at .todo .bits, at .todo .few)) (λ y. not-true _ (both (not (marked (waitingOf cs) h)) _ y .0))));
             swept = λ fs f o. let z = at .swept fs f o in
                 rw (e, g) (one fs f (o ∙ sym (stays fs f) ∙ ap (λ l. marked l u) (sym z)) ∙ ap (λ l. mark P fs s vs l (edgeOf is u j)) z);

@@ -9,26 +9,33 @@
 --   Counterparts n fs is os      == os has beside each arc what its pair has in fs, and no arc leads to the vertex that it leaves
 --   Fresh n ms ms′ k             == number k stands for a vertex that is marked in ms′ and was not in ms
 --   Grown n ms gs ms′ gs′        == marks ms with gs to do became ms′ and gs′: none was taken away, each new mark is to do, and nothing else is to do anew
---   Touched P n s vs is os u on j k bs gs bs′ gs′ == the k edges of u at places from j on were taken: marks and who is to do grew, and where on says
---                                   whether u is marked, the marks are those of the pass over these edges from last to first
+--   Touched P n s vs is os u on j k bs gs bs′ gs′ == the k edges of u at places from j on were taken: marks and who is to do grew, and where os has the
+--                                   counterparts and on says whether u is marked, the marks are those of the pass over these edges from last to first
 --   Shut P n fs s vs is ms gs    == an edge of a vertex that is not to do has its head marked if it would mark it
---   SweepDone P n s vs is os bs gs bs′ gs′ == a pass was made: from marks that are shut its marks are those of the pass over every edge of the index from
---                                   last to first, and they are shut again; what is to do then was marked in it
+--   SweepDone P n s vs is os bs gs bs′ gs′ == a pass was made: no mark was taken away, and what is to do then was marked in it; where os has the
+--                                   counterparts, from marks that are shut its marks are those of the pass over every edge of the index from last to
+--                                   first, and they are shut again
+--   FirstSweep                   == document 02, Three: a pass from no marks, with the counterparts beside the index of the old edges and with all to do that
+--                                   Shut asks for, finds all affected vertices of the row where each held edge of the old table has its tail above its
+--                                   head: proved as first-sweep
 use mathlib.Core.Path.{_≡_}
 use mathlib.Core.Logic.{_⊎_, _≢_}
 use mathlib.Core.Bool.{Bool, true, false, not, _&&_, _||_}
 use mathlib.Core.List.{List}
 use Prim.Native.Nat.{ℕ, _+_, _-_, _≤_, _<_}
-use lib.ListN.{length, getD}
+use lib.ListN.{length, getD, replicate}
 use lib.Dec.{eqb}
 use Rattle.property.specs.Property.{Property}
-use Rattle.frontier.specs.Waiting.{waitingOf}
+use Rattle.frontier.specs.Waiting.{waitingOf, capacity}
+use Rattle.graph.specs.Refusal.{accept}
 use Rattle.graph.specs.Arc.{arcHead, arcWeight}
 use Rattle.graph.specs.Edge.{Edge}
-use Rattle.graph.specs.Index.{part, own, inOrder, Fit}
-use Rattle.run.specs.Code.{Marks}
+use Rattle.graph.specs.Table.{rules}
+use Rattle.graph.specs.Index.{part, own, inOrder, Fit, Own}
+use Rattle.run.specs.Code.{bits, Marks}
 use Rattle.affected.specs.Net.{lost}
-use Rattle.affected.specs.Affected.{marked, sweep, Closed}
+use Rattle.affected.specs.Affected.{marked, sweep, affected, Closed}
+use Rattle.affected.specs.Hunt.{Descends}
 use Rattle.compare.specs.Code.{Faces}
 
 -- ---- one edge
@@ -81,3 +88,10 @@ pub record SweepDone (P : Property) (n s : ℕ) (vs is os bs gs bs′ gs′ : Li
   pub only : (k : ℕ) → marked (waitingOf gs′) k ≡ true → Fresh n (waitingOf bs) (waitingOf bs′) k
   pub swept : (fs : List Edge) → Counterparts n fs is os → Shut P n fs s vs is (waitingOf bs) (waitingOf gs)
       → (waitingOf bs′ ≡ sweep P fs s vs (inOrder is 0 n) (waitingOf bs)) × Shut P n fs s vs is (waitingOf bs′) (waitingOf gs′)
+
+-- ---- the first pass
+
+abbrev pub FirstSweep : Type 0
+FirstSweep = (P : Property) (n s : ℕ) (vs is os bs gs bs′ gs′ : List ℕ) (es fs : List Edge) → rules n es ≡ accept → Own n is es → Counterparts n fs is os
+    → waitingOf bs ≡ replicate capacity false → Shut P n fs s vs is (waitingOf bs) (waitingOf gs) → Descends P s vs es
+    → SweepDone P n s vs is os bs gs bs′ gs′ → bits n bs′ ≡ affected P es fs s vs n

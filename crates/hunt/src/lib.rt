@@ -1,6 +1,6 @@
 // The hunt for the vertices of a row that a batch affects: the old edges are taken from last to first, pass by pass until one adds none. An edge marks
-// its head where it holds it up and is removed, or its tail is marked. A vertex none of whose edges can add anything is left out of a pass: `todo` has
-// the others. It has them by their number from the far end, n - 1 - u for vertex u, so that the next one to do is the highest.
+// its head where it holds it up, and is removed or has its tail marked. A pass leaves out vertices none of whose edges can add anything: `todo` has at
+// least the others. It has them by their number from the far end, n - 1 - u for vertex u, so that the next one to do is the highest.
 use frontier::Next;
 use frontier::Words;
 use graph::arc;
@@ -148,7 +148,7 @@ pub fn sweep(
     }
 }
 
-// Pass by pass until one adds none: then no vertex is to do.
+// Pass by pass while a vertex is to do: after a pass that adds none, none is.
 pub fn hunt(
     p: u32,
     n: usize,

@@ -41,8 +41,8 @@ pub unmarked : {bs : List Bool} → bs ≡ replicate capacity false → (t : ℕ
 unmarked e t q = false≢true (sym (replicate-at capacity t false) ∙ rw e at q)
 
 -- Where no vertex is marked, an edge marks its head if it is held and removed: then it is listed, so that its tail is to do.
-pub start-shut : {P : Property} (L : Laws P) {n : ℕ} {es fs : List Edge} {ds ds′ : List Bool} (s : ℕ) (vs is xs : List ℕ) {bs : List Bool} → Own n is es
-    → Lists es fs (pairs xs) (before xs) (λ k. after xs k .weight) → length vs ≡ n → bs ≡ replicate capacity false → Raised ds ds′ (Started P s vs xs (pairs xs)) → Shut P n fs s vs is bs ds′
+pub start-shut : {P : Property} (L : Laws P) {n : ℕ} {es fs : List Edge} {gs gs′ : List Bool} (s : ℕ) (vs is xs : List ℕ) {bs : List Bool} → Own n is es
+    → Lists es fs (pairs xs) (before xs) (λ k. after xs k .weight) → length vs ≡ n → bs ≡ replicate capacity false → Raised gs gs′ (Started P s vs xs (pairs xs)) → Shut P n fs s vs is bs gs′
 start-shut {P} L {n} {es} {fs} s vs is xs o d size clear a u h idle e m q =
     let z = both (held P s vs e) _ q in
     let i = leaving-in u es e (rw (o u h) at m) in

@@ -1,4 +1,4 @@
--- What the functions on a row after a batch are told and answer: its changes, and where its rounds start. Assumes nothing.
+-- What the functions on a row after a batch are told and answer: its changes, and where its hunt and its rounds start. Assumes nothing.
 --
 --   Batched n es fs is rs xs     == es are the edges before a batch, none from a vertex to itself, fs those after it, between n vertices: is is an
 --                                   index of es, rs one of the reversed fs, and xs has what the batch changed
