@@ -1,8 +1,10 @@
 // Runs one thing alone on the first network of 256 vertices and 2,048 edges, to count its instructions: open, plain, batch1, batch10,
 // batch100, better1 to better100 and worse1 to worse100 (updates), bettertake1 to worsetake100 (a delete and an insert of the same pairs),
 // fixed (an update that changes nothing), each and eachtake (every edge alone, then the drawn retunes), query1 to query5 (from each vertex
-// in turn), route1 to route5 (of each drawn pair), routefixed (from a vertex to itself), read, readany, readplain, readanyplain, write, writeplain.
-// drawn prints the network and the pairs for route.py.
+// in turn), route1 to route5 (of each drawn pair), routefixed (from a vertex to itself), preview1, preview10, preview100 (of the batches of batch1 ..,
+// each before it, for time from the vertices in turn), digest (of each preview of 10), asked1, asked10, asked100 (the two queries that each of these
+// previews stands for, before and after the batch), read, readany, readplain, readanyplain, write, writeplain. drawn prints the network and the pairs
+// for route.py.
 #include "network.h"
 
 #include <cstdio>
@@ -26,14 +28,33 @@ bool text_once(const std::string &what, Network &w)
 
 bool starts_with(const std::string &what, const char *word) { return what.rfind(word, 0) == 0; }
 
-// as many batches as are timed: 50 of deletes, each undone by one of inserts
 void batches_once(Network &w, uint32_t size)
 {
-    Random r{7};
-    for (int i = 0; i < 50; i++) {
-        auto c = there_and_back(w, size, r);
-        batch(w, c.first);
-        batch(w, c.second);
+    for (auto &c : drawn_batches(w, size))
+        batch(w, c);
+}
+
+// what each of the batches would do, and its digest, before it is done
+void previews_once(Network &w, uint32_t size)
+{
+    Preview p(w.n);
+    uint32_t source = 0;
+    for (auto &c : drawn_batches(w, size)) {
+        preview(w, c, PLATE_TRACK_TIME, source++ % w.n, p);
+        digest(p, w.n, PLATE_TRACK_TIME);
+        batch(w, c);
+    }
+}
+
+// the queries whose differences these previews are
+void asks_once(Network &w, uint32_t size)
+{
+    std::vector<uint32_t> starts(w.n), settled(w.n);
+    uint32_t source = 0;
+    for (auto &c : drawn_batches(w, size)) {
+        query(w, PLATE_TRACK_TIME, source % w.n, starts, settled);
+        batch(w, c);
+        query(w, PLATE_TRACK_TIME, source++ % w.n, starts, settled);
     }
 }
 
@@ -108,6 +129,12 @@ int once(const std::string &what)
         retunes_once(w, every_retune(w), what == "eachtake");
     else if (what == "fixed")
         batch(w, {{PLATE_TRACK_UPDATE, w.tails[0], w.heads[0], w.weights[0]}});
+    else if (starts_with(what, "preview"))
+        previews_once(w, number_in(what));
+    else if (what == "digest")
+        previews_once(w, 10);
+    else if (starts_with(what, "asked"))
+        asks_once(w, number_in(what));
     else if (starts_with(what, "query"))
         queries_once(w, number_in(what));
     else if (what == "routefixed")

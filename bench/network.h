@@ -223,8 +223,45 @@ std::pair<Changes, Changes> there_and_back(const Network &w, uint32_t size, Rand
     return {away, again};
 }
 
-// ---- retunes
+// The 100 batches that are counted: 50 of deletes, each undone by one of inserts.
+std::vector<Changes> drawn_batches(const Network &w, uint32_t size)
+{
+    Random r{7};
+    std::vector<Changes> list;
+    for (int i = 0; i < 50; i++) {
+        auto c = there_and_back(w, size, r);
+        list.push_back(c.first);
+        list.push_back(c.second);
+    }
+    return list;
+}
 
+// ---- previews
+
+// The lists that are lent for a preview.
+struct Preview {
+    std::vector<uint32_t> effects;
+    std::vector<int64_t> moves;
+    explicit Preview(uint32_t n) : effects(n), moves(n) {}
+};
+
+void preview(const Network &w, const Changes &changes, uint32_t property, uint32_t source, Preview &p)
+{
+    uint64_t reply[8];
+    if (plate_track_preview(w.n, w.landmarks.data(), w.landmarks.size(), w.tails.data(), w.tails.size(), w.heads.data(), w.heads.size(), w.weights.data(),
+                            w.weights.size(), w.count, w.forward.data(), w.forward.size(), w.backward.data(), w.backward.size(), changes.data(),
+                            changes.size(), property, source, p.effects.data(), p.effects.size(), p.moves.data(), p.moves.size(), reply, 8))
+        std::abort();
+}
+
+void digest(const Preview &p, uint32_t n, uint32_t property)
+{
+    uint64_t reply[8];
+    if (plate_track_digest(n, property, p.effects.data(), p.effects.size(), p.moves.data(), p.moves.size(), reply, 8))
+        std::abort();
+}
+
+// ---- retunes
 
 // Updates, those that undo them, and a delete and an insert of each pair in one batch, which does what the updates do.
 struct Retune {

@@ -31,7 +31,7 @@ double best(int repeats, int inputs, const std::function<void(int)> &f, const st
     return sum / inputs;
 }
 
-void same(const char *what, const std::vector<uint32_t> &a, const std::vector<uint32_t> &b)
+template <class T = uint32_t> void same(const char *what, const std::vector<T> &a, const std::vector<T> &b)
 {
     if (a != b) {
         std::printf("bench: %s: the results differ\n", what);

@@ -33,6 +33,12 @@ pub const REACH: u32 = 5;
 pub const FORWARD: u32 = 0;
 pub const BACKWARD: u32 = 1;
 
+// what becomes of a vertex, in a preview
+pub const SAME: u32 = 0;
+pub const GAINED: u32 = 1;
+pub const LOST: u32 = 2;
+pub const MOVED: u32 = 3;
+
 // kinds of change
 pub const INSERT: u32 = 1;
 pub const DELETE: u32 = 2;
@@ -96,6 +102,11 @@ pub const READ_COUNT: usize = 1;
 pub const WRITE_LENGTH: usize = 0;
 pub const READ_SOURCES_COUNT: usize = 0;
 pub const ROUTE_VERTICES: usize = 0;
+pub const DIGEST_GAINED: usize = 0;
+pub const DIGEST_LOST: usize = 1;
+pub const DIGEST_BETTER: usize = 2;
+pub const DIGEST_WORSE: usize = 3;
+pub const DIGEST_MOST: usize = 4;
 
 /// The word that stands where there is no route, for a property of 1 to 5.
 pub const fn no_route(property: u32) -> u32 {
@@ -193,6 +204,16 @@ unsafe extern "C" {
         n: u32, tails: *const u32, tails_len: usize, heads: *const u32, heads_len: usize, weights: *const u32, weights_len: usize,
         count: u32, property: u32, source: u32, target: u32, vertices: *mut u32, vertices_len: usize, marks: *mut u32,
         marks_len: usize, reply: *mut u64, reply_len: usize,
+    ) -> u32;
+    fn plate_track_preview(
+        n: u32, landmarks: *const u32, landmarks_len: usize, tails: *const u32, tails_len: usize, heads: *const u32, heads_len: usize,
+        weights: *const u32, weights_len: usize, count: u32, forward: *const u32, forward_len: usize, backward: *const u32,
+        backward_len: usize, changes: *const [u32; 4], changes_len: usize, property: u32, source: u32, effects: *mut u32,
+        effects_len: usize, moves: *mut i64, moves_len: usize, reply: *mut u64, reply_len: usize,
+    ) -> u32;
+    fn plate_track_digest(
+        n: u32, property: u32, effects: *const u32, effects_len: usize, moves: *const i64, moves_len: usize, reply: *mut u64,
+        reply_len: usize,
     ) -> u32;
 }
 
@@ -331,6 +352,33 @@ pub fn route(
         plate_track_route(
             n, at(tails), tails.len(), at(heads), heads.len(), at(weights), weights.len(), count, property, source, target,
             at_mut(vertices), vertices.len(), at_mut(marks), marks.len(), at_mut(reply), reply.len(),
+        )
+    };
+    judged(number, reply)
+}
+
+/// Shows what a batch would do to a property from a source: `effects` gets SAME, GAINED, LOST or MOVED for each vertex, `moves` after minus before.
+pub fn preview(
+    n: u32, landmarks: &[u32], tails: &[u32], heads: &[u32], weights: &[u32], count: u32, forward: &[u32], backward: &[u32],
+    changes: &[[u32; 4]], property: u32, source: u32, effects: &mut [u32], moves: &mut [i64], reply: &mut [u64],
+) -> Result<(), Refused> {
+    let number = unsafe {
+        plate_track_preview(
+            n, at(landmarks), landmarks.len(), at(tails), tails.len(), at(heads), heads.len(), at(weights), weights.len(), count,
+            at(forward), forward.len(), at(backward), backward.len(), at(changes), changes.len(), property, source,
+            at_mut(effects), effects.len(), at_mut(moves), moves.len(), at_mut(reply), reply.len(),
+        )
+    };
+    judged(number, reply)
+}
+
+/// Sums up a preview: how many vertices gained a route, lost it, got better and got worse, and which one loses most.
+pub fn digest(
+    n: u32, property: u32, effects: &[u32], moves: &[i64], reply: &mut [u64],
+) -> Result<(), Refused> {
+    let number = unsafe {
+        plate_track_digest(
+            n, property, at(effects), effects.len(), at(moves), moves.len(), at_mut(reply), reply.len(),
         )
     };
     judged(number, reply)

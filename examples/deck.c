@@ -1,7 +1,12 @@
-/* Deck A of document 01: read from text, opened, asked, changed, asked again, for routes too, written as text. Build and run it by examples/run, which
- * holds what it prints to examples/deck.out. That follows from document 01 and from document 02, One and Two, by hand, where it does not stand there:
+/* Deck A of document 01: read from text, opened, asked, also what a change would do, changed, asked again, for routes too, written as text. Build and
+ * run it by examples/run, which holds what it prints to examples/deck.out. That follows from document 01 and from document 02, One, Two and Four, by
+ * hand, where it does not stand there:
  *
  * From 0, the landmark, the start words are the forward row, best values: 0 is handled in one round, and nothing is bettered.
+ * If 0->1 is lifted, the ways from 0 to 1 and 2 are over 3: for time 9 + 2 + 4 and 9 + 2, 15 - 4 = 11 and 11 - 8 = 3 more; for headroom 2 and 2 in the
+ * place of 4 and 4. There, less is the worse, and of two that lose as much the lower is named. All are reached as before. If 3->2 is lifted, nothing
+ * leads on from 3, and 1 and 2 lose their routes from it; 0 had none. A segment from 3 to 0 gives it one, of 5, and the others have better ones than
+ * over 0.
  * Delete 0->1: in each of the five forward rows 0->1 is tight, and so is 1->2, so 1 and 2 are affected: 10. No backward row has a route but 0's own.
  * Waiting are 1, 2 and 3, the tails of edges into 1 and 2. Round 1: 1 and 2 have no route, 3 betters 2. Round 2: 2 betters 1. Round 3: 1 does not
  * better 2. Two stores in each of the five rows: 10.
@@ -85,6 +90,33 @@ static void show_route(const plate_track_deck *d, uint32_t property, uint32_t so
     printf("\n");
 }
 
+/* Before anything is done, "what would happen if I did this?": for each vertex by how much its value would move, or that it would gain or lose its
+ * route, and the digest. */
+static void show_preview(const plate_track_deck *d, const plate_track_change *changes, size_t len, uint32_t property, uint32_t source)
+{
+    static const char *const words[] = {"same", "gained", "lost"};
+    uint32_t effects[PLATE_TRACK_MOST_VERTICES];
+    int64_t moves[PLATE_TRACK_MOST_VERTICES];
+    uint64_t reply[PLATE_TRACK_REPLY_WORDS];
+    uint32_t number = plate_track_deck_preview(d, changes, len, property, source, effects, d->n, moves, d->n, reply);
+    if (refused("preview", number, reply))
+        return;
+    printf("  from %" PRIu32 "  %-9s", source, names[property - 1]);
+    for (uint32_t v = 0; v < d->n; v++)
+        if (effects[v] == PLATE_TRACK_MOVED)
+            printf(" %+10" PRId64, moves[v]);
+        else
+            printf(" %10s", words[effects[v]]);
+    if (refused("digest", plate_track_digest(d->n, property, effects, d->n, moves, d->n, reply, PLATE_TRACK_REPLY_WORDS), reply))
+        return;
+    printf("   gained %" PRIu64 ", lost %" PRIu64 ", better %" PRIu64 ", worse %" PRIu64, reply[PLATE_TRACK_DIGEST_GAINED],
+        reply[PLATE_TRACK_DIGEST_LOST], reply[PLATE_TRACK_DIGEST_BETTER], reply[PLATE_TRACK_DIGEST_WORSE]);
+    if (reply[PLATE_TRACK_DIGEST_MOST] < d->n)
+        printf("; %" PRIu64 " loses most\n", reply[PLATE_TRACK_DIGEST_MOST]);
+    else
+        printf("; none loses\n");
+}
+
 static void change(plate_track_deck *d, const char *what, const plate_track_change *changes, size_t len)
 {
     uint64_t reply[PLATE_TRACK_REPLY_WORDS];
@@ -107,6 +139,7 @@ int main(void)
     static plate_track_deck d;
     const uint32_t landmarks[] = {0};
     const plate_track_change take = {PLATE_TRACK_DELETE, 0, 1, 0};
+    const plate_track_change cut = {PLATE_TRACK_DELETE, 3, 2, 0}, way_back = {PLATE_TRACK_INSERT, 3, 0, 5};
     const plate_track_change put_back = {PLATE_TRACK_INSERT, 0, 1, 4};
     const plate_track_change slower = {PLATE_TRACK_UPDATE, 0, 1, 5}, missing = {PLATE_TRACK_UPDATE, 1, 0, 5};
     const plate_track_change twice[] = {take, take};
@@ -118,6 +151,16 @@ int main(void)
         return 1;
     printf("Deck A is open\n");
     ask_all(&d, 0);
+    printf("what if 0->1 is lifted?\n");
+    show_preview(&d, &take, 1, PLATE_TRACK_TIME, 0);
+    show_preview(&d, &take, 1, PLATE_TRACK_HEADROOM, 0);
+    show_preview(&d, &take, 1, PLATE_TRACK_REACH, 0);
+    printf("what if 3->2 is lifted?\n");
+    show_preview(&d, &cut, 1, PLATE_TRACK_TIME, 3);
+    printf("what if 3->0 5 is laid?\n");
+    show_preview(&d, &way_back, 1, PLATE_TRACK_TIME, 3);
+    printf("what if 0->1 is lifted twice?\n");
+    show_preview(&d, twice, 2, PLATE_TRACK_TIME, 0);
     change(&d, "delete 0->1 twice", twice, 2);
     change(&d, "delete 0->1", &take, 1);
     ask_all(&d, 0);

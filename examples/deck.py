@@ -1,9 +1,11 @@
-"""Deck A of document 01 from Python: read from text, opened, asked, changed, asked again, for routes too, written as text. Run it by examples/run."""
+"""Deck A of document 01 from Python: read from text, opened, asked, also what a change would do, changed, asked again, for routes too, written as text.
+Run it by examples/run."""
 
 import plate_track
-from plate_track import DELETE, GREATEST, HEADROOM, INSERT, REACH, TIME, UPDATE, WORST, Deck, Refused
+from plate_track import DELETE, GREATEST, HEADROOM, INSERT, MOVED, REACH, TIME, UPDATE, WORST, Deck, Refused
 
 NAMES = ["time", "handovers", "headroom", "worst", "reach"]
+EFFECTS = ["same", "gained", "lost"]
 
 
 def ask(deck, prop, source):
@@ -23,6 +25,20 @@ def show_route(deck, prop, source, target):
     print(f"  from {source} to {target}  {NAMES[prop - 1]:<9} ", *vertices, "  marks", *marks, end="".join(setting[-1:]) + "\n")
 
 
+def show_preview(deck, prop, source, *changes):
+    """Before anything is done, "what would happen if I did this?": for each vertex by how much its value would move, or that it would gain or lose its
+    route, and the digest."""
+    try:
+        effects, moves, digest = deck.preview(changes, prop, source)
+    except Refused as refused:
+        print(f"preview: {refused}")
+        return
+    cells = "".join(f" {f'{move:+}' if effect == MOVED else EFFECTS[effect]:>10}" for effect, move in zip(effects, moves))
+    counts = f"gained {digest.gained}, lost {digest.lost}, better {digest.better}, worse {digest.worse}"
+    most = f"{digest.most} loses most" if digest.most < deck.n else "none loses"
+    print(f"  from {source}  {NAMES[prop - 1]:<9}{cells}   {counts}; {most}")
+
+
 def change(deck, what, *changes):
     try:
         report = deck.batch(changes)
@@ -40,6 +56,15 @@ deck.open([0])
 print("Deck A is open")
 for p in range(TIME, plate_track.PROPERTIES + 1):
     ask(deck, p, 0)
+print("what if 0->1 is lifted?")
+for p in (TIME, HEADROOM, REACH):
+    show_preview(deck, p, 0, (DELETE, 0, 1, 0))
+print("what if 3->2 is lifted?")
+show_preview(deck, TIME, 3, (DELETE, 3, 2, 0))
+print("what if 3->0 5 is laid?")
+show_preview(deck, TIME, 3, (INSERT, 3, 0, 5))
+print("what if 0->1 is lifted twice?")
+show_preview(deck, TIME, 0, (DELETE, 0, 1, 0), (DELETE, 0, 1, 0))
 change(deck, "delete 0->1 twice", (DELETE, 0, 1, 0), (DELETE, 0, 1, 0))
 change(deck, "delete 0->1", (DELETE, 0, 1, 0))
 for p in range(TIME, plate_track.PROPERTIES + 1):

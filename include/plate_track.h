@@ -1,18 +1,18 @@
 /* Plate track: routes on a directed graph of up to 256 vertices and 2,048 weighted edges, landmark rows that are kept up to date
- * while edges come, go and change their weights in batches, queries from any vertex, and the route behind a value.
+ * while edges come, go and change their weights in batches, queries from any vertex, the route behind a value, and what a batch would do.
  *
  * Every plate_track_ function of the archive is proved to meet its contract (crates/plate_track). Nothing is allocated and nothing is kept
- * between calls: the caller lends all memory. PLATE_TRACK_STACK_ below has the stack of each call; none needs 128 KiB.
+ * between calls: the caller lends all memory. PLATE_TRACK_STACK_ below has the stack of each call; none needs 192 KiB.
  * plate_track_deck.h holds a network and its memory in one struct and keeps the count.
  *
  * WORDS. Here, and in document 01: vertex = station, edge = segment, weight = figure, landmark = post, forward = outward, backward =
  * homeward, schedule = picks, affected = suspect, unsettled = restless, refused = turned back, insert = add, delete = take; update is document
- * 02's kind 3, a retuned segment. Words have 32 bits, those of a reply 64.
+ * 02's kind 3, a retuned segment. Words have 32 bits, those of a reply 64; moves of a preview are signed numbers of 64 bits.
  *
  * LISTS. A list is a pointer and a length in elements, in that order. With length 0 it is empty, and any pointer will do, null too; with
  * another length the pointer points to that many elements, aligned as C aligns them. A list that a call may write (not const here) overlaps no
- * other list of the same call; so `starts` and `settled` of a query are two lists, and so are `vertices` and `marks` of a route. Nothing can check
- * this: it is what the caller owes. Everything else may be any value.
+ * other list of the same call; so `starts` and `settled` of a query are two lists, and so are `vertices` and `marks` of a route, `effects` and
+ * `moves` of a preview. Nothing can check this: it is what the caller owes. Everything else may be any value.
  *
  * NETWORK. Vertices are 0 to n - 1, n from 1 to 256. The edge table is three lists, tails, heads and weights, of at least 2,048
  * words EACH, however few edges there are, and a count of records. Records ascend by tail, then head; no pair stands twice; tail and
@@ -30,10 +30,10 @@
  *
  * REPLIES. A call, which is every function here with a reply list, returns 0 where it is accepted, and else the number of its refusal (below).
  * `reply` is a list of at least 8 words; with fewer, every call returns PLATE_TRACK_SHORT and looks at nothing else. Accepted, reply[0] and on
- * hold the words that are named at the function, and the rest stay. Refused, reply[0] is the place (an index, a line, or 0), the rest stay, and NO other lent memory
- * has changed. The lowest number that applies is given, but for two: plate_track_write judges the length of its buffer last; and in a
- * batch, after 1 to 4, the first change with any of 6 to 12 decides, by its lowest number, against the table as earlier changes left it, and
- * its index is the place.
+ * hold the words that are named at the function, and the rest stay. Refused, reply[0] is the place (an index, a line, or 0), the rest stay, and NO
+ * other lent memory has changed. The lowest number that applies is given, but for two: plate_track_write judges the length of its buffer last; and
+ * in a batch, after 1 to 4, the first change with any of 6 to 12 decides, by its lowest number, against the table as earlier changes left it, and
+ * its index is the place. So it does in a preview, after 1 to 5 and a bad source.
  *
  * TEXT. Network text is the 9th DIMACS Challenge's shortest-path layout: a line `p sp N M`, then M lines `a TAIL HEAD WEIGHT` in any
  * order, and comments, `c` alone or `c ` and any bytes, anywhere. N is 1 to 256, M at most 2,048 and at most N x (N - 1). A source file has
@@ -114,6 +114,9 @@ enum {
     PLATE_TRACK_NO_ROUTE = 15   /* there is no route from source to target */
 };
 
+/* What becomes of a vertex, in a preview. */
+enum { PLATE_TRACK_SAME = 0, PLATE_TRACK_GAINED = 1, PLATE_TRACK_LOST = 2, PLATE_TRACK_MOVED = 3 };
+
 /* Kinds of change. */
 enum { PLATE_TRACK_INSERT = 1, PLATE_TRACK_DELETE = 2, PLATE_TRACK_UPDATE = 3 };
 
@@ -128,6 +131,7 @@ enum { PLATE_TRACK_READ_VERTICES, PLATE_TRACK_READ_COUNT };
 enum { PLATE_TRACK_WRITE_LENGTH };
 enum { PLATE_TRACK_READ_SOURCES_COUNT };
 enum { PLATE_TRACK_ROUTE_VERTICES };
+enum { PLATE_TRACK_DIGEST_GAINED, PLATE_TRACK_DIGEST_LOST, PLATE_TRACK_DIGEST_BETTER, PLATE_TRACK_DIGEST_WORSE, PLATE_TRACK_DIGEST_MOST };
 
 /* Bytes of stack that each call takes at most, at the greatest sizes; measured (tests/stack). Where the C library is bound lazily, the first call
  * that reaches one of its functions takes up to 4 KiB more, once, for the dynamic linker. */
@@ -141,7 +145,9 @@ enum {
     PLATE_TRACK_STACK_READ = 28 * 1024,
     PLATE_TRACK_STACK_WRITE = 256,
     PLATE_TRACK_STACK_READ_SOURCES = 2 * 1024,
-    PLATE_TRACK_STACK_ROUTE = 14 * 1024
+    PLATE_TRACK_STACK_ROUTE = 14 * 1024,
+    PLATE_TRACK_STACK_PREVIEW = 188 * 1024,
+    PLATE_TRACK_STACK_DIGEST = 256
 };
 
 /* The word of a refusal number; in parentheses document 01's, where it is another. */
@@ -318,6 +324,38 @@ uint32_t plate_track_route(
     uint32_t target,
     uint32_t *vertices, size_t vertices_len,
     uint32_t *marks, size_t marks_len,
+    uint64_t *reply, size_t reply_len);
+
+/* Shows what a batch would do to one property from one source, and writes nothing of the network: it is the batch on a copy, and a query before and
+ * after, without a schedule. `effects` gets for each vertex PLATE_TRACK_SAME, _GAINED (it has a route after the batch and none before), _LOST or _MOVED;
+ * `moves` gets the value after minus the value before where it has a route before and after, else 0. Both have at least n entries, and entries past
+ * them stay. A batch that would be refused is refused by the same number and place.
+ * The reply has no words. Numbers: 1 to 5, 6 (the source, place 0), then 6 to 12 of the batch's changes, 13. */
+uint32_t plate_track_preview(
+    uint32_t n,
+    const uint32_t *landmarks, size_t landmarks_len,
+    const uint32_t *tails, size_t tails_len,
+    const uint32_t *heads, size_t heads_len,
+    const uint32_t *weights, size_t weights_len,
+    uint32_t count,
+    const uint32_t *forward, size_t forward_len,
+    const uint32_t *backward, size_t backward_len,
+    const plate_track_change *changes, size_t changes_len,
+    uint32_t property,
+    uint32_t source,
+    uint32_t *effects, size_t effects_len,
+    int64_t *moves, size_t moves_len,
+    uint64_t *reply, size_t reply_len);
+
+/* Sums up the two lists of a preview of that property, each of at least n entries: how many vertices gained a route, lost it, moved for the better and
+ * moved for the worse, and which vertex loses most. A vertex that lost its route loses more than one that moved; of several that lose as much it is
+ * the lowest.
+ * reply: gained, lost, better, worse, and that vertex, or n where none loses. Numbers: 1, 2, 5. */
+uint32_t plate_track_digest(
+    uint32_t n,
+    uint32_t property,
+    const uint32_t *effects, size_t effects_len,
+    const int64_t *moves, size_t moves_len,
     uint64_t *reply, size_t reply_len);
 
 #ifdef __cplusplus

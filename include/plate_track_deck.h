@@ -3,11 +3,11 @@
  *
  * A deck takes about 64 KiB: keep it in static memory or allocate it. Its fields may be read at any time and are written by these functions
  * alone. Begin with plate_track_deck_read or plate_track_deck_clear, then plate_track_deck_open; until it is opened there are no landmarks, and
- * what needs them (batch, query, row, settled) is refused: with PLATE_TRACK_LANDMARKS, where no lower number applies.
+ * what needs them (batch, query, preview, row, settled) is refused: with PLATE_TRACK_LANDMARKS, where no lower number applies.
  *
  * Each function but plate_track_deck_clear returns the number of the call's refusal, 0 where accepted. `reply` is 8 words of the caller's,
  * written as by the call of the same name; a refused call changes nothing in the deck. Functions of a const deck can run on several threads at
- * once, each with memory of its own for whatever it writes: reply, starts, settled, vertices, marks, landmarks, row, text, sources. */
+ * once, each with memory of its own for whatever it writes: reply, starts, settled, vertices, marks, effects, moves, landmarks, row, text, sources. */
 #ifndef PLATE_TRACK_DECK_H
 #define PLATE_TRACK_DECK_H
 
@@ -113,6 +113,17 @@ static inline uint32_t plate_track_deck_route(
     return plate_track_route(
         d->n, PLATE_TRACK_DECK_TABLE(d), d->count, property, source, target, vertices, vertices_len, marks, marks_len, reply,
         PLATE_TRACK_REPLY_WORDS);
+}
+
+/* Shows what a batch would do to a property from a source: two lists of at least n entries get what becomes of each vertex and by how much it moves.
+ * The deck stays as it is. plate_track_digest sums them up. */
+static inline uint32_t plate_track_deck_preview(
+    const plate_track_deck *d, const plate_track_change *changes, size_t changes_len, uint32_t property, uint32_t source, uint32_t *effects,
+    size_t effects_len, int64_t *moves, size_t moves_len, uint64_t *reply)
+{
+    return plate_track_preview(
+        d->n, d->landmarks, d->landmarks_len, PLATE_TRACK_DECK_TABLE(d), d->count, PLATE_TRACK_DECK_ROWS(d), changes, changes_len, property, source,
+        effects, effects_len, moves, moves_len, reply, PLATE_TRACK_REPLY_WORDS);
 }
 
 /* Looks a row up: *row points to its n words in the deck, and stays where refused. */

@@ -1,8 +1,9 @@
 """The calls of include/plate_track.h, which says what each does. Parameters have the header's order, without the reply list, which is returned.
 
 A list is anything with the buffer protocol whose elements have the right width and no sign: array.array('I'), a numpy array of uint32, a
-memoryview, bytes where a text is read. It is lent as it is, without a copy; one that the call writes must not overlap another. A refused call
-raises Refused. `count` is the present count: one that is too small is not found out. plate_track.Deck keeps it."""
+memoryview, bytes where a text is read; moves alone have a sign, and 64 bits: array.array('q'), a numpy array of int64. It is lent as it is, without
+a copy; one that the call writes must not overlap another. A refused call raises Refused. `count` is the present count: one that is too small is not
+found out. plate_track.Deck keeps it."""
 
 from typing import NamedTuple
 
@@ -12,6 +13,8 @@ U32 = Number()
 WORDS = List(4)
 WRITTEN_WORDS = List(4, writes=True)
 CHANGES = List(4, group=4)
+MOVES = List(8, signed=True)
+WRITTEN_MOVES = List(8, writes=True, signed=True)
 BYTES = List(1)
 WRITTEN_BYTES = List(1, writes=True)
 
@@ -46,6 +49,17 @@ class Size(NamedTuple):
 
     vertices: int
     count: int
+
+
+class Digest(NamedTuple):
+    """A preview summed up: how many vertices gained a route, lost it, moved for the better and moved for the worse, and the one that loses most, n
+    where none loses."""
+
+    gained: int
+    lost: int
+    better: int
+    worse: int
+    most: int
 
 
 class _Told:
@@ -133,3 +147,17 @@ def route(
 ) -> _Told():  # fmt: skip
     """Writes the vertices of the route behind a value, and for each of its edges whether it set the value (1) or passed it on (0): how many
     vertices there are."""
+
+
+@call
+def preview(
+    n: U32, landmarks: WORDS, tails: WORDS, heads: WORDS, weights: WORDS, count: U32, forward: WORDS, backward: WORDS, changes: CHANGES, property: U32,
+    source: U32, effects: WRITTEN_WORDS, moves: WRITTEN_MOVES
+) -> _nothing:  # fmt: skip
+    """Shows what changes would do to a property from a source, and applies none: `effects` gets for each vertex SAME, GAINED, LOST or MOVED, `moves` the
+    value after minus the value before where it has a route before and after, else 0."""
+
+
+@call
+def digest(n: U32, property: U32, effects: WORDS, moves: MOVES) -> _Told(Digest):
+    """Sums up the two lists of a preview of that property."""

@@ -20,6 +20,9 @@ TIME, HANDOVERS, HEADROOM, WORST, REACH = 1, 2, 3, 4, 5
 # sides
 FORWARD, BACKWARD = 0, 1
 
+# what becomes of a vertex, in a preview
+SAME, GAINED, LOST, MOVED = 0, 1, 2, 3
+
 # kinds of change
 INSERT, DELETE, UPDATE = 1, 2, 3
 

@@ -24,6 +24,15 @@ def copied(name, values, most):
     return array("I", list(islice(values, most + 1)))
 
 
+def change_words(changes):
+    """Changes as a list of words, four for each; a buffer as it is."""
+    try:
+        return memoryview(changes)
+    except TypeError:
+        flat = [word for kind, tail, head, weight in islice(changes, MOST_CHANGES + 1) for word in (kind, tail, head, weight)]
+        return copied("changes", flat, len(flat))
+
+
 class Answer(NamedTuple):
     """A query's answer: n values, n start words, and what the run did."""
 
@@ -49,8 +58,18 @@ class Route(NamedTuple):
     marks: list
 
 
+class Preview(NamedTuple):
+    """What a batch would do to a property from a source: for each vertex its effect, which is SAME, GAINED (it has a route after the batch and none before),
+    LOST or MOVED, and its move, the value after minus the value before, 0 where it has no route before or after. The digest sums them up."""
+
+    effects: list
+    moves: list
+    digest: calls.Digest
+
+
 class Deck:
-    """Vertices 0 to n - 1 and directed edges (tail, head, weight), in any order. Open it with landmarks before it is queried or changed.
+    """Vertices 0 to n - 1 and directed edges (tail, head, weight), in any order. Open it with landmarks before it is queried or changed, and
+    before a preview.
 
     Its lists (landmarks, tails, heads, weights, forward, backward), n and count may be read; only its methods write them. What is wrong with
     n, edges or landmarks is refused where the library first sees it, as by `open`. A refused call changes nothing."""
@@ -125,14 +144,17 @@ class Deck:
     def batch(self, changes):
         """Applies changes (kind, tail, head, weight), all or none: a Report. A kind is INSERT, DELETE (with weight 0) or UPDATE, which gives the edge
         of a pair another weight. They may be a buffer of words, four for each."""
-        try:
-            changes = memoryview(changes)
-        except TypeError:
-            changes = [word for kind, tail, head, weight in islice(changes, MOST_CHANGES + 1) for word in (kind, tail, head, weight)]
-            changes = copied("changes", changes, len(changes))
-        report = calls.batch(*self._network(), changes)
+        report = calls.batch(*self._network(), change_words(changes))
         self.count = report.count
         return report
+
+    def preview(self, changes, property, source):
+        """What a batch of these changes, given as `batch` takes them, would do to a property from a source: a Preview. The deck stays as it is. After a bad
+        property or source, what `batch` would refuse is refused by the same number and place."""
+        room = min(self.n, MOST_VERTICES)
+        effects, moves = words(room), array("q", bytes(8 * room))
+        calls.preview(*self._network(), change_words(changes), property, source, effects, moves)
+        return Preview(effects.tolist(), moves.tolist(), calls.digest(self.n, property, effects, moves))
 
     def row(self, side, landmark, property):
         """The n words of a landmark's row, as a part of the deck's own list that can't be written: a batch shows in it. Another `open` makes other

@@ -61,16 +61,17 @@ class Number(NamedTuple):
 
 
 class List(NamedTuple):
-    """A list of elements, each of so many unsigned numbers of so many bytes; lent as a pointer and a length in elements."""
+    """A list of elements, each of so many numbers of so many bytes, with or without a sign; lent as a pointer and a length in elements."""
 
     width: int
     writes: bool = False
     group: int = 1
+    signed: bool = False
 
     @property
     def spelling(self):
         """As the exported function has it."""
-        element = f"u{8 * self.width}"
+        element = f"{'i' if self.signed else 'u'}{8 * self.width}"
         element = element if self.group == 1 else f"[{element}; {self.group}]"
         return f"&{'mut ' if self.writes else ''}[{element}]"
 
@@ -104,8 +105,9 @@ def _lent(name, kind, thing):
         raise TypeError(f"{name}: {error}") from error
     try:
         form = (view.format or b"B").decode().lstrip("@=<")
-        if form not in ("B", "H", "I", "L", "Q", "N") or view.itemsize != kind.width:
-            raise TypeError(f"{name}: unsigned elements of {8 * kind.width} bits are needed, and these are {form!r} of {8 * view.itemsize}")
+        sign, forms = ("signed", "bhilqn") if kind.signed else ("unsigned", "BHILQN")
+        if form not in list(forms) or view.itemsize != kind.width:
+            raise TypeError(f"{name}: {sign} elements of {8 * kind.width} bits are needed, and these are {form!r} of {8 * view.itemsize}")
         if view.len % (kind.width * kind.group):
             raise ValueError(f"{name}: {view.len // kind.width} words are no whole number of elements of {kind.group}")
         if kind.group > 1 and view.ndim > 1 and view.shape[view.ndim - 1] != kind.group:

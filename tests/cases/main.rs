@@ -1,4 +1,4 @@
-//! Cases worked by hand from document 01 and from requests One and Two of document 02, one a line, in networks.txt and texts.txt; README.md has their
+//! Cases worked by hand from document 01 and from requests One, Two and Four of document 02, one a line, in networks.txt and texts.txt; README.md has their
 //! layout. Each is made through the archive and through the reference of tests/differential: either must answer what the line says, and both must leave
 //! the same in every lent list. Prints how many cases of each group did, and each line that did not.
 
@@ -19,8 +19,8 @@ use reference::{Network, M};
 const FILES: [(&str, &str); 2] = [("networks.txt", include_str!("networks.txt")), ("texts.txt", include_str!("texts.txt"))];
 
 /// The words that a line may say of what is lent; those of the second list have an index.
-const NAMES: &str = " full widest ascending descending n count landmarks tails heads weights forward backward rows open delete property source schedule starts settled changes k side landmark room said lines sources target vertices marks reply ";
-const PLACED: &str = " record change forward backward ";
+const NAMES: &str = " full widest ascending descending n count landmarks tails heads weights forward backward rows open delete property source schedule starts settled changes k side landmark room said lines sources target vertices marks effects moves reply ";
+const PLACED: &str = " record change forward backward effects moves ";
 
 // ---- lines
 
@@ -57,26 +57,42 @@ fn call_named(name: &str) -> Option<Call> {
         "write" => Call::Write,
         "sources" => Call::ReadSources,
         "route" => Call::Route,
+        "preview" => Call::Preview,
+        "digest" => Call::Digest,
         _ => return None,
     })
 }
 
-fn number(word: &str) -> u32 {
+/// A number of 64 bits, with a sign where it is below 0.
+fn signed(word: &str) -> i64 {
     if word == "M" {
-        return M;
+        return i64::from(M);
     }
     word.parse().unwrap_or_else(|_| panic!("no number: {word:?}"))
 }
 
 /// `0*7,4` is seven zeros and a 4; `1..3` is 1, 2, 3, and `3..1` the same downward.
-fn numbers(list: &str) -> Vec<u32> {
+fn signed_numbers(list: &str) -> Vec<i64> {
     let part = |p: &str| match (p.split_once('*'), p.split_once("..")) {
-        (Some((v, k)), _) => vec![number(v); number(k) as usize],
-        (_, Some((a, b))) if number(a) > number(b) => (number(b)..=number(a)).rev().collect(),
-        (_, Some((a, b))) => (number(a)..=number(b)).collect(),
-        _ => vec![number(p)],
+        (Some((v, k)), _) => vec![signed(v); number(k) as usize],
+        (_, Some((a, b))) if signed(a) > signed(b) => (signed(b)..=signed(a)).rev().collect(),
+        (_, Some((a, b))) => (signed(a)..=signed(b)).collect(),
+        _ => vec![signed(p)],
     };
     list.split(',').filter(|p| !p.is_empty()).flat_map(part).collect()
+}
+
+/// A number that is a word.
+fn as_word(x: i64) -> u32 {
+    x.try_into().unwrap_or_else(|_| panic!("no word: {x}"))
+}
+
+fn number(word: &str) -> u32 {
+    as_word(signed(word))
+}
+
+fn numbers(list: &str) -> Vec<u32> {
+    signed_numbers(list).into_iter().map(as_word).collect()
 }
 
 fn hex(digit: Option<u8>) -> u8 {
@@ -186,8 +202,12 @@ impl Line {
     }
 
     /// The words that have this name and an index.
+    fn placed_signed<'a>(&'a self, name: &'a str) -> impl Iterator<Item = (usize, Vec<i64>)> + 'a {
+        self.set.iter().filter(move |w| w.name == name).filter_map(|w| w.index.map(|i| (i, signed_numbers(&w.value))))
+    }
+
     fn placed<'a>(&'a self, name: &'a str) -> impl Iterator<Item = (usize, Vec<u32>)> + 'a {
-        self.set.iter().filter(move |w| w.name == name).filter_map(|w| w.index.map(|i| (i, numbers(&w.value))))
+        self.placed_signed(name).map(|(i, list)| (i, list.into_iter().map(as_word).collect()))
     }
 
     fn records(&self) -> Vec<[u32; 3]> {
@@ -273,10 +293,18 @@ impl Line {
         for (i, word) in self.placed("backward") {
             w.backward[i] = word[0];
         }
-        let answer = |name: &str| vec![7; self.number(name, self.number("n", w.n).min(257)) as usize];
-        let lists = ["starts", "settled", "vertices", "marks"].map(answer);
+        let length = |name: &str| self.number(name, w.n.min(257)) as usize;
+        let lists = ["starts", "settled", "vertices", "marks", "effects"].map(|name| vec![7; length(name)]);
+        let moves = vec![-7; length("moves")];
         let mut c = Case::new(self.call, w);
-        [c.starts, c.settled, c.vertices, c.marks] = lists;
+        [c.starts, c.settled, c.vertices, c.marks, c.effects] = lists;
+        c.moves = moves;
+        for (i, entries) in self.placed("effects") {
+            c.effects[i..i + entries.len()].copy_from_slice(&entries);
+        }
+        for (i, entries) in self.placed_signed("moves") {
+            c.moves[i..i + entries.len()].copy_from_slice(&entries);
+        }
         c.reply.truncate(self.number("reply", 8) as usize);
         c.property = self.number("property", 1);
         c.source = self.number("source", 0);
@@ -286,7 +314,7 @@ impl Line {
         c.side = self.number("side", 0);
         c.landmark = self.number("landmark", 0);
         match self.call {
-            Call::Batch => c.changes = self.changes(),
+            Call::Batch | Call::Preview => c.changes = self.changes(),
             Call::Write => c.text = vec![7; self.number("room", 49) as usize],
             Call::Read => {
                 c.text = self.text(c.network.n);
@@ -328,9 +356,9 @@ impl Line {
                 let read = (0..after.reply[1] as usize).all(|i| [after.network.tails[i], after.network.heads[i], after.network.weights[i]] == records[i]);
                 (!read).then(|| "other records".into())
             }
-            (reply, "") if reply.starts_with(|c: char| c.is_ascii_digit()) => unlike_words("reply", 0, &numbers(reply), &list(after, "reply"), None),
+            (reply, "") if reply.starts_with(|c: char| c.is_ascii_digit()) => unlike_words("reply", 0, &signed_numbers(reply), &list(after, "reply"), None),
             (name, value) => {
-                let want = if value.starts_with('"') { bytes(value).into_iter().map(u32::from).collect() } else { numbers(value) };
+                let want = if value.starts_with('"') { bytes(value).into_iter().map(i64::from).collect() } else { signed_numbers(value) };
                 let was = w.index.is_none().then(|| list(before, name));
                 unlike_words(name, w.index.unwrap_or(0), &want, &list(after, name), was)
             }
@@ -339,7 +367,7 @@ impl Line {
 }
 
 /// Where a list has other words than those wanted from an index on, or past them other words than it had.
-fn unlike_words(name: &str, from: usize, want: &[u32], is: &[u32], was: Option<Vec<u32>>) -> Option<String> {
+fn unlike_words(name: &str, from: usize, want: &[i64], is: &[i64], was: Option<Vec<i64>>) -> Option<String> {
     let end = from + want.len();
     if is[from..end] != *want {
         return Some(format!("{name} from {from} on is {:?}", &is[from..end]));
@@ -348,11 +376,13 @@ fn unlike_words(name: &str, from: usize, want: &[u32], is: &[u32], was: Option<V
 }
 
 /// A list by its name, as plain numbers.
-fn list(c: &Case, name: &str) -> Vec<u32> {
+fn list(c: &Case, name: &str) -> Vec<i64> {
     let w = &c.network;
     let words = match name {
-        "reply" => return c.reply.iter().map(|&x| x as u32).collect(),
-        "text" => return c.text.iter().map(|&b| u32::from(b)).collect(),
+        "reply" => return c.reply.iter().map(|&x| x as i64).collect(),
+        "text" => return c.text.iter().map(|&b| i64::from(b)).collect(),
+        "moves" => return c.moves.clone(),
+        "effects" => &c.effects,
         "starts" => &c.starts,
         "settled" => &c.settled,
         "sources" => &c.sources,
@@ -365,7 +395,7 @@ fn list(c: &Case, name: &str) -> Vec<u32> {
         "backward" => &w.backward,
         _ => panic!("no list {name:?}"),
     };
-    words.clone()
+    words.iter().map(|&x| i64::from(x)).collect()
 }
 
 // ---- the two sides

@@ -1,5 +1,5 @@
 /* What plate_track.h gives beside the calls, and plate_track_deck.h: each function, accepted and refused, on Deck A. The expected words are
- * documents 01's and 02's or follow from 01 and from 02, One and Two, by hand. Exit status 1 where one differs. Compiled as C11 and as C++17. */
+ * documents 01's and 02's or follow from 01 and from 02, One, Two and Four, by hand. Exit status 1 where one differs. Compiled as C11 and as C++17. */
 #include "plate_track_deck.h"
 
 #include <pthread.h>
@@ -10,6 +10,8 @@ static int bad = 0;
 static uint64_t reply[PLATE_TRACK_REPLY_WORDS];
 static uint32_t starts[PLATE_TRACK_MOST_VERTICES], settled[PLATE_TRACK_MOST_VERTICES];
 static uint32_t vertices[5], marks[5]; /* a word more than a route of Deck A needs */
+static uint32_t effects[5]; /* and an entry more than a preview needs */
+static int64_t moves[5];
 static const uint32_t M = PLATE_TRACK_GREATEST;
 static const uint32_t zero[] = {0};
 
@@ -55,6 +57,30 @@ static uint32_t find(const plate_track_deck *d, uint32_t property, uint32_t sour
 static int lists_stay(void)
 {
     return are(vertices, 7, 7, 7, 7) && vertices[4] == 7 && are(marks, 7, 7, 7, 7) && marks[4] == 7;
+}
+
+static uint32_t foresee(const plate_track_deck *d, const plate_track_change *changes, size_t len, uint32_t property, uint32_t source)
+{
+    for (int i = 0; i < 5; i++) {
+        effects[i] = 7;
+        moves[i] = -7;
+    }
+    for (int i = 0; i < PLATE_TRACK_REPLY_WORDS; i++)
+        reply[i] = 7;
+    return plate_track_deck_preview(d, changes, len, property, source, effects, 5, moves, 5, reply);
+}
+
+/* What becomes of each vertex, and by how much it moves; the fifth entries are as they were. */
+static int shows(const uint32_t *effect, const int64_t *move)
+{
+    return memcmp(effects, effect, 4 * sizeof *effect) == 0 && effects[4] == 7 && memcmp(moves, move, 4 * sizeof *move) == 0 && moves[4] == -7;
+}
+
+static int shows_nothing(void)
+{
+    static const uint32_t sevens[] = {7, 7, 7, 7};
+    static const int64_t less_sevens[] = {-7, -7, -7, -7};
+    return shows(sevens, less_sevens);
 }
 
 /* The trap that the deck closes: after an insert, a query with the count from before is accepted and misses the new edge. */
@@ -162,6 +188,95 @@ static void no_routes(void)
     check(memcmp(&d, &before, sizeof d) == 0, "no route changed the deck");
 }
 
+/* What a batch would do to Deck A, by property, and its digest: gained, lost, better, worse, and the vertex that loses most. */
+struct foreseen {
+    const plate_track_change *changes;
+    size_t len;
+    uint32_t property, source, effects[4];
+    int64_t moves[4];
+    uint64_t digest[5];
+};
+
+/* Best values of Deck A from 0: time 0 4 8 9, handovers 0 1 2 1, headroom M 4 4 9, worst 0 4 4 9, reach 1 1 1 1; from 3: time M 6 2 0. Afterwards:
+ * without 0->1, from 0: time 0 15 11 9, handovers 0 3 2 1, headroom M 2 2 9, worst 0 9 9 9, reach 1 1 1 1
+ * without 3->2, from 3: time M M M 0; with 3->0 5, from 3: time 5 6 2 0
+ * 0->1 set to 3, from 0: time 0 3 7 9, headroom M 3 3 9, which is the worse for it
+ * without 0->1 and with 0->2 1, from 0: time 0 5 1 9, as 1 is reached over 2
+ * without 0->3 and 0->1 set to 6, from 0: time 0 6 10 M; the lost route of 3 is more than the 2 by which 1 and 2 move */
+static void previews(void)
+{
+    static plate_track_deck d, before;
+    static const plate_track_change take[] = {{PLATE_TRACK_DELETE, 0, 1, 0}}, cut[] = {{PLATE_TRACK_DELETE, 3, 2, 0}};
+    static const plate_track_change join[] = {{PLATE_TRACK_INSERT, 3, 0, 5}}, faster[] = {{PLATE_TRACK_UPDATE, 0, 1, 3}};
+    static const plate_track_change mixed[] = {{PLATE_TRACK_DELETE, 0, 1, 0}, {PLATE_TRACK_INSERT, 0, 2, 1}};
+    static const plate_track_change worse[] = {{PLATE_TRACK_DELETE, 0, 3, 0}, {PLATE_TRACK_UPDATE, 0, 1, 6}};
+    static const struct foreseen wanted[] = {
+        {take, 1, PLATE_TRACK_TIME, 0, {0, 3, 3, 0}, {0, 11, 3, 0}, {0, 0, 0, 2, 1}},
+        {take, 1, PLATE_TRACK_HANDOVERS, 0, {0, 3, 0, 0}, {0, 2, 0, 0}, {0, 0, 0, 1, 1}},
+        {take, 1, PLATE_TRACK_HEADROOM, 0, {0, 3, 3, 0}, {0, -2, -2, 0}, {0, 0, 0, 2, 1}},
+        {take, 1, PLATE_TRACK_WORST, 0, {0, 3, 3, 0}, {0, 5, 5, 0}, {0, 0, 0, 2, 1}},
+        {take, 1, PLATE_TRACK_REACH, 0, {0, 0, 0, 0}, {0, 0, 0, 0}, {0, 0, 0, 0, 4}},
+        {cut, 1, PLATE_TRACK_TIME, 3, {0, 2, 2, 0}, {0, 0, 0, 0}, {0, 2, 0, 0, 1}},
+        {join, 1, PLATE_TRACK_TIME, 3, {1, 0, 0, 0}, {0, 0, 0, 0}, {1, 0, 0, 0, 4}},
+        {faster, 1, PLATE_TRACK_TIME, 0, {0, 3, 3, 0}, {0, -1, -1, 0}, {0, 0, 2, 0, 4}},
+        {faster, 1, PLATE_TRACK_HEADROOM, 0, {0, 3, 3, 0}, {0, -1, -1, 0}, {0, 0, 0, 2, 1}},
+        {mixed, 2, PLATE_TRACK_TIME, 0, {0, 3, 3, 0}, {0, 1, -7, 0}, {0, 0, 1, 1, 1}},
+        {worse, 2, PLATE_TRACK_TIME, 0, {0, 3, 3, 2}, {0, 2, 2, 0}, {0, 1, 0, 2, 3}}};
+    check(PLATE_TRACK_SAME == 0 && PLATE_TRACK_GAINED == 1 && PLATE_TRACK_LOST == 2 && PLATE_TRACK_MOVED == 3, "the numbers of effects");
+    check(read_text(&d, deck_a) == 0 && plate_track_deck_open(&d, zero, 1, reply) == 0, "Deck A opens");
+    before = d;
+    for (size_t i = 0; i < sizeof wanted / sizeof *wanted; i++) {
+        const struct foreseen *w = &wanted[i];
+        check(foresee(&d, w->changes, w->len, w->property, w->source) == 0 && shows(w->effects, w->moves), "what a batch would do");
+        check(reply[0] == 7 && reply[1] == 7, "the reply has no words");
+        check(plate_track_digest(d.n, w->property, effects, 5, moves, 5, reply, PLATE_TRACK_REPLY_WORDS) == 0
+            && reply[PLATE_TRACK_DIGEST_GAINED] == w->digest[0] && reply[PLATE_TRACK_DIGEST_LOST] == w->digest[1]
+            && reply[PLATE_TRACK_DIGEST_BETTER] == w->digest[2] && reply[PLATE_TRACK_DIGEST_WORSE] == w->digest[3]
+            && reply[PLATE_TRACK_DIGEST_MOST] == w->digest[4] && reply[5] == 7, "its digest");
+        check(shows(w->effects, w->moves), "which writes neither list");
+    }
+    check(memcmp(&d, &before, sizeof d) == 0, "no preview changed the deck");
+    check(plate_track_deck_preview(&d, take, 1, PLATE_TRACK_TIME, 0, effects, 4, moves, 4, reply) == 0 && are(effects, 0, 3, 3, 0), "lists of n entries");
+    /* what was shown comes true */
+    check(plate_track_deck_batch(&d, worse, 2, reply) == 0 && ask(&d, PLATE_TRACK_TIME, 0) == 0 && are(settled, 0, 6, 10, M), "the batch does it");
+}
+
+/* Numbers of a preview, in their order: property and source after the table and before the changes, and these as in a batch. */
+static void no_previews(void)
+{
+    static plate_track_deck d, before;
+    static plate_track_change many[PLATE_TRACK_MOST_CHANGES + 1];
+    const plate_track_change take = {PLATE_TRACK_DELETE, 0, 1, 0}, unknown = {4, 0, 1, 4}, outside = {PLATE_TRACK_INSERT, 4, 0, 1};
+    const plate_track_change twice[] = {take, take}, there[] = {take, outside}, kinds[] = {unknown, take};
+    const uint32_t p = PLATE_TRACK_TIME;
+    check(refuses(foresee(&d, &take, 1, p, 0), PLATE_TRACK_SIZE, 0) && shows_nothing(), "a deck of no vertices");
+    check(read_text(&d, deck_a) == 0 && refuses(foresee(&d, &take, 1, p, 0), PLATE_TRACK_LANDMARKS, 0) && shows_nothing(), "a deck that is not open");
+    check(plate_track_deck_open(&d, zero, 1, reply) == 0, "Deck A opens");
+    before = d;
+    check(refuses(foresee(&d, twice, 2, p, 0), PLATE_TRACK_ABSENT, 1) && shows_nothing(), "take 0->1 twice");
+    check(refuses(foresee(&d, there, 2, p, 0), PLATE_TRACK_VERTEX, 1) && shows_nothing(), "a change of vertex 4");
+    check(refuses(foresee(&d, there, 2, p, 4), PLATE_TRACK_VERTEX, 0) && shows_nothing(), "the same, and source 4");
+    check(refuses(foresee(&d, kinds, 2, p, 0), PLATE_TRACK_KIND, 0) && shows_nothing(), "kind 4");
+    check(refuses(foresee(&d, kinds, 2, p, 4), PLATE_TRACK_VERTEX, 0) && shows_nothing(), "the same, and source 4");
+    check(refuses(foresee(&d, there, 2, 0, 0), PLATE_TRACK_PROPERTY, 0) && refuses(foresee(&d, there, 2, 6, 4), PLATE_TRACK_PROPERTY, 0) && shows_nothing(),
+        "property 0; 6, with source 4");
+    check(refuses(foresee(&d, many, PLATE_TRACK_MOST_CHANGES + 1, 6, 4), PLATE_TRACK_SIZE, 0) && shows_nothing(), "1,025 changes");
+    check(refuses(foresee(&d, many, PLATE_TRACK_MOST_CHANGES, p, 0), PLATE_TRACK_KIND, 0) && shows_nothing(), "1,024 of kind 0");
+    check(refuses(plate_track_deck_preview(&d, &take, 1, p, 0, effects, 3, moves, 4, reply), PLATE_TRACK_SHORT, 0)
+        && refuses(plate_track_deck_preview(&d, &take, 1, p, 0, effects, 4, moves, 3, reply), PLATE_TRACK_SHORT, 0) && shows_nothing(),
+        "a list of three entries");
+    d.heads[0] = 0;
+    check(refuses(foresee(&d, twice, 2, 6, 4), PLATE_TRACK_TABLE, 0) && shows_nothing(), "record 0 is a loop, and property 6");
+    d.heads[0] = 1;
+    check(memcmp(&d, &before, sizeof d) == 0, "no preview changed the deck");
+    check(refuses(plate_track_digest(0, 6, effects, 0, moves, 0, reply, 8), PLATE_TRACK_SIZE, 0)
+        && refuses(plate_track_digest(257, p, effects, 5, moves, 5, reply, 8), PLATE_TRACK_SIZE, 0), "a digest of 0 or 257 vertices");
+    check(refuses(plate_track_digest(4, 6, effects, 3, moves, 4, reply, 8), PLATE_TRACK_SHORT, 0)
+        && refuses(plate_track_digest(4, p, effects, 4, moves, 3, reply, 8), PLATE_TRACK_SHORT, 0), "of three entries");
+    check(refuses(plate_track_digest(4, 0, effects, 4, moves, 4, reply, 8), PLATE_TRACK_PROPERTY, 0)
+        && refuses(plate_track_digest(4, 6, effects, 4, moves, 4, reply, 8), PLATE_TRACK_PROPERTY, 0) && shows_nothing(), "of no property");
+}
+
 static void refused(void)
 {
     static plate_track_deck d, before;
@@ -206,6 +321,7 @@ static void unopened(void)
         plate_track_deck_clear(&d, n);
         check(refuses(plate_track_deck_batch(&d, &take, 1, reply), number, 0), "not open: batch");
         check(refuses(ask(&d, PLATE_TRACK_TIME, 0), number, 0), "not open: query");
+        check(refuses(foresee(&d, &take, 1, PLATE_TRACK_TIME, 0), number, 0) && shows_nothing(), "not open: preview");
         check(refuses(plate_track_deck_row(&d, PLATE_TRACK_FORWARD, 0, PLATE_TRACK_TIME, &row, reply), number, 0), "not open: row");
         check(refuses(plate_track_deck_settled(&d, reply), number, 0), "not open: settled");
         check(plate_track_deck_choose(&d, 1, landmarks, reply) == fine, "not open: choose");
@@ -229,18 +345,20 @@ static void empty(const uint32_t *none, const plate_track_change *nothing, const
     check(refuses(plate_track_deck_open(&d, none, 0, reply), PLATE_TRACK_LANDMARKS, 0), "no landmark");
     check(plate_track_deck_open(&d, zero, 1, reply) == 0, "it opens");
     check(plate_track_deck_batch(&d, nothing, 0, reply) == 0 && reply[0] == 5 && reply[1] == 0 && reply[2] == 0, "an empty batch");
+    check(foresee(&d, nothing, 0, PLATE_TRACK_TIME, 0) == 0 && are(effects, 0, 0, 0, 0) && moves[0] == 0 && moves[3] == 0, "a preview of an empty batch");
     check(plate_track_deck_query(&d, PLATE_TRACK_REACH, 3, none, 0, starts, 4, settled, 4, reply) == 0 && are(settled, 0, 1, 1, 1), "reach from 3");
     check(refuses(plate_track_deck_read(&d, silence, 0, reply), PLATE_TRACK_TEXT, 1), "the empty text");
 }
 
-/* Each list that a call needs is too short where it is empty, whatever its pointer. List k is lent empty, by `w`, `b` or `r`; the reply is list 0. */
+/* Each list that a call needs is too short where it is empty, whatever its pointer. List k is lent empty, by `w`, `b`, `m` or `r`; the reply is list 0. */
 #define WORD(i, list, len) (k == i ? w : (list)), (k == i ? 0 : (size_t)(len))
 #define BYTE(i, list, len) (k == i ? b : (list)), (k == i ? 0 : (size_t)(len))
+#define MOVE(i, list, len) (k == i ? m : (list)), (k == i ? 0 : (size_t)(len))
 #define LONG(i) (k == i ? r : reply), (k == i ? 0 : (size_t)PLATE_TRACK_REPLY_WORDS)
 #define TABLE WORD(1, d.tails, 2048), WORD(2, d.heads, 2048), WORD(3, d.weights, 2048)
 #define ROWS WORD(4, d.forward, 20), WORD(5, d.backward, 20)
 
-static void too_short(uint32_t *w, uint8_t *b, uint64_t *r)
+static void too_short(uint32_t *w, uint8_t *b, int64_t *m, uint64_t *r)
 {
     static plate_track_deck d;
     static uint8_t text[100];
@@ -256,6 +374,9 @@ static void too_short(uint32_t *w, uint8_t *b, uint64_t *r)
         check((plate_track_choose(4, TABLE, 5, 1, LONG(0)) == 2) == (answer || table), "an empty list of choose");
         check((plate_track_route(4, TABLE, 5, 1, 0, 2, WORD(6, vertices, 4), WORD(7, marks, 4), LONG(0)) == 2) == (answer || table || k >= 6),
             "an empty list of route");
+        check(plate_track_preview(4, zero, 1, TABLE, 5, ROWS, &take, 1, 1, 0, WORD(6, effects, 4), MOVE(7, moves, 4), LONG(0)) == 2,
+            "an empty list of preview");
+        check((plate_track_digest(4, 1, WORD(6, effects, 4), MOVE(7, moves, 4), LONG(0)) == 2) == (answer || k >= 6), "an empty list of digest");
         check((plate_track_row(4, zero, 1, ROWS, 0, 0, 1, LONG(0)) == 2) == (answer || rows), "an empty list of row");
         check((plate_track_write(4, TABLE, 5, BYTE(6, text, 100), LONG(0)) == 2) == (answer || table || k == 6), "an empty list of write");
         check((plate_track_read_sources((const uint8_t *)"p aux sp ss 0\n", 14, 4, WORD(6, sources, 256), LONG(0)) == 2) == (answer || k == 6),
@@ -289,14 +410,19 @@ static void *asks(void *wrong)
 {
     static const uint32_t wanted[PLATE_TRACK_PROPERTIES][4] = {{0, 4, 8, 9}, {0, 1, 2, 1}, {UINT32_MAX, 4, 4, 9}, {0, 4, 4, 9}, {1, 1, 1, 1}};
     static const uint32_t over_1[] = {0, 1, 2, 7};
-    uint32_t own_starts[4], own_settled[4], own_vertices[4] = {7, 7, 7, 7}, own_marks[4];
+    static const int64_t without_0_1[PLATE_TRACK_PROPERTIES][4] = {{0, 11, 3, 0}, {0, 2, 0, 0}, {0, -2, -2, 0}, {0, 5, 5, 0}, {0, 0, 0, 0}};
+    const plate_track_change take = {PLATE_TRACK_DELETE, 0, 1, 0};
+    uint32_t own_starts[4], own_settled[4], own_vertices[4] = {7, 7, 7, 7}, own_marks[4], own_effects[4];
+    int64_t own_moves[4];
     uint64_t own_reply[PLATE_TRACK_REPLY_WORDS];
     for (uint32_t i = 0; i < 5000; i++) {
         uint32_t p = i % PLATE_TRACK_PROPERTIES;
         if (plate_track_deck_query(&shared, p + 1, 0, NULL, 0, own_starts, 4, own_settled, 4, own_reply) != 0
             || memcmp(own_settled, wanted[p], sizeof own_settled) != 0
             || plate_track_deck_route(&shared, p + 1, 0, 2, own_vertices, 4, own_marks, 4, own_reply) != 0
-            || memcmp(own_vertices, over_1, sizeof own_vertices) != 0)
+            || memcmp(own_vertices, over_1, sizeof own_vertices) != 0
+            || plate_track_deck_preview(&shared, &take, 1, p + 1, 0, own_effects, 4, own_moves, 4, own_reply) != 0
+            || memcmp(own_moves, without_0_1[p], sizeof own_moves) != 0)
             *(int *)wrong = 1;
     }
     return NULL;
@@ -321,18 +447,21 @@ int main(void)
     const uint8_t silence[] = {7};
     uint32_t word = 7;
     uint8_t byte = 7;
+    int64_t move = -7;
     uint64_t answer = 7;
     stale_count();
     accepted();
     routes();
     no_routes();
+    previews();
+    no_previews();
     refused();
     unopened();
     empty(NULL, NULL, NULL);
     empty(none, &nothing, silence);
-    too_short(NULL, NULL, NULL);
-    too_short(&word, &byte, &answer);
-    check(word == 7 && byte == 7 && answer == 7, "nothing is written where an empty list points");
+    too_short(NULL, NULL, NULL, NULL);
+    too_short(&word, &byte, &move, &answer);
+    check(word == 7 && byte == 7 && move == -7 && answer == 7, "nothing is written where an empty list points");
     words();
     threads();
     printf(bad ? "deck: FAILED\n" : "deck: ok\n");

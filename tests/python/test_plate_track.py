@@ -16,7 +16,8 @@ from importlib.util import find_spec
 from pathlib import Path
 
 import plate_track
-from plate_track import DELETE, GREATEST as M, HANDOVERS, HEADROOM, INSERT, REACH, TIME, UPDATE, VERSION, WORST, Deck, Refused, calls, native
+from plate_track import DELETE, GAINED, GREATEST as M, HANDOVERS, HEADROOM, INSERT, LOST, MOVED, REACH, SAME, TIME, UPDATE, VERSION, WORST
+from plate_track import Deck, Refused, calls, native
 
 try:
     import networkx
@@ -90,6 +91,36 @@ class DeckA(unittest.TestCase):
         route = deck.route(TIME, 0, 2)
         self.assertEqual((route.vertices, route.marks, sum(w for _, _, w in route.edges)), ([0, 3, 2], [1, 1], 11))
 
+    def test_previews(self):
+        """Effects, moves, and the digest: gained, lost, better, worse, and the vertex that loses most. Best values before and after are in a comment."""
+        take, cut, join, faster = (DELETE, 0, 1, 0), (DELETE, 3, 2, 0), (INSERT, 3, 0, 5), (UPDATE, 0, 1, 3)
+        deck = deck_a()
+        before = state(deck)
+        for changes, prop, source, effects, moves, digest in (
+            ([take], TIME, 0, [SAME, MOVED, MOVED, SAME], [0, 11, 3, 0], (0, 0, 0, 2, 1)),  # 0 4 8 9, 0 15 11 9
+            ([take], HANDOVERS, 0, [0, 3, 0, 0], [0, 2, 0, 0], (0, 0, 0, 1, 1)),  # 0 1 2 1, 0 3 2 1
+            ([take], HEADROOM, 0, [0, 3, 3, 0], [0, -2, -2, 0], (0, 0, 0, 2, 1)),  # M 4 4 9, M 2 2 9
+            ([take], WORST, 0, [0, 3, 3, 0], [0, 5, 5, 0], (0, 0, 0, 2, 1)),  # 0 4 4 9, 0 9 9 9
+            ([take], REACH, 0, [0] * 4, [0] * 4, (0, 0, 0, 0, 4)),
+            ([cut], TIME, 3, [SAME, LOST, LOST, SAME], [0] * 4, (0, 2, 0, 0, 1)),  # M 6 2 0, M M M 0
+            ([join], TIME, 3, [GAINED, SAME, SAME, SAME], [0] * 4, (1, 0, 0, 0, 4)),  # M 6 2 0, 5 6 2 0
+            ([faster], TIME, 0, [0, 3, 3, 0], [0, -1, -1, 0], (0, 0, 2, 0, 4)),  # 0 4 8 9, 0 3 7 9
+            ([faster], HEADROOM, 0, [0, 3, 3, 0], [0, -1, -1, 0], (0, 0, 0, 2, 1)),  # M 4 4 9, M 3 3 9
+            ([take, (INSERT, 0, 2, 1)], TIME, 0, [0, 3, 3, 0], [0, 1, -7, 0], (0, 0, 1, 1, 1)),  # 0 4 8 9, 0 5 1 9
+            ([(DELETE, 0, 3, 0), (UPDATE, 0, 1, 6)], TIME, 0, [0, 3, 3, 2], [0, 2, 2, 0], (0, 1, 0, 2, 3)),  # 0 4 8 9, 0 6 10 M
+            ([take, (INSERT, 0, 1, 4)], TIME, 0, [0] * 4, [0] * 4, (0, 0, 0, 0, 4)),
+            ([], TIME, 0, [0] * 4, [0] * 4, (0, 0, 0, 0, 4)),
+        ):
+            with self.subTest(changes=changes, prop=prop):
+                self.assertEqual(deck.preview(changes, prop, source), (effects, moves, digest))
+                lent = array("I", [word for change in changes for word in change])
+                self.assertEqual(deck.preview(lent, prop, source).effects, effects)
+        self.assertEqual(state(deck), before)
+        preview = deck.preview(iter([take]), property=TIME, source=0)
+        self.assertEqual((preview.moves, preview.digest.worse, preview.digest.most), ([0, 11, 3, 0], 2, 1))
+        deck.batch([take])
+        self.assertEqual(values(deck, TIME, 0), [0, 15, 11, 9])
+
     def test_query_tells_starts_and_tally(self):
         deck = deck_a(2)
         answer = deck.query(TIME, 1)
@@ -152,6 +183,14 @@ class Refusals(unittest.TestCase):
         self.refuses(6, "vertex (station)", 0, deck.route, TIME, 3, 4)
         self.refuses(6, "vertex (station)", 0, deck.route, TIME, 4, 0)
         self.refuses(5, "property", 0, deck.route, 6, 0, 4)
+        self.refuses(11, "absent", 1, deck.preview, [(DELETE, 0, 1, 0)] * 2, TIME, 0)
+        self.refuses(9, "weight (figure)", 0, deck.preview, [(UPDATE, 0, 1, 65536)], TIME, 0)
+        self.refuses(7, "kind", 0, deck.preview, [(4, 0, 1, 4)], TIME, 0)
+        self.refuses(6, "vertex (station)", 1, deck.preview, [(DELETE, 0, 1, 0), (DELETE, 4, 1, 0)], TIME, 0)
+        self.refuses(6, "vertex (station)", 0, deck.preview, [(DELETE, 0, 1, 0), (DELETE, 4, 1, 0)], TIME, 4)
+        self.refuses(5, "property", 0, deck.preview, [(4, 0, 1, 4)], 6, 4)
+        self.refuses(5, "property", 0, calls.digest, 4, 0, array("I", [0] * 4), array("q", [0] * 4))
+        self.refuses(1, "size", 0, calls.digest, 257, TIME, array("I", [0] * 257), array("q", [0] * 257))
         self.refuses(3, "landmarks (posts)", 0, deck.open, [0, 1, 2, 3, 0])
         self.refuses(3, "landmarks (posts)", 0, deck.open, [1, 1])
         self.refuses(3, "landmarks (posts)", 0, deck.open, [4])
@@ -159,12 +198,15 @@ class Refusals(unittest.TestCase):
         self.refuses(3, "landmarks (posts)", 0, deck.open, range(10**9))
         self.refuses(1, "size", 0, deck.query, TIME, 0, itertools.repeat(0))
         self.refuses(1, "size", 0, deck.batch, itertools.repeat((DELETE, 0, 1, 0)))
+        self.refuses(1, "size", 0, deck.preview, itertools.repeat((DELETE, 0, 1, 0)), TIME, 0)
         self.refuses(3, "landmarks (posts)", 0, deck.choose, 5)
         self.refuses(14, "text", 1, deck.read_sources, b"")
         self.assertEqual(state(deck), before)
         self.assertEqual(values(deck, TIME, 0), [0, 4, 8, 9])
         self.assertEqual(deck.batch([(DELETE, 0, 1, 0)])[:2], (4, 10))
         self.refuses(3, "landmarks (posts)", 0, Deck.read(TEXT).query, TIME, 0)
+        self.refuses(3, "landmarks (posts)", 0, Deck.read(TEXT).preview, [], TIME, 0)
+        self.refuses(1, "size", 0, Deck(257).preview, [], TIME, 0)
         self.refuses(1, "size", 0, Deck(257).open, [0])
         self.refuses(1, "size", 0, Deck(257).route, TIME, 0, 0)
         self.refuses(1, "size", 0, Deck(0).route, TIME, 0, 0)
@@ -181,6 +223,8 @@ class Refusals(unittest.TestCase):
             self.assertRaises(OverflowError, deck.query, TIME, 0, [wrong])
             self.assertRaises(OverflowError, deck.row, 0, wrong, TIME)
             self.assertRaises(OverflowError, deck.route, TIME, 0, wrong)
+            self.assertRaises(OverflowError, deck.preview, [], TIME, wrong)
+            self.assertRaises(OverflowError, deck.preview, [], wrong, 0)
             self.assertRaises(OverflowError, deck.choose, wrong)
             self.assertRaises(OverflowError, Deck, wrong)
             self.assertRaises(OverflowError, Deck, 2, [(0, 1, wrong)])
@@ -189,10 +233,13 @@ class Refusals(unittest.TestCase):
                 change = [INSERT, 3, 1, 7]
                 change[place] = wrong
                 self.assertRaises(OverflowError, deck.batch, [change])
+                self.assertRaises(OverflowError, deck.preview, [change], TIME, 0)
         self.assertRaises(OverflowError, deck.batch, [(2**32 + 2, 0, 1, 0)])
         self.assertRaises(TypeError, deck.query, TIME, 1.0)
         self.assertRaises(TypeError, deck.query, "1", 0)
         self.assertRaises(TypeError, deck.route, TIME, 0, 2.0)
+        self.assertRaises(TypeError, deck.preview, [], TIME, 0.0)
+        self.assertRaises(TypeError, deck.preview, b"", TIME, 0)
         for text in (b"\0\0\0\0", bytearray(4), "0", b""):
             self.assertRaises(TypeError, deck.open, text)
         self.assertRaises(TypeError, deck.query, TIME, 0, b"\0\0\0\0")
@@ -213,14 +260,18 @@ class Lending(unittest.TestCase):
         return 4, of([0]), *table, 5, *rows
 
     def test_kinds_of_lists_without_a_copy(self):
-        kinds = {
-            "array": lambda ws: array("I", ws),
-            "memoryview": lambda ws: memoryview(bytearray(array("I", ws).tobytes())).cast("I"),
-            "ctypes": lambda ws: (ctypes.c_uint32 * len(ws))(*ws),
+        kinds = {  # lists of words, and of moves
+            "array": (lambda ws: array("I", ws), lambda ds: array("q", ds)),
+            "long": (lambda ws: array("I", ws), lambda ds: array("l", ds)),
+            "memoryview": (
+                lambda ws: memoryview(bytearray(array("I", ws).tobytes())).cast("I"),
+                lambda ds: memoryview(bytearray(array("q", ds).tobytes())).cast("q"),
+            ),
+            "ctypes": (lambda ws: (ctypes.c_uint32 * len(ws))(*ws), lambda ds: (ctypes.c_int64 * len(ds))(*ds)),
         }
         if numpy:
-            kinds["numpy"] = lambda ws: numpy.array(ws, dtype=numpy.uint32)
-        for name, of in kinds.items():
+            kinds["numpy"] = (lambda ws: numpy.array(ws, dtype=numpy.uint32), lambda ds: numpy.array(ds, dtype=numpy.int64))
+        for name, (of, moves_of) in kinds.items():
             with self.subTest(name):
                 network, starts, settled = self.lists(of), of([7] * 5), of([7] * 5)
                 self.assertEqual(calls.query(*network, TIME, 0, of([]), starts, settled), (0, 1, 0))
@@ -228,6 +279,10 @@ class Lending(unittest.TestCase):
                 vertices, marks = of([7] * 5), of([7] * 5)
                 self.assertEqual(calls.route(4, *network[2:6], HEADROOM, 0, 2, vertices, marks), 3)
                 self.assertEqual((list(vertices), list(marks)), ([0, 1, 2, 7, 7], [1, 0, 7, 7, 7]))
+                effects, moves = of([7] * 5), moves_of([-7] * 5)
+                self.assertIsNone(calls.preview(*network, of([DELETE, 0, 1, 0]), HEADROOM, 0, effects, moves))
+                self.assertEqual((list(effects), list(moves)), ([0, 3, 3, 0, 7], [0, -2, -2, 0, -7]))
+                self.assertEqual(calls.digest(4, HEADROOM, effects, moves), (0, 0, 0, 2, 1))
                 self.assertEqual(calls.batch(*network, of([DELETE, 0, 1, 0])), (4, 10, 10))
                 self.assertEqual(list(network[2])[:5], [0, 1, 2, 3, 0])
 
@@ -290,6 +345,45 @@ class Lending(unittest.TestCase):
         # beside each other is no overlap
         self.assertEqual((route(vertices=both[:4], marks=both[4:]), list(both)), (3, [0, 1, 2, 7, 1, 1, 7, 7]))
 
+    def test_what_is_not_lent_to_a_preview(self):
+        network, out = self.lists(lambda ws: array("I", ws)), array("q", [-7] * 4)
+
+        def preview(**changed):
+            lent = {"changes": array("I", [DELETE, 0, 1, 0]), "effects": array("I", [7] * 4), "moves": out, **changed}
+            return calls.preview(*network, property=TIME, source=0, **lent)
+
+        for wrong in ([0] * 4, array("i", [7] * 4), array("q", [7] * 4), bytearray(16), memoryview(bytes(16)).cast("I"), None):
+            self.assertRaises(TypeError, preview, effects=wrong)
+        for wrong in ([0] * 4, array("i", [7] * 8), array("Q", [7] * 4), array("L", [7] * 4), array("d", [7] * 4), bytearray(32), None):
+            self.assertRaises(TypeError, preview, moves=wrong)
+            self.assertRaises(TypeError, calls.digest, 4, TIME, array("I", [7] * 4), wrong)
+        self.assertRaises(TypeError, preview, moves=memoryview(bytes(32)).cast("q"))
+        self.assertRaises(TypeError, preview, changes=array("q", [DELETE, 0, 1, 0]))
+        self.assertRaises(ValueError, preview, changes=array("I", [DELETE, 0, 1]))
+        for name, wrong, said in (
+            ("moves", array("Q", [7] * 4), "moves: signed elements of 64 bits are needed, and these are 'Q' of 64"),
+            ("moves", array("i", [7] * 4), "moves: signed elements of 64 bits are needed, and these are 'i' of 32"),
+            ("effects", array("i", [7] * 4), "effects: unsigned elements of 32 bits are needed, and these are 'i' of 32"),
+        ):
+            with self.assertRaises(TypeError) as caught:
+                preview(**{name: wrong})
+            self.assertEqual(str(caught.exception), said)
+        both = memoryview(bytearray(48))
+        self.assertRaises(ValueError, preview, effects=both[:16].cast("I"), moves=both[8:40].cast("q"))
+        self.assertRaises(ValueError, preview, effects=both[:16].cast("I"), changes=both[:16].cast("I"))
+        self.assertRaises(ValueError, preview, moves=both[4:36].cast("q"))
+        self.assertRaises(ValueError, preview, effects=network[3])
+        for short, form in (("effects", "I"), ("moves", "q")):
+            for entries in (0, 3):
+                with self.assertRaises(Refused) as caught:
+                    preview(**{short: array(form, [7] * entries)})
+                self.assertEqual(caught.exception.number, plate_track.SHORT)
+        self.assertEqual((list(out), bytes(both)), ([-7] * 4, bytes(48)))
+        # beside each other is no overlap, and a digest only reads
+        preview(effects=both[:16].cast("I"), moves=both[16:].cast("q"))
+        self.assertEqual((both[:16].cast("I").tolist(), both[16:].cast("q").tolist()), ([0, 3, 3, 0], [0, 11, 3, 0]))
+        self.assertEqual(calls.digest(4, TIME, both[:16].toreadonly().cast("I"), both[16:].toreadonly().cast("q")), (0, 0, 0, 2, 1))
+
     def test_a_list_can_not_shrink_while_it_is_lent(self):
         out = array("I", [7] * 4)
         with native._lent("out", calls.WRITTEN_WORDS, out) as (at, size):
@@ -303,6 +397,7 @@ class Threads(unittest.TestCase):
     def test_one_deck_from_the_first_call_on(self):
         """Several threads ask one deck at once, none of which has loaded the shared object."""
         wanted = {TIME: [0, 4, 8, 9], HANDOVERS: [0, 1, 2, 1], HEADROOM: [M, 4, 4, 9], WORST: [0, 4, 4, 9], REACH: [1, 1, 1, 1]}
+        moves = {TIME: [0, 11, 3, 0], HANDOVERS: [0, 2, 0, 0], HEADROOM: [0, -2, -2, 0], WORST: [0, 5, 5, 0], REACH: [0] * 4}
         deck, wrong, begin = deck_a(), [], threading.Barrier(4)
 
         def ask():
@@ -311,6 +406,7 @@ class Threads(unittest.TestCase):
                 for _ in range(200):
                     wrong.extend(prop for prop, right in wanted.items() if values(deck, prop, 0) != right)
                     wrong.extend(prop for prop in wanted if deck.route(prop, 0, 2).vertices != [0, 1, 2])
+                    wrong.extend(prop for prop, right in moves.items() if deck.preview([(DELETE, 0, 1, 0)], prop, 0).moves != right)
             except Exception as error:
                 wrong.append(error)
 
@@ -373,14 +469,30 @@ class Loading(unittest.TestCase):
 
 @unittest.skipUnless(networkx, "networkx is not here")
 class Graphs(unittest.TestCase):
+    def found(self, graph, nodes, source):
+        """The values from a source, by property, as NetworkX has them."""
+        time = networkx.single_source_dijkstra_path_length(graph, nodes[source])
+        handovers = networkx.single_source_shortest_path_length(graph, nodes[source])
+        reached = networkx.descendants(graph, nodes[source]) | {nodes[source]}
+        return {
+            TIME: [time.get(v, M) for v in nodes], HANDOVERS: [handovers.get(v, M) for v in nodes], REACH: [int(v in reached) for v in nodes],
+        }  # fmt: skip
+
     def agree(self, deck, graph, nodes):
-        for source, node in enumerate(nodes):
-            time = networkx.single_source_dijkstra_path_length(graph, node)
-            handovers = networkx.single_source_shortest_path_length(graph, node)
-            reached = networkx.descendants(graph, node) | {node}
-            self.assertEqual(values(deck, TIME, source), [time.get(v, M) for v in nodes])
-            self.assertEqual(values(deck, HANDOVERS, source), [handovers.get(v, M) for v in nodes])
-            self.assertEqual(values(deck, REACH, source), [int(v in reached) for v in nodes])
+        for source in range(len(nodes)):
+            for prop, wanted in self.found(graph, nodes, source).items():
+                self.assertEqual(values(deck, prop, source), wanted)
+
+    def came_true(self, preview, prop, was, now):
+        """A preview is what lies between the values before and after; its digest is counted here in another way."""
+        none = plate_track.no_route(prop)
+        lacks = [(a == none, b == none) for a, b in zip(was, now)]
+        effects = {(True, True): SAME, (True, False): GAINED, (False, True): LOST}
+        self.assertEqual(preview.effects, [effects.get(lack, SAME if a == b else MOVED) for lack, a, b in zip(lacks, was, now)])
+        self.assertEqual(preview.moves, [0 if any(lack) else b - a for lack, a, b in zip(lacks, was, now)])
+        losses = [M if e == LOST else max(0, d) for e, d in zip(preview.effects, preview.moves)]  # of time and handovers; reach never moves
+        counts = [preview.effects.count(GAINED), preview.effects.count(LOST), sum(d < 0 for d in preview.moves), sum(d > 0 for d in preview.moves)]
+        self.assertEqual(preview.digest, (*counts, losses.index(max(losses)) if any(losses) else len(was)))
 
     def test_against_dijkstra_and_bfs(self):
         draw = random.Random(14)
@@ -401,10 +513,15 @@ class Graphs(unittest.TestCase):
                 changes += [(INSERT, t, h, draw.randrange(1, 65536)) for t, h in draw.sample(free, 6)]
                 stays = [e for e in edges if (DELETE, *e[:2], 0) not in changes]
                 changes += [(UPDATE, t, h, draw.randrange(1, 65536)) for t, h, _ in draw.sample(stays, 6)]
+                sources = draw.sample(range(n), 4)
+                was = {source: self.found(graph, nodes, source) for source in sources}
+                shown = [(source, prop, deck.preview(changes, prop, source)) for source in sources for prop in was[source]]
                 deck.batch(changes)
                 for kind, t, h, w in changes:
                     graph.remove_edge(nodes[t], nodes[h]) if kind == DELETE else graph.add_edge(nodes[t], nodes[h], weight=w)
                 self.agree(deck, graph, nodes)
+                for source, prop, preview in shown:
+                    self.came_true(preview, prop, was[source][prop], self.found(graph, nodes, source)[prop])
                 now = plate_track.to_networkx(deck, nodes)
                 self.assertEqual((set(now), now.edges), (set(graph), graph.edges))
                 self.assertEqual({e: now.edges[e]["weight"] for e in now.edges}, {e: graph.edges[e]["weight"] for e in graph.edges})

@@ -1,5 +1,5 @@
 //! bindings/plate_track.rs: what it gives beside the calls, and a refusal as Rust has it. The expected words are documents 01's and 02's, or follow
-//! from 01 and from 02, One and Two, by hand. The calls themselves are held to a reference by tests/differential. tests/rust/run runs it.
+//! from 01 and from 02, One, Two and Four, by hand. The calls themselves are held to a reference by tests/differential. tests/rust/run runs it.
 
 #[path = "../../bindings/plate_track.rs"]
 mod plate_track;
@@ -90,4 +90,89 @@ fn a_route_is_refused() {
     assert_eq!(to(2, 3), Err(Refused { number: SHORT, place: 0 }));
     assert_eq!(to(2, 0), Err(Refused { number: SHORT, place: 0 }));
     assert_eq!((vertices, marks), ([7; 4], [7; 4]));
+}
+
+/// Deck A with landmark 0: its table, its rows, and a reply list.
+struct Opened {
+    tails: [u32; MOST_EDGES],
+    heads: [u32; MOST_EDGES],
+    weights: [u32; MOST_EDGES],
+    forward: [u32; 20],
+    backward: [u32; 20],
+    reply: [u64; REPLY_WORDS],
+}
+
+fn opened() -> Opened {
+    let mut o = Opened {
+        tails: [0; MOST_EDGES], heads: [0; MOST_EDGES], weights: [0; MOST_EDGES], forward: [0; 20], backward: [0; 20], reply: [7; REPLY_WORDS],
+    };
+    read(DECK_A, &mut o.tails, &mut o.heads, &mut o.weights, &mut o.reply).unwrap();
+    open(4, &[0], &o.tails, &o.heads, &o.weights, 5, &mut o.forward, &mut o.backward, &mut o.reply).unwrap();
+    o
+}
+
+/// Changes, property and source; effects, moves and the digest.
+type Foreseen<'a> = (&'a [[u32; 4]], u32, u32, [u32; 4], [i64; 4], [u64; 5]);
+
+/// Best values of Deck A from 0: time 0 4 8 9, handovers 0 1 2 1, headroom M 4 4 9, worst 0 4 4 9, reach 1 1 1 1; from 3: time M 6 2 0.
+/// Without 0->1: 0 15 11 9, 0 3 2 1, M 2 2 9, 0 9 9 9, 1 1 1 1. Without 3->2, from 3: M M M 0; with 3->0 5: 5 6 2 0. With 0->1 set to 3: time 0 3 7 9,
+/// headroom M 3 3 9. Without 0->3 and with 0->1 set to 6: time 0 6 10 M. Entries past n are as they were.
+#[test]
+fn a_preview_has_effects_and_moves() {
+    let mut o = opened();
+    let (take, cut, join, faster) = ([[DELETE, 0, 1, 0]], [[DELETE, 3, 2, 0]], [[INSERT, 3, 0, 5]], [[UPDATE, 0, 1, 3]]);
+    let worse = [[DELETE, 0, 3, 0], [UPDATE, 0, 1, 6]];
+    let wanted: [Foreseen; 11] = [
+        (&take, TIME, 0, [SAME, MOVED, MOVED, SAME], [0, 11, 3, 0], [0, 0, 0, 2, 1]),
+        (&take, HANDOVERS, 0, [SAME, MOVED, SAME, SAME], [0, 2, 0, 0], [0, 0, 0, 1, 1]),
+        (&take, HEADROOM, 0, [SAME, MOVED, MOVED, SAME], [0, -2, -2, 0], [0, 0, 0, 2, 1]),
+        (&take, WORST, 0, [SAME, MOVED, MOVED, SAME], [0, 5, 5, 0], [0, 0, 0, 2, 1]),
+        (&take, REACH, 0, [SAME; 4], [0; 4], [0, 0, 0, 0, 4]),
+        (&cut, TIME, 3, [SAME, LOST, LOST, SAME], [0; 4], [0, 2, 0, 0, 1]),
+        (&join, TIME, 3, [GAINED, SAME, SAME, SAME], [0; 4], [1, 0, 0, 0, 4]),
+        (&faster, TIME, 0, [SAME, MOVED, MOVED, SAME], [0, -1, -1, 0], [0, 0, 2, 0, 4]),
+        (&faster, HEADROOM, 0, [SAME, MOVED, MOVED, SAME], [0, -1, -1, 0], [0, 0, 0, 2, 1]),
+        (&worse, TIME, 0, [SAME, MOVED, MOVED, LOST], [0, 2, 2, 0], [0, 1, 0, 2, 3]),
+        (&[], TIME, 0, [SAME; 4], [0; 4], [0, 0, 0, 0, 4]),
+    ];
+    for (changes, property, source, effect, move_by, told) in wanted {
+        let (mut effects, mut moves) = ([7; 5], [-7; 5]);
+        o.reply = [7; REPLY_WORDS];
+        preview(
+            4, &[0], &o.tails, &o.heads, &o.weights, 5, &o.forward, &o.backward, changes, property, source, &mut effects, &mut moves, &mut o.reply,
+        )
+        .unwrap();
+        assert_eq!((&effects[..4], &moves[..4]), (&effect[..], &move_by[..]));
+        assert_eq!((effects[4], moves[4], o.reply), (7, -7, [7; REPLY_WORDS]));
+        digest(4, property, &effects, &moves, &mut o.reply).unwrap();
+        let places = [DIGEST_GAINED, DIGEST_LOST, DIGEST_BETTER, DIGEST_WORSE, DIGEST_MOST];
+        assert_eq!((places.map(|i| o.reply[i]), o.reply[5]), (told, 7));
+    }
+}
+
+/// Property and source are judged before the changes, and these as a batch judges them.
+#[test]
+fn a_preview_is_refused() {
+    let mut o = opened();
+    let (mut effects, mut moves) = ([7; 4], [-7; 4]);
+    let mut to = |changes: &[[u32; 4]], property, source, entries: usize| {
+        preview(
+            4, &[0], &o.tails, &o.heads, &o.weights, 5, &o.forward, &o.backward, changes, property, source, &mut effects, &mut moves[..entries],
+            &mut o.reply,
+        )
+    };
+    let twice = [[DELETE, 0, 1, 0]; 2];
+    let outside = [[DELETE, 0, 1, 0], [DELETE, 4, 1, 0]];
+    assert_eq!(to(&twice, TIME, 0, 4).unwrap_err().to_string(), "refused 11, absent, at 1");
+    assert_eq!(to(&outside, TIME, 0, 4), Err(Refused { number: VERTEX, place: 1 }));
+    assert_eq!(to(&outside, TIME, 4, 4), Err(Refused { number: VERTEX, place: 0 }));
+    assert_eq!(to(&outside, 6, 4, 4), Err(Refused { number: PROPERTY, place: 0 }));
+    assert_eq!(to(&outside, 6, 4, 3), Err(Refused { number: SHORT, place: 0 }));
+    assert_eq!(to(&outside, 6, 4, 0), Err(Refused { number: SHORT, place: 0 }));
+    assert_eq!(to(&[[0; 4]; MOST_CHANGES + 1], 6, 4, 3), Err(Refused { number: SIZE, place: 0 }));
+    assert_eq!((effects, moves), ([7; 4], [-7; 4]));
+    assert_eq!(digest(4, 6, &effects, &moves, &mut o.reply), Err(Refused { number: PROPERTY, place: 0 }));
+    assert_eq!(digest(4, TIME, &effects[..3], &moves, &mut o.reply), Err(Refused { number: SHORT, place: 0 }));
+    assert_eq!(digest(257, TIME, &effects, &moves, &mut o.reply), Err(Refused { number: SIZE, place: 0 }));
+    assert_eq!(digest(4, TIME, &effects, &moves, &mut o.reply[..7]), Err(Refused { number: SHORT, place: 0 }));
 }

@@ -1,6 +1,6 @@
 /* How many bytes of stack each call takes: it runs on a painted stack of its own, and the lowest byte that changed is looked up.
- * 256 vertices, 2,048 edges, 4 landmarks, a schedule of 4,096, a batch of 1,024, 256 sources, a route over all vertices for each property. Exit
- * status 1 where a call is refused or takes more than the header promises. */
+ * 256 vertices, 2,048 edges, 4 landmarks, a schedule of 4,096, a batch of 1,024, 256 sources, a route over all vertices for each property, a preview of
+ * that batch and its digest for each property. Exit status 1 where a call is refused or takes more than the header promises. */
 #include "plate_track.h"
 
 #include <stdio.h>
@@ -13,7 +13,8 @@ static unsigned char stack[SIZE] __attribute__((aligned(4096)));
 static ucontext_t here, there;
 static uint32_t tails[2048], heads[2048], weights[2048], landmarks[4] = {0, 77, 154, 255};
 static uint32_t forward[5120], backward[5120], starts[256], settled[256], schedule[4096], sources[256];
-static uint32_t chain_tails[2048], chain_heads[2048], chain_weights[2048], vertices[256], marks[256];
+static uint32_t chain_tails[2048], chain_heads[2048], chain_weights[2048], vertices[256], marks[256], effects[256];
+static int64_t moves[256];
 static plate_track_change changes[1024];
 static uint8_t text[PLATE_TRACK_LONGEST_TEXT], source_text[4096];
 static size_t text_len, source_len;
@@ -67,6 +68,19 @@ static void nothing(void) { number = 0; }
 static void open_(void) { number = plate_track_open(256, landmarks, 4, TABLE, 2048, ROWS, reply, 8); }
 static void query(void) { number = plate_track_query(256, landmarks, 4, TABLE, 2048, ROWS, 1, 100, schedule, 4096, starts, 256, settled, 256, reply, 8); }
 static void batch(void) { number = plate_track_batch(256, landmarks, 4, TABLE, 2048, ROWS, changes, 1024, reply, 8); }
+/* before the batch, which after itself changes nothing more */
+static void preview(void)
+{
+    number = 0;
+    for (uint32_t p = 1; p <= PLATE_TRACK_PROPERTIES && number == 0; p++)
+        number = plate_track_preview(256, landmarks, 4, TABLE, 2048, ROWS, changes, 1024, p, 100, effects, 256, moves, 256, reply, 8);
+}
+static void digest(void)
+{
+    number = 0;
+    for (uint32_t p = 1; p <= PLATE_TRACK_PROPERTIES && number == 0; p++)
+        number = plate_track_digest(256, p, effects, 256, moves, 256, reply, 8);
+}
 static void check(void) { number = plate_track_settled(256, landmarks, 4, TABLE, 2048, ROWS, reply, 8); }
 static void choose(void) { number = plate_track_choose(256, TABLE, 2048, 4, reply, 8); }
 static void row(void) { number = plate_track_row(256, landmarks, 4, ROWS, 1, 154, 3, reply, 8); }
@@ -102,6 +116,7 @@ int main(void)
     /* what the header promises, and what the call took before the room for document 02's requests was made (0: there was none) */
     struct { const char *name; void (*call)(void); size_t most, before; } calls[] = {
         {"open", open_, PLATE_TRACK_STACK_OPEN, 62856}, {"query", query, PLATE_TRACK_STACK_QUERY, 3560},
+        {"preview", preview, PLATE_TRACK_STACK_PREVIEW, 0}, {"digest", digest, PLATE_TRACK_STACK_DIGEST, 0},
         {"batch", batch, PLATE_TRACK_STACK_BATCH, 138504}, {"settled", check, PLATE_TRACK_STACK_SETTLED, 328},
         {"choose", choose, PLATE_TRACK_STACK_CHOOSE, 1160}, {"row", row, PLATE_TRACK_STACK_ROW, 64},
         {"write", write_, PLATE_TRACK_STACK_WRITE, 128}, {"read", read_, PLATE_TRACK_STACK_READ, 24776},

@@ -4,3 +4,5 @@ pub mod Preferring
 pub mod Routing
 pub mod Deciding
 pub mod Behind
+pub mod Preview
+pub mod Digest

@@ -1,12 +1,9 @@
 -- The words of change records in four lists of 1,024, one after the other: what is put there is read there. Assumes nothing.
-use Rattle.property.proofs.Basics.{_≡_, refl, sym, ap, subst, _∙_, _≢_, List, [], _∷_, map, ℕ, zero, suc, _+_, _-_, _*_, _<_, _≤_, min, add-one, add-zero, arith, decLt, length, getD, set, take, drop, length-set, length-drop, List·getD-map, length-map, getD-set-same, getD-set-other, getD-take, getD-drop, length-take-le}
-use lib.Seq.{ext-getD}
-use native.Mathlib.Nat.{add-sub-cancel-left}
+use Rattle.property.proofs.Basics.{_≡_, refl, sym, ap, subst, _∙_, _≢_, List, map, ℕ, zero, suc, _+_, _*_, _<_, _≤_, min, add-one, arith, decLt, length, getD, set, length-set, List·getD-map, length-map, getD-set-same, getD-set-other}
 use Rattle.graph.specs.Limits.{maxBatch}
 use Rattle.network.specs.Change as spec
-use Rattle.items.specs.Code.{change, changes}
-use Rattle.items.proofs.Editing.{changes-length, changes-more}
-use Rattle.batch.specs.Code.{recorded, noChange, putChange, changeAt, copied, Laid}
+use Rattle.items.specs.Code.{changeAt, Laid}
+use Rattle.batch.specs.Code.{recorded, noChange, putChange, copied}
 use Rattle.batch.specs.declared.Change.{Change}
 
 pub copied-length : (ys : List Change) (xs : List ℕ) (i : ℕ) → length (copied ys xs i) ≡ length xs
@@ -70,33 +67,3 @@ copied-laid ys xs us k s c e = record {
   size = length-map ys recorded;
   words = λ i h f. rw c (copied-at ys xs k i (omega arith) (omega arith) e ∙ sym (List·getD-map recorded ys i noChange));
 }
-
--- ---- the four lists side by side
-
--- lists that are as long as the changes, and hold their words place by place, are these changes
-changes-are : (ks ts hs ws : List ℕ) (cs : List spec.Change) → length ks ≡ length cs → length ts ≡ length cs → length hs ≡ length cs → length ws ≡ length cs
-    → ((i : ℕ) → i < length cs → change (getD ks i 0) (getD ts i 0) (getD hs i 0) (getD ws i 0) ≡ getD cs i (recorded noChange)) → changes ks ts hs ws ≡ cs
-changes-are ks ts hs ws cs a b d e f =
-    let xs = changes ks ts hs ws in
-    let m : length xs ≡ length cs = omega (arith, changes-length ks ts hs ws) in
-    ext-getD (recorded noChange) xs cs m
-    (λ i l. sym (ap (λ k. getD xs k (recorded noChange)) (add-zero i)) ∙ sym (getD-drop i xs 0 (recorded noChange)) ∙ ap (λ zs. getD zs 0 (recorded noChange)) (changes-more ks ts hs ws i l) ∙ f i (omega arith))
-
--- a list of the four, from place m of xs on
-abbrev listAt : ℕ → ℕ → List ℕ → List ℕ
-listAt k m xs = take k (drop m xs)
-
-list-length : (k m : ℕ) (xs : List ℕ) → m + k ≤ length xs → length (listAt k m xs) ≡ k
-list-length k m xs h = length-take-le k (drop m xs) (let z = length-drop m xs in omega arith)
-
-list-word : (k m : ℕ) (xs : List ℕ) (i : ℕ) → i < k → getD (listAt k m xs) i 0 ≡ getD xs (m + i) 0
-list-word k m xs i h = getD-take k (drop m xs) i 0 h ∙ getD-drop m xs i 0
-
--- the parts that go from place m to place m + k hold the changes
-pub laid-parts : (k : ℕ) (cs : List spec.Change) (xs : List ℕ) → Laid k cs xs → k ≤ maxBatch → length xs ≡ 4 * maxBatch
-    → changes (take k xs) (listAt (maxBatch + k - maxBatch) maxBatch xs) (listAt (2 * maxBatch + k - 2 * maxBatch) (2 * maxBatch) xs) (listAt (3 * maxBatch + k - 3 * maxBatch) (3 * maxBatch) xs) ≡ cs
-laid-parts k cs xs l f e = rw (add-sub-cancel-left maxBatch k, add-sub-cancel-left (2 * maxBatch) k, add-sub-cancel-left (3 * maxBatch) k)
-    (changes-are (take k xs) (listAt k maxBatch xs) (listAt k (2 * maxBatch) xs) (listAt k (3 * maxBatch) xs) cs
-    (length-take-le k xs (omega arith) ∙ sym (l .size)) (list-length k maxBatch xs (omega arith) ∙ sym (l .size)) (list-length k (2 * maxBatch) xs (omega arith) ∙ sym (l .size)) (list-length k (3 * maxBatch) xs (omega arith) ∙ sym (l .size))
-    (λ i h. let j : i < k = subst (λ (m : ℕ). i < m) (l .size) h in
-    rw (getD-take k xs i 0 j, list-word k maxBatch xs i j, list-word k (2 * maxBatch) xs i j, list-word k (3 * maxBatch) xs i j) (l .words i j (omega arith))))

@@ -1,3 +1,4 @@
 pub mod Again
 pub mod Scratch
 pub mod Copying
+pub mod Walking

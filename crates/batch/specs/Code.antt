@@ -4,12 +4,9 @@
 --   noChange                     == what is read past the last of them
 --   putChange xs i c             == four lists of 1,024 words, one after the other in xs, after the words of c went to place i of each
 --   copied ys xs k               == those lists after the first k records of ys went there, each to its own place
---   changeAt xs i                == the change record whose words are at place i of the four lists
---   Laid k cs xs                 == cs are k changes, whose words are in the four lists as far as these have places
-use mathlib.Core.Path.{_≡_}
 use mathlib.Core.List.{List}
-use Prim.Native.Nat.{ℕ, zero, suc, _+_, _*_, _<_}
-use lib.ListN.{length, getD, set}
+use Prim.Native.Nat.{ℕ, zero, suc, _+_, _*_}
+use lib.ListN.{getD, set}
 use Rattle.graph.specs.Limits.{maxBatch}
 use Rattle.batch.specs.declared.Change as slice
 use Rattle.network.specs.Change.{Change}
@@ -26,13 +23,6 @@ noChange = record { kind = 0; tail = 0; head = 0; weight = 0 }
 abbrev pub putChange : List ℕ → ℕ → Change → List ℕ
 putChange xs i c = set (set (set (set xs i (c .kind)) (maxBatch + i) (c .tail)) (2 * maxBatch + i) (c .head)) (3 * maxBatch + i) (c .weight)
 
-abbrev pub changeAt : List ℕ → ℕ → Change
-changeAt xs i = change (getD xs i 0) (getD xs (maxBatch + i) 0) (getD xs (2 * maxBatch + i) 0) (getD xs (3 * maxBatch + i) 0)
-
 abbrev pub copied : List slice.Change → List ℕ → ℕ → List ℕ
 copied ys xs zero = xs
 copied ys xs (suc i) = putChange (copied ys xs i) i (recorded (getD ys i noChange))
-
-pub record Laid (k : ℕ) (cs : List Change) (xs : List ℕ) : Type 0 where
-  pub size : length cs ≡ k
-  pub words : (i : ℕ) → i < k → i < maxBatch → changeAt xs i ≡ getD cs i (recorded noChange)

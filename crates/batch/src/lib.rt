@@ -1,25 +1,15 @@
 // A batch as it is lent: a slice of change records. Thin walkers copy the records to four lists, and all else is done on plain numbers.
 use apply::Applied;
 ghost use mathlib.Core.Path.{_≡_};
-ghost use mathlib.Core.List.{List, map};
+ghost use mathlib.Core.List.{map};
 ghost use Prim.Native.Nat.{_*_, _<_, _≤_};
 ghost use lib.ListN.{length};
 ghost use Rattle.graph.specs.Limits.{maxBatch};
-ghost use Rattle.network.specs.Change as spec;
 ghost use Rattle.network.specs.Batch.{batchCall};
 ghost use Rattle.items.specs.Code.{change};
 ghost use Rattle.calls.specs.Code.{network};
 ghost use Rattle.apply.specs.Code.{batchOutcome};
-ghost use Rattle.batch.specs.Code.{recorded, putChange, copied, Laid};
-
-// The words of the longest batch, list after list: its kinds, and where its tails, heads and weights start.
-const TAILS: usize = graph::MAX_BATCH;
-
-const HEADS: usize = 2 * graph::MAX_BATCH;
-
-const WEIGHTS: usize = 3 * graph::MAX_BATCH;
-
-const BATCH_WORDS: usize = 4 * graph::MAX_BATCH;
+ghost use Rattle.batch.specs.Code.{recorded, putChange, copied};
 
 // A change: kind 1 adds an edge, 2 takes the one from `tail` to `head`, with weight 0, and 3 gives that one the weight `weight`.
 pub struct Change {
@@ -35,13 +25,13 @@ fn put_change(lists: &mut [u32], i: usize, kind: u32, tail: u32, head: u32, weig
     ensures { λ _. ⌜ now (lists .exit) ≡ putChange (now (lists .entry)) i (change kind tail head weight) ⌝ }
 {
     lists[i] = kind;
-    lists[TAILS + i] = tail;
-    lists[HEADS + i] = head;
-    lists[WEIGHTS + i] = weight;
+    lists[items::TAILS + i] = tail;
+    lists[items::HEADS + i] = head;
+    lists[items::WEIGHTS + i] = weight;
 }
 
 // The first `k` changes are copied to the four lists.
-fn copy_changes(changes: &[Change], k: usize, lists: &mut [u32])
+pub fn copy_changes(changes: &[Change], k: usize, lists: &mut [u32])
     requires { ⌜ (k ≤ length (now changes)) × (k ≤ maxBatch) × (length (now lists) ≡ 4 * maxBatch) ⌝ }
     ensures { λ _. ⌜ now (lists .exit) ≡ copied (now (changes .entry)) (now (lists .entry)) k ⌝ }
 {
@@ -51,41 +41,6 @@ fn copy_changes(changes: &[Change], k: usize, lists: &mut [u32])
         put_change(lists, i, c.kind, c.tail, c.head, c.weight);
         i += 1;
     }
-}
-
-// A batch of `size` changes, of which the four lists hold as many as they have room for: more are refused by number 1.
-fn batch_copied(
-    n: u32,
-    landmarks: &[u32],
-    tails: &mut [u32],
-    heads: &mut [u32],
-    weights: &mut [u32],
-    count: u32,
-    forward: &mut [u32],
-    backward: &mut [u32],
-    lists: &[u32],
-    size: usize,
-) -> Applied
-    requires { ⌜ length (now lists) ≡ 4 * maxBatch ⌝ }
-    ensures { λ r. ⌜ ((cs : List spec.Change) → Laid size cs (now (lists .entry)) → batchOutcome r (now (tails .exit)) (now (heads .exit)) (now (weights .exit)) (now (forward .exit)) (now (backward .exit)) ≡ batchCall n (now (landmarks .entry)) (network (now (tails .entry)) (now (heads .entry)) (now (weights .entry)) (now (forward .entry)) (now (backward .entry)) count) cs) ⌝ }
-{
-    if size > graph::MAX_BATCH {
-        return Applied::Refused(1, 0);
-    }
-    plain_batch::batch_lists(
-        n,
-        landmarks,
-        tails,
-        heads,
-        weights,
-        count,
-        forward,
-        backward,
-        &lists[..size],
-        &lists[TAILS..TAILS + size],
-        &lists[HEADS..HEADS + size],
-        &lists[WEIGHTS..WEIGHTS + size],
-    )
 }
 
 // A batch of changes, all or none: refused, or the table and all rows are as they are after it, and the report says so.
@@ -102,13 +57,13 @@ pub fn batch(
 ) -> Applied
     ensures { λ r. ⌜ batchOutcome r (now (tails .exit)) (now (heads .exit)) (now (weights .exit)) (now (forward .exit)) (now (backward .exit)) ≡ batchCall n (now (landmarks .entry)) (network (now (tails .entry)) (now (heads .entry)) (now (weights .entry)) (now (forward .entry)) (now (backward .entry)) count) (map recorded (now (changes .entry))) ⌝ }
 {
-    let mut lists = [0u32; BATCH_WORDS];
+    let mut lists = [0u32; items::BATCH_WORDS];
     copy_changes(
         changes,
         graph::lesser(changes.len(), graph::MAX_BATCH),
         &mut lists,
     );
-    batch_copied(
+    plain_batch::batch_laid(
         n,
         landmarks,
         tails,

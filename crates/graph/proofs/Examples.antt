@@ -190,5 +190,5 @@ unfolding replied choose
 outcomes = refl
 
 -- "words past those stay"
-overs : map (over (1 ∷ 2 ∷ [])) ((7 ∷ 8 ∷ 9 ∷ []) ∷ (7 ∷ 8 ∷ []) ∷ []) ≡ (1 ∷ 2 ∷ 9 ∷ []) ∷ (1 ∷ 2 ∷ []) ∷ []
+overs : map (over {A = ℕ} (1 ∷ 2 ∷ [])) ((7 ∷ 8 ∷ 9 ∷ []) ∷ (7 ∷ 8 ∷ []) ∷ []) ≡ (1 ∷ 2 ∷ 9 ∷ []) ∷ (1 ∷ 2 ∷ []) ∷ []
 overs = refl

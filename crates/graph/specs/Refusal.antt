@@ -10,7 +10,7 @@
 --   Outcome A L             == the reply of a call, and everything lent to it as it is at exit
 --   choose v new old        == new where v accepts, old where it refuses
 --   outcome v a new old     == accepted with a and new, or refused with all as before: "No lent memory changes"
---   over new old            == new words in front of a list; those past them stay
+--   over new old            == new entries in front of a list; those past them stay
 use mathlib.Core.Bool.{Bool, true, false}
 use mathlib.Core.List.{List, _++_}
 use Prim.Native.Nat.{ℕ}
@@ -52,5 +52,5 @@ choose (refuse k i) new old = old
 abbrev pub outcome : {A L : Type 0} → Verdict → A → L → L → Outcome A L
 outcome v a new old = record { reply = replied v a; memory = choose v new old }
 
-abbrev pub over : List ℕ → List ℕ → List ℕ
+abbrev pub over : {A : Type 0} → List A → List A → List A
 over new old = new ++ drop (length new) old

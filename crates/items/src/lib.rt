@@ -15,6 +15,15 @@ ghost use Rattle.network.specs.Change.{edit, edits, item, items, words, against
 ghost use Rattle.items.specs.Code.{change, changes, verdict, Leaves};
 ghost use Rattle.calls.specs.Code.{Tabled};
 
+// A batch in one list: the kinds of the longest batch, and where its tails, heads and weights start.
+pub const TAILS: usize = graph::MAX_BATCH;
+
+pub const HEADS: usize = 2 * graph::MAX_BATCH;
+
+pub const WEIGHTS: usize = 3 * graph::MAX_BATCH;
+
+pub const BATCH_WORDS: usize = 4 * graph::MAX_BATCH;
+
 // The count of the table after changes, or the number and place of the one that is refused.
 pub enum Edited {
     Count(usize),

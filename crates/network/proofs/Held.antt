@@ -39,7 +39,7 @@ module _ (es : List Edge) (ls : List ℕ) (n : ℕ) where
 
 -- ---- its opening, and queries on it
 
-reply-given : {A : Type 0} (r : Reply A) → verdictOf r ≡ accept → (a : A) × (r ≡ accepted a)
+pub reply-given : {A : Type 0} (r : Reply A) → verdictOf r ≡ accept → (a : A) × (r ≡ accepted a)
 unfolding verdictOf
 reply-given (accepted a) h = (a, refl)
 reply-given (refused k i) h = absurd (not-accept h)

@@ -13,3 +13,4 @@ pub mod Stays
 pub mod Steady
 pub mod Routed
 pub mod Drift
+pub mod Alike

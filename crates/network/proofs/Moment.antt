@@ -86,7 +86,41 @@ module _ (n : ℕ) (ls : List ℕ) (w : Network) where
       let e = choose-accept (openMemory n ls w) (w .memory) v in
       (rw e (open-good v), ap (λ m. edgesIn (begun m)) e)
 
--- ---- a batch
+-- ---- a batch on a network that numbers 1 to 4 let pass, whatever words its rows hold
+
+module _ (n : ℕ) (ls : List ℕ) (w : Network) (b : List Change) (h : faults n ls w ≡ accept) where
+  -- of the call's refusals those are left that document 01 has for a batch, and 13
+  pub batch-own : batchVerdict n ls w b ≡ (turnedBack n (edgesIn w) b ▷ stillWaiting n ls w (newEdges w b))
+  unfolding turnedBack batchFaults
+  batch-own = then-assoc (longBatch (length b)) _ _ ∙ then-same (longBatch (length b)) (λ _. accept-then h)
+      ∙ sym (then-assoc (longBatch (length b)) (items n 0 (edgesIn w) b) _)
+
+  -- the network after it, where it is accepted
+  abbrev pub batched : Network
+  batched = record { memory = batchMemory n ls w (newEdges w b); count = length (newEdges w b) }
+
+  module _ (e : turnedBack n (edgesIn w) b ≡ accept) where
+    pub edits-good : Sound n (newEdges w b) × (length (newEdges w b) ≤ maxEdges)
+    unfolding turnedBack
+    edits-good =
+        let o = faults-parts n ls w h in
+        let z = then-accept (longBatch (length b)) (items n 0 (edgesIn w) b) e in
+        let y = table-sound n (w .memory .table) (w .count) (o .4) in
+        items-good n 0 (edgesIn w) b (z .1) (y .1) (rw (table-count (w .memory .table) (w .count) (o .1) (y .0)) (y .0))
+
+    -- its lists are as long as before, and its table holds the new edges, which keep the rules
+    pub batched-faults : faults n ls batched ≡ accept
+    batched-faults =
+        let o = faults-parts n ls w h in
+        let fs = newEdges w b in
+        accept-then (o .0)
+        ∙ accept-then (rewritten-long fs (edits-good .1) (w .memory .table) (o .1))
+        ∙ accept-then (rows-long n ls (batchRow n ls (edgesIn w) fs (w .memory .rows .forward)) (batchRow n ls (map reverse (edgesIn w)) (map reverse fs) (w .memory .rows .backward))
+        (batch-sized n ls (edgesIn w) fs (w .memory .rows .forward)) (batch-sized n ls (map reverse (edgesIn w)) (map reverse fs) (w .memory .rows .backward)) (w .memory .rows) (o .2))
+        ∙ accept-then (o .3)
+        ∙ accept-table n (batched .memory .table) (length fs) (edits-good .1) (rw (rewritten-edges fs (w .memory .table)) (edits-good .0))
+
+-- ---- a batch on one that keeps the invariant
 
 pub record Step (n : ℕ) (ls : List ℕ) (w : Network) (b : List Change) : Type 0 where
   pub kept : Good n ls (handOn w (batchCall n ls w b))
@@ -111,11 +145,8 @@ module _ (n : ℕ) (ls : List ℕ) (w : Network) (b : List Change) (g : Good n l
   abbrev out : Verdict → Outcome Report Memory
   out v = outcome v (report n ls w fs) (batchMemory n ls w fs) (w .memory)
 
-  -- of the call's refusals those are left that document 01 has for a batch, and 13
   judged : batchVerdict n ls w b ≡ (turnedBack n es b ▷ stillWaiting n ls w fs)
-  unfolding turnedBack batchFaults
-  judged = then-assoc (longBatch (length b)) _ _ ∙ then-same (longBatch (length b)) (λ _. accept-then (good-faults n ls w g))
-      ∙ sym (then-assoc (longBatch (length b)) (items n 0 es b) _)
+  judged = batch-own n ls w b (good-faults n ls w g)
 
   refused-kept : (v : Verdict) (k i : ℕ) → (out v) .reply ≡ refused k i → handOn w (out v) ≡ w
   unfolding replied choose reported
@@ -156,18 +187,11 @@ module _ (n : ℕ) (ls : List ℕ) (w : Network) (b : List Change) (g : Good n l
   -- ---- accepted
 
   module _ (e : turnedBack n es b ≡ accept) where
-    new-good : Sound n fs × (length fs ≤ maxEdges)
-    unfolding turnedBack
-    new-good =
-        let z = then-accept (longBatch (length b)) (items n 0 es b) e in
-        let y = table-sound n (w .memory .table) (w .count) (g .sound) in
-        items-good n 0 es b (z .1) (y .1) (rw (good-count n ls w g) (y .0))
-
     old-in : Within n es
     old-in = good-within n ls w g
 
     new-in : Within n fs
-    new-in = within n fs (new-good .0)
+    new-in = within n fs ((edits-good n ls w b (good-faults n ls w g) e) .0)
 
     old-back : Within n (map reverse es)
     old-back = within-reverse n es old-in
@@ -182,22 +206,23 @@ module _ (n : ℕ) (ls : List ℕ) (w : Network) (b : List Change) (g : Good n l
     rests-back = batch-rests n ls (g .chosen) (map reverse es) (map reverse fs) old-back new-back back (g .backward)
 
     abbrev next : Network
-    next = record { memory = batchMemory n ls w fs; count = length fs }
+    next = batched n ls w b (good-faults n ls w g)
 
     read : edgesIn next ≡ fs
     read = rewritten-edges fs (w .memory .table)
 
     next-good : Good n ls next
-    next-good = record {
-      sized = g .sized;
-      roomy = rewritten-long fs (new-good .1) (w .memory .table) (g .roomy);
-      long = rows-long n ls (batchRow n ls es fs ahead) (batchRow n ls (map reverse es) (map reverse fs) back) (batch-sized n ls es fs ahead)
-          (batch-sized n ls (map reverse es) (map reverse fs) back) (w .memory .rows) (g .long);
-      chosen = g .chosen;
-      sound = accept-table n (next .memory .table) (length fs) (new-good .1) (rw read (new-good .0));
-      forward = rw read (batch-best n ls (g .chosen) es fs old-in new-in ahead (g .forward));
-      backward = rw read (batch-best n ls (g .chosen) (map reverse es) (map reverse fs) old-back new-back back (g .backward));
-    }
+    next-good =
+        let o = faults-parts n ls next (batched-faults n ls w b (good-faults n ls w g) e) in
+        record {
+          sized = o .0;
+          roomy = o .1;
+          long = o .2;
+          chosen = o .3;
+          sound = o .4;
+          forward = rw read (batch-best n ls (g .chosen) es fs old-in new-in ahead (g .forward));
+          backward = rw read (batch-best n ls (g .chosen) (map reverse es) (map reverse fs) old-back new-back back (g .backward));
+        }
 
     reports : Reported n ls es fs w (report n ls w fs)
     reports = record {

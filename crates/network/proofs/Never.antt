@@ -13,13 +13,13 @@ use Rattle.graph.specs.Edge.{Edge, reverse, range}
 use Rattle.graph.specs.Table.{follow, rules}
 use Rattle.graph.specs.Sorted as order
 use Rattle.graph.proofs.Tests.{or-false}
-use Rattle.graph.proofs.Verdicts.{accept-then, accept-if, then-same, then-last, verdict-replied}
+use Rattle.graph.proofs.Verdicts.{accept-if, then-last, verdict-replied}
 use Rattle.graph.proofs.Order.{within}
 use Rattle.run.specs.Run.{word}
 use Rattle.theory.proofs.Reverse.{within-reverse}
 use Rattle.network.specs.Network.{Network, edgesIn, faults, row}
 use Rattle.network.specs.Open.{openVerdict, openCall}
-use Rattle.network.specs.Query.{Query, Words, scheduled, longSchedule, shortWords, queryFaults, queryVerdict, queryCall}
+use Rattle.network.specs.Query.{Query, Words, scheduled, queryFaults, queryVerdict, queryCall}
 use Rattle.network.specs.Change.{Change, edit, words, against, item, items}
 use Rattle.network.specs.Batch.{batchCall}
 use Rattle.network.specs.Current.{turnedBack, queryBack}
@@ -27,9 +27,9 @@ use Rattle.network.specs.History.{moment, edgesNow}
 use Rattle.network.specs.Never.{Never, OpenNever, BatchNever, QueryNever}
 use Rattle.network.proofs.Items.{table-sound}
 use Rattle.network.proofs.Rows.{open-rests}
-use Rattle.network.proofs.Moment.{Good, faults-parts, steps, moment-good}
+use Rattle.network.proofs.Moment.{Good, faults-parts, good-faults, steps, moment-good}
 use Rattle.network.proofs.Ends.{query-ends}
-use Rattle.network.proofs.Query.{query-parts, query-request, query-rests}
+use Rattle.network.proofs.Query.{query-parts, query-own, query-request, query-rests}
 
 -- ---- what turns each call back
 
@@ -78,13 +78,11 @@ query-verdict n ls w q out f b = then-last _ (λ h.
 -- waits after n rounds.
 pub query-judged : (n : ℕ) (ls : List ℕ) (w : Network) (q : Query) (out : Words) → Good n ls w
     → verdictOf ((queryCall n ls w q out) .reply) ≡ queryBack n q out
-unfolding queryCall queryFaults
+unfolding queryCall
 query-judged n ls w q out g = verdict-replied (queryVerdict n ls w q out) _
     ∙ then-last (queryFaults n ls w q (length (out .starts)) (length (out .settled)))
     (λ h. let r = query-request n ls w q (length (out .starts)) (length (out .settled)) h in accept-if 13 0 (query-rests n ls w g q (r .0) (r .1) (r .2)))
-    ∙ accept-then (g .sized)
-    ∙ then-same (longSchedule (length (q .schedule))) (λ _. accept-then (g .roomy) ∙ accept-then (g .long)
-    ∙ then-same (shortWords n (length (out .starts)) (length (out .settled))) (λ _. accept-then (g .chosen) ∙ accept-then (g .sound)))
+    ∙ query-own n ls w q _ _ (good-faults n ls w g)
 
 -- ---- which numbers come
 

@@ -7,13 +7,13 @@ use Rattle.property.specs.Property.{Property, property, properties, isProperty}
 use Rattle.property.specs.Laws.{Laws, Joins}
 use Rattle.property.proofs.Instances.{property-laws, property-joins}
 use Rattle.frontier.specs.Waiting.{anyOf}
-use Rattle.graph.specs.Refusal.{accept, refuseIf, accepted, over}
+use Rattle.graph.specs.Refusal.{accept, _▷_, refuseIf, accepted, over}
 use Rattle.graph.specs.Edge.{Edge, reverse, range}
 use Rattle.graph.specs.Route.{Route, Best}
 use Rattle.graph.specs.Table.{size, shortTable, table}
 use Rattle.graph.proofs.Tests.{both, neither}
 use Rattle.graph.proofs.Lists.{mem-range-0, range-below, getD-mem, mem-index}
-use Rattle.graph.proofs.Verdicts.{then-accept, if-accept, reply-accepted, choose-accept}
+use Rattle.graph.proofs.Verdicts.{then-accept, accept-then, then-same, if-accept, reply-accepted, choose-accept}
 use Rattle.graph.proofs.Order.{Within}
 use Rattle.run.specs.Run.{Tally, noTally, word, relaxable, pass}
 use Rattle.run.specs.Rounds.{Rounds}
@@ -24,11 +24,11 @@ use Rattle.theory.proofs.Rounds.{settle-all}
 use Rattle.theory.proofs.Exists.{best-same}
 use Rattle.theory.proofs.Reverse.{reversed-best}
 use Rattle.theory.proofs.Query.{by, Bounded, bound-under, bound-is, via, asked-source, asked-other, asked-good}
-use Rattle.network.specs.Network.{Network, edgesIn, shortRows, landmarks, row, propertyOf, landmarkOf}
+use Rattle.network.specs.Network.{Network, edgesIn, shortRows, landmarks, faults, row, propertyOf, landmarkOf}
 use Rattle.network.specs.Query.{Query, Words, rowAt, scheduled, known, atStart, atRounds, atEnd, longSchedule, shortWords, requested, queryFaults, queryVerdict, answered, queryCall}
 use Rattle.network.specs.History.{Triangle, QueryRun, QueryHolds}
 use Rattle.network.proofs.Ends.{query-ends}
-use Rattle.network.proofs.Moment.{Good, good-within}
+use Rattle.network.proofs.Moment.{Good, good-within, faults-parts}
 
 -- ---- lists and rows
 
@@ -56,6 +56,16 @@ query-parts n ls w q x y h =
     let f = then-accept (landmarks n ls) _ (e .1) in
     let g = then-accept (table n (w .memory .table) (w .count)) (requested n q) (f .1) in
     (a .0, b .0, c .0, d .0, e .0, f .0, g .0, g .1)
+
+-- of these its own are left where numbers 1 to 4 let the network pass
+pub query-own : (n : ℕ) (ls : List ℕ) (w : Network) (q : Query) (x y : ℕ) → faults n ls w ≡ accept
+    → queryFaults n ls w q x y ≡ (longSchedule (length (q .schedule)) ▷ shortWords n x y ▷ requested n q)
+unfolding queryFaults
+query-own n ls w q x y h =
+    let o = faults-parts n ls w h in
+    accept-then (o .0)
+    ∙ then-same (longSchedule (length (q .schedule))) (λ _. accept-then (o .1) ∙ accept-then (o .2)
+    ∙ then-same (shortWords n x y) (λ _. accept-then (o .3) ∙ accept-then (o .4)))
 
 -- what is known of a request where no refusal applies
 pub query-request : (n : ℕ) (ls : List ℕ) (w : Network) (q : Query) (x y : ℕ) → queryFaults n ls w q x y ≡ accept

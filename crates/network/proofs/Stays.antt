@@ -15,7 +15,7 @@ use Rattle.network.proofs.Items.{items-good, table-sound, table-count, 
 use Rattle.network.proofs.Rows.{length-flat, open-sized, batch-sized}
 use Rattle.network.proofs.Moment.{faults-parts}
 
-over-rest : (k : ℕ) (new xs : List ℕ) → length new ≡ k → RestStays k xs (over new xs)
+pub over-rest : {A : Type 0} (k : ℕ) (new xs : List A) → length new ≡ k → drop k (over new xs) ≡ drop k xs
 over-rest k new xs q = drop-at new (drop (length new) xs) k q ∙ ap (λ j. drop j xs) q
 
 rows-stay : (n : ℕ) (ls : List ℕ) (f : ℕ → State) → ((r : ℕ) → length ((f r) .words) ≡ n) → (xs : List ℕ)

@@ -2,7 +2,7 @@
 -- past those stay"), "Batch", "Settled check" and "Near the edges, and a small deck" ("An empty batch is accepted"); document 02, One ("its own present
 -- figure changes nothing"). Assumes nothing.
 --
---   RestStays k xs ys == past the first k words the list ys is as xs was
+--   RestStays k xs ys == past the first k entries the list ys is as xs was
 --   RowsStay n ls v w == so are both row lists, past their rows
 --   Zeroed m xs ys    == a table list that was xs and has m records now: zeros from there to 2,047, and the words from 2,048 on as before
 --
@@ -31,7 +31,7 @@ use Rattle.network.specs.History.{moment}
 
 -- ---- past what is written
 
-abbrev pub RestStays : ℕ → List ℕ → List ℕ → Type 0
+abbrev pub RestStays : {A : Type 0} → ℕ → List A → List A → Type 0
 RestStays k xs ys = drop k ys ≡ drop k xs
 
 pub record RowsStay (n : ℕ) (ls : List ℕ) (v w : Memory) : Type 0 where

@@ -5,11 +5,16 @@ use graph::Judged;
 use graph::words;
 use items::Edited;
 ghost use mathlib.Core.Path.{_≡_};
+ghost use mathlib.Core.List.{List};
+ghost use Prim.Native.Nat.{_*_};
+ghost use lib.ListN.{length};
+ghost use Rattle.graph.specs.Limits.{maxBatch};
 ghost use Rattle.graph.specs.Edge.{edges};
 ghost use Rattle.graph.specs.Code.{told, Room};
 ghost use Rattle.network.specs.Batch.{batchCall, batchFaults};
 ghost use Rattle.calls.specs.Code.{network};
-ghost use Rattle.items.specs.Code.{changes};
+ghost use Rattle.network.specs.Change as spec;
+ghost use Rattle.items.specs.Code.{changes, Laid};
 ghost use Rattle.apply.specs.Code.{batchOutcome};
 
 // Numbers 1 to 4 of a batch of `size` changes.
@@ -42,7 +47,7 @@ fn judge_batch(
 }
 
 // The records of a table, to the front of lists 2.
-fn copy_table(
+pub fn copy_table(
     count: usize,
     tails: &[u32],
     heads: &[u32],
@@ -133,4 +138,39 @@ pub fn batch_lists(
             count2,
         ),
     }
+}
+
+// A batch of `size` changes, of which the four lists hold as many as they have room for: more are refused by number 1.
+pub fn batch_laid(
+    n: u32,
+    landmarks: &[u32],
+    tails: &mut [u32],
+    heads: &mut [u32],
+    weights: &mut [u32],
+    count: u32,
+    forward: &mut [u32],
+    backward: &mut [u32],
+    lists: &[u32],
+    size: usize,
+) -> Applied
+    requires { ⌜ length (now lists) ≡ 4 * maxBatch ⌝ }
+    ensures { λ r. ⌜ ((cs : List spec.Change) → Laid size cs (now (lists .entry)) → batchOutcome r (now (tails .exit)) (now (heads .exit)) (now (weights .exit)) (now (forward .exit)) (now (backward .exit)) ≡ batchCall n (now (landmarks .entry)) (network (now (tails .entry)) (now (heads .entry)) (now (weights .entry)) (now (forward .entry)) (now (backward .entry)) count) cs) ⌝ }
+{
+    if size > graph::MAX_BATCH {
+        return Applied::Refused(1, 0);
+    }
+    batch_lists(
+        n,
+        landmarks,
+        tails,
+        heads,
+        weights,
+        count,
+        forward,
+        backward,
+        &lists[..size],
+        &lists[items::TAILS..items::TAILS + size],
+        &lists[items::HEADS..items::HEADS + size],
+        &lists[items::WEIGHTS..items::WEIGHTS + size],
+    )
 }

@@ -11,12 +11,15 @@ ghost use Rattle.network.specs.Batch.{batchCall};
 ghost use Rattle.network.specs.Settled.{settledCall};
 ghost use Rattle.network.specs.Choice.{choiceCall};
 ghost use Rattle.answers.specs.Routing.{routeCall};
+ghost use Rattle.answers.specs.Preview.{previewCall};
+ghost use Rattle.answers.specs.Digest.{digestCall};
 ghost use Rattle.dimacs.specs.Call.{readCall, writeCall, sourcesCall};
 ghost use Rattle.graph.specs.Code.{columns};
 ghost use Rattle.calls.specs.Code.{rowLists, lists, network};
 ghost use Rattle.query.specs.Code.{asking, wordsOf};
 ghost use Rattle.routing.specs.Code.{requesting, answerOf};
-ghost use Rattle.spelling.specs.Code.{openWords, tallyWords, reportWords, checkWords, choiceWords, sizeWords, oneWord, changesOf};
+ghost use Rattle.effects.specs.Code.{shownOf};
+ghost use Rattle.spelling.specs.Code.{openWords, tallyWords, reportWords, checkWords, choiceWords, sizeWords, oneWord, digestWords, changesOf};
 ghost use Rattle.plate_track.specs.Code.{spelled, alone, lookupStart, version};
 
 const VERSION: u32 = 1;
@@ -300,4 +303,63 @@ pub extern "C" fn plate_track_route(
         marks,
     );
     spell::spell_route(r, reply)
+}
+
+// Preview: what a batch would do.
+#[no_mangle]
+pub extern "C" fn plate_track_preview(
+    n: u32,
+    landmarks: &[u32],
+    tails: &[u32],
+    heads: &[u32],
+    weights: &[u32],
+    count: u32,
+    forward: &[u32],
+    backward: &[u32],
+    changes: &[[u32; 4]],
+    property: u32,
+    source: u32,
+    effects: &mut [u32],
+    moves: &mut [i64],
+    reply: &mut [u64],
+) -> u32
+    ensures { λ k. ⌜ record { number = k; reply = now (reply .exit); memory = shownOf (now (effects .exit)) (now (moves .exit)) } ≡ spelled openWords (previewCall n (now (landmarks .entry)) (network (now (tails .entry)) (now (heads .entry)) (now (weights .entry)) (now (forward .entry)) (now (backward .entry)) count) (changesOf (now (changes .entry))) property source (shownOf (now (effects .entry)) (now (moves .entry)))) (shownOf (now (effects .entry)) (now (moves .entry))) (now (reply .entry)) ⌝ }
+{
+    if reply.len() < REPLY_WORDS {
+        return 2;
+    }
+    let r = unpack::preview(
+        n,
+        landmarks,
+        tails,
+        heads,
+        weights,
+        count,
+        forward,
+        backward,
+        changes,
+        property,
+        source,
+        effects,
+        moves,
+    );
+    spell::spell_preview(r, reply)
+}
+
+// Digest of a preview.
+#[no_mangle]
+pub extern "C" fn plate_track_digest(
+    n: u32,
+    property: u32,
+    effects: &[u32],
+    moves: &[i64],
+    reply: &mut [u64],
+) -> u32
+    ensures { λ k. ⌜ record { number = k; reply = now (reply .exit); memory = tt } ≡ spelled digestWords (alone (digestCall n property (shownOf (now (effects .entry)) (now (moves .entry))))) tt (now (reply .entry)) ⌝ }
+{
+    if reply.len() < REPLY_WORDS {
+        return 2;
+    }
+    let r = digest::digest_preview(n, property, effects, moves);
+    spell::spell_digest(r, reply)
 }

@@ -4,13 +4,14 @@
 --   numberOf r             == the refusal number of a reply; 0 where it is accepted
 --   wordsTold f r          == the words of a reply: f of what is answered, or the place of a refusal
 --   Tells f r k xs ys      == k and ys spell the reply r, where xs was the reply list: words past those of the reply stay
---   openWords              == an opening tells only that it was accepted
+--   openWords              == an opening, like a preview, tells only that it was accepted
 --   tallyWords             == taken, rounds, stores
 --   reportWords            == count, affected, stores
 --   checkWords             == 1 where settled; else 0, side, row, record
 --   choiceWords            == how many, then the four places
 --   sizeWords              == n and the count of a network that was read
 --   oneWord                == a single number: where a row starts, how long a text is, how many sources there are, how many vertices a route has
+--   digestWords            == gained, lost, better, worse, and the vertex that loses most
 --   wordsAt j cs           == word j of each of the changes cs
 --   changeOf c             == four words as a change record
 --   changesOf cs           == a list of four words each as change records
@@ -23,6 +24,7 @@ use Rattle.run.specs.Run.{Tally}
 use Rattle.network.specs.Batch.{Report}
 use Rattle.network.specs.Settled.{Check, settled, found}
 use Rattle.network.specs.Change.{Change}
+use Rattle.answers.specs.Digest.{Digest}
 use Rattle.choice.specs.Code.{padded}
 use Rattle.items.specs.Code.{change}
 use Rattle.dimacs.specs.Call.{Size}
@@ -67,6 +69,9 @@ sizeWords s = s .vertices ∷ s .count ∷ []
 
 abbrev pub oneWord : ℕ → List ℕ
 oneWord i = i ∷ []
+
+abbrev pub digestWords : Digest → List ℕ
+digestWords d = d .gained ∷ d .lost ∷ d .better ∷ d .worse ∷ d .most ∷ []
 
 -- ---- changes
 

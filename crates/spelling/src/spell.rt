@@ -1,6 +1,7 @@
 // Replies as a number and words.
 use apply::Applied;
 use choice::Chosen;
+use digest::Digested;
 use graph::Judged;
 use open::Opened;
 use query::Answered;
@@ -13,7 +14,8 @@ ghost use mathlib.Core.Path.{_≡_};
 ghost use mathlib.Core.List.{List};
 ghost use Prim.Native.Nat.{ℕ, _≤_};
 ghost use lib.ListN.{length};
-ghost use Rattle.graph.specs.Refusal.{Reply};
+ghost use Rattle.graph.specs.Refusal.{Reply, replied};
+ghost use Rattle.graph.specs.Code.{told};
 ghost use Rattle.open.specs.Code.{opening};
 ghost use Rattle.query.specs.Code.{answering};
 ghost use Rattle.apply.specs.Code.{applying};
@@ -23,7 +25,8 @@ ghost use Rattle.reader.specs.Code as network;
 ghost use Rattle.sources.specs.Code as sources;
 ghost use Rattle.writer.specs.Code.{writing};
 ghost use Rattle.routing.specs.Code.{routing};
-ghost use Rattle.spelling.specs.Code.{replyWords, Tells, openWords, tallyWords, reportWords, checkWords, choiceWords, sizeWords, oneWord};
+ghost use Rattle.digest.specs.Code.{digesting};
+ghost use Rattle.spelling.specs.Code.{replyWords, Tells, openWords, tallyWords, reportWords, checkWords, choiceWords, sizeWords, oneWord, digestWords};
 
 // The reply to an opening.
 pub fn spell_open(r: Opened, reply: &mut [u64]) -> u32
@@ -184,6 +187,41 @@ pub fn spell_route(r: RouteReply, reply: &mut [u64]) -> u32
             0
         }
         RouteReply::Refused(number, place) => {
+            reply[0] = place as u64;
+            number
+        }
+    }
+}
+
+// The reply to a preview.
+pub fn spell_preview(r: Judged, reply: &mut [u64]) -> u32
+    requires { ⌜ replyWords ≤ length (now reply) ⌝ }
+    ensures { λ k. ⌜ Tells openWords (replied (told r) tt) k (now (reply .entry)) (now (reply .exit)) ⌝ }
+{
+    match r {
+        Judged::Fine => 0,
+        Judged::Refused(number, place) => {
+            reply[0] = place as u64;
+            number
+        }
+    }
+}
+
+// The reply to a digest.
+pub fn spell_digest(r: Digested, reply: &mut [u64]) -> u32
+    requires { ⌜ replyWords ≤ length (now reply) ⌝ }
+    ensures { λ k. ⌜ Tells digestWords (digesting r) k (now (reply .entry)) (now (reply .exit)) ⌝ }
+{
+    match r {
+        Digested::Told(d) => {
+            reply[0] = d.gained as u64;
+            reply[1] = d.lost as u64;
+            reply[2] = d.better as u64;
+            reply[3] = d.worse as u64;
+            reply[4] = d.most as u64;
+            0
+        }
+        Digested::Refused(number, place) => {
             reply[0] = place as u64;
             number
         }

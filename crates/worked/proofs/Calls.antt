@@ -20,8 +20,10 @@ use Rattle.network.specs.Lookup.{indexOf, lookupNumber, lookupRow}
 use Rattle.network.specs.Caller.{reported}
 use Rattle.network.specs.Current.{turnedBack, after}
 use Rattle.answers.specs.Routing.{firstOf, followed, marksOf, routeFaults, routeCall}
+use Rattle.answers.specs.Preview.{previewFaults, previewCall}
+use Rattle.answers.specs.Digest.{digestFaults, digestCall}
 use Rattle.worked.specs.Starred.{those, saidOfQuery, saidOfBatch, affectedList, answer, found}
 
 unfoldable pub calls : Unit {0}
-unfolding property anyOf countOf _▷_ refuseIf replied verdictOf choose keepIf keep exists zip edges range order.follow order.rules order.insert order.delete order.update storeIf relax clear handle visitIf visit takeEntryIf takeEntry pass round settle opened bound asked counterpart mark sweep hunt affected cleared reopened prepared areLandmarks flat unsettled storesOf openCall scheduled queryCall queryFaults edit item words against items affectedOver batchCall batchFaults inRecords inRows settledCall ranked choiceCall indexOf lookupNumber lookupRow reported turnedBack after firstOf followed marksOf routeFaults routeCall those saidOfQuery saidOfBatch affectedList answer found
+unfolding property anyOf countOf _▷_ refuseIf replied verdictOf choose keepIf keep exists zip edges range order.follow order.rules order.insert order.delete order.update storeIf relax clear handle visitIf visit takeEntryIf takeEntry pass round settle opened bound asked counterpart mark sweep hunt affected cleared reopened prepared areLandmarks flat unsettled storesOf openCall scheduled queryCall queryFaults edit item words against items affectedOver batchCall batchFaults inRecords inRows settledCall ranked choiceCall indexOf lookupNumber lookupRow reported turnedBack after firstOf followed marksOf routeFaults routeCall previewFaults previewCall digestFaults digestCall those saidOfQuery saidOfBatch affectedList answer found
 calls = tt

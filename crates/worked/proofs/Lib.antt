@@ -4,3 +4,4 @@ pub mod Refusals
 pub mod Examples
 pub mod Retunes
 pub mod Routes
+pub mod Previews

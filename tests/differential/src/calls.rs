@@ -53,13 +53,15 @@ pub fn call(case: &Case, salt: u32) -> Result<(u32, Case), String> {
     let mut sources = Lent::new(&case.sources, salt);
     let mut vertices = Lent::new(&case.vertices, !salt);
     let mut marks = Lent::new(&case.marks, salt);
+    let mut effects = Lent::new(&case.effects, !salt);
+    let mut moves = Lent::new(&case.moves, -1 - i64::from(salt));
     let mut reply = Lent::new(&case.reply, u64::from(salt) << 20);
     macro_rules! lend {
         ($($list:ident)*) => { $(let $list = $list.lend();)* };
     }
     let answer = {
         let (n, count) = (w.n, w.count);
-        lend!(landmarks tails heads weights forward backward schedule starts settled changes text sources vertices marks reply);
+        lend!(landmarks tails heads weights forward backward schedule starts settled changes text sources vertices marks effects moves reply);
         match case.call {
             Call::Open => plate_track::open(n, landmarks, tails, heads, weights, count, forward, backward, reply),
             Call::Query => plate_track::query(
@@ -73,6 +75,10 @@ pub fn call(case: &Case, salt: u32) -> Result<(u32, Case), String> {
             Call::Write => plate_track::write(n, tails, heads, weights, count, text, reply),
             Call::ReadSources => plate_track::read_sources(text, n, sources, reply),
             Call::Route => plate_track::route(n, tails, heads, weights, count, case.property, case.source, case.target, vertices, marks, reply),
+            Call::Preview => plate_track::preview(
+                n, landmarks, tails, heads, weights, count, forward, backward, changes, case.property, case.source, effects, moves, reply,
+            ),
+            Call::Digest => plate_track::digest(n, case.property, effects, moves, reply),
         }
     };
     let number = answer.err().map_or(plate_track::ACCEPTED, |refused| refused.number);
@@ -81,7 +87,7 @@ pub fn call(case: &Case, salt: u32) -> Result<(u32, Case), String> {
             return Err(format!("words beside the list {} were touched", stringify!($list)));
         })* };
     }
-    guarded!(landmarks tails heads weights forward backward schedule starts settled changes text sources vertices marks reply);
+    guarded!(landmarks tails heads weights forward backward schedule starts settled changes text sources vertices marks effects moves reply);
     let mut after = case.clone();
     after.network.landmarks.copy_from_slice(landmarks.list());
     after.network.tails.copy_from_slice(tails.list());
@@ -97,6 +103,8 @@ pub fn call(case: &Case, salt: u32) -> Result<(u32, Case), String> {
     after.sources.copy_from_slice(sources.list());
     after.vertices.copy_from_slice(vertices.list());
     after.marks.copy_from_slice(marks.list());
+    after.effects.copy_from_slice(effects.list());
+    after.moves.copy_from_slice(moves.list());
     after.reply.copy_from_slice(reply.list());
     Ok((number, after))
 }

@@ -14,6 +14,8 @@ pub enum Call {
     Write,
     ReadSources,
     Route,
+    Preview,
+    Digest,
 }
 
 /// Every list that any call takes; a call reads and writes its own.
@@ -35,6 +37,8 @@ pub struct Case {
     pub target: u32,
     pub vertices: Vec<u32>,
     pub marks: Vec<u32>,
+    pub effects: Vec<u32>,
+    pub moves: Vec<i64>,
     pub reply: Vec<u64>,
 }
 
@@ -57,6 +61,8 @@ impl Case {
             target: 0,
             vertices: vec![],
             marks: vec![],
+            effects: vec![],
+            moves: vec![],
             reply: vec![7; 8],
         }
     }
@@ -79,6 +85,8 @@ impl Case {
             Call::Write => reference::write(&c.network, &mut c.text),
             Call::ReadSources => reference::read_sources(&c.text, c.network.n, &mut c.sources),
             Call::Route => reference::route(&c.network, c.property, c.source, c.target, &mut c.vertices, &mut c.marks),
+            Call::Preview => reference::preview(&c.network, &c.changes, c.property, c.source, &mut c.effects, &mut c.moves),
+            Call::Digest => reference::digest(c.network.n, c.property, &c.effects, &c.moves),
         };
         match answer {
             Ok(words) => {
@@ -123,6 +131,8 @@ pub fn difference(expected: &(u32, Case), real: &(u32, Case)) -> Option<String> 
     list(&mut told, "sources", &a.sources, &b.sources);
     list(&mut told, "vertices", &a.vertices, &b.vertices);
     list(&mut told, "marks", &a.marks, &b.marks);
+    list(&mut told, "effects", &a.effects, &b.effects);
+    list(&mut told, "moves", &a.moves, &b.moves);
     Some(told.join("; "))
 }
 
@@ -150,6 +160,7 @@ pub fn describe(c: &Case) -> String {
     s += &format!("changes ({}) {}\n", c.changes.len(), short(&c.changes));
     s += &format!("starts ({}), settled ({}), sources ({}), reply ({}) {:?}\n", c.starts.len(), c.settled.len(), c.sources.len(), c.reply.len(), c.reply);
     s += &format!("vertices ({}) {}\nmarks ({}) {}\n", c.vertices.len(), short(&c.vertices), c.marks.len(), short(&c.marks));
+    s += &format!("effects ({}) {}\nmoves ({}) {}\n", c.effects.len(), short(&c.effects), c.moves.len(), short(&c.moves));
     s += &format!("text ({} bytes) {:?}\n", c.text.len(), String::from_utf8_lossy(&c.text));
     s
 }

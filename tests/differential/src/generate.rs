@@ -144,11 +144,16 @@ pub fn full_network(r: &mut Random) -> Network {
     lent(r, 256, &edges, landmarks)
 }
 
-/// A network whose standing words are anything.
+/// A network whose standing words are anything; of one in three all are near 0 and M, so that a batch can move a word by nearly as much as there is.
 pub fn arbitrary_rows(r: &mut Random, w: &mut Network) {
+    let near = r.one_in(3);
     for list in [&mut w.forward, &mut w.backward] {
         for x in list {
-            *x = odd_word(r);
+            *x = match near {
+                true if r.one_in(2) => r.below(4),
+                true => M - r.below(4),
+                false => odd_word(r),
+            };
         }
     }
 }
@@ -428,6 +433,42 @@ fn out_list(r: &mut Random, least: usize) -> Vec<u32> {
     (0..len).map(|i| word.wrapping_add(i as u32)).collect()
 }
 
+/// A signed number that often matters.
+fn odd_move(r: &mut Random) -> i64 {
+    match r.below(5) {
+        0 => r.pick(&[i64::MIN, i64::MIN + 1, i64::MAX - 1, i64::MAX]),
+        1 => r.pick(&[i64::from(M) - 1, i64::from(M), i64::from(M) + 1, 1 - i64::from(M), -i64::from(M)]),
+        2 | 3 => i64::from(r.below(7)) - 3,
+        _ => r.next() as i64,
+    }
+}
+
+fn out_moves(r: &mut Random, least: usize) -> Vec<i64> {
+    let len = least + r.pick(&[0, 0, 1, 3]);
+    let first = odd_move(r);
+    (0..len).map(|i| first.wrapping_add(i as i64)).collect()
+}
+
+/// Two lists to digest: such as a preview shows, or any numbers. Half of them have no lost route, so that the moves decide which vertex loses most; and
+/// most have few different moves, so that many lose as much.
+fn digested(r: &mut Random, n: usize) -> (Vec<u32>, Vec<i64>) {
+    let (shown, losing, few) = (r.one_in(2), r.one_in(2), !r.one_in(4));
+    let (mut effects, mut moves) = (out_list(r, n), out_moves(r, n));
+    for e in &mut effects {
+        *e = if shown { r.below(4) } else { r.pick(&[0, 1, 2, 3, 3, 3, 4, M]) };
+        if *e == 2 && !losing {
+            *e = r.pick(&[0, 1, 3]);
+        }
+    }
+    for (i, by) in moves.iter_mut().enumerate() {
+        *by = if few { i64::from(r.below(7)) - 3 } else { odd_move(r) };
+        if shown && effects.get(i).is_none_or(|&e| e != 3) {
+            *by = 0;
+        }
+    }
+    (effects, moves)
+}
+
 /// A call on a network, good as far as the network is.
 pub fn case(r: &mut Random, call: Call, w: &Network, bad: bool) -> Case {
     let mut c = Case::new(call, w.clone());
@@ -469,12 +510,19 @@ pub fn case(r: &mut Random, call: Call, w: &Network, bad: bool) -> Case {
             c.vertices = out_list(r, n as usize);
             c.marks = out_list(r, n as usize);
         }
+        Call::Preview => {
+            c.changes = changes(r, w, bad);
+            c.source = r.below(n);
+            c.effects = out_list(r, n as usize);
+            c.moves = out_moves(r, n as usize);
+        }
+        Call::Digest => (c.effects, c.moves) = digested(r, n as usize),
         Call::Open | Call::Settled => {}
     }
     c
 }
 
-fn shorten(r: &mut Random, list: &mut Vec<u32>, least: usize) {
+fn shorten<T>(r: &mut Random, list: &mut Vec<T>, least: usize) {
     let len = r.pick(&[least.saturating_sub(1), 0, least / 2, least.saturating_sub(5)]);
     list.truncate(len);
 }
@@ -507,7 +555,7 @@ pub fn damage(r: &mut Random, c: &mut Case) {
     for _ in 0..r.pick(&[1, 1, 1, 2, 3]) {
         let (n, k) = (c.network.n, c.network.landmarks.len());
         let rows = (k * 5).saturating_mul(n as usize).min(6_000);
-        match r.below(19) {
+        match r.below(21) {
             0 => c.network.n = r.pick(&[0, 257, M, n.wrapping_add(1), n.wrapping_sub(1), 256, 1]),
             1 => {
                 let list = match r.below(3) {
@@ -571,6 +619,19 @@ pub fn damage(r: &mut Random, c: &mut Case) {
                 } else {
                     shorten(r, &mut c.marks, least);
                 }
+            }
+            18 => {
+                let least = n.min(300) as usize;
+                if r.one_in(2) {
+                    shorten(r, &mut c.effects, least);
+                } else {
+                    shorten(r, &mut c.moves, least);
+                }
+            }
+            19 => {
+                // a bad change beside a source that may be bad
+                c.changes.insert(0, [r.pick(&[0, 4, 9]), 0, n.wrapping_sub(1).min(1), 4]);
+                c.source = r.pick(&[n, M, 0]);
             }
             _ => shorten(r, &mut c.sources, 256),
         }

@@ -2,6 +2,7 @@
 //! to best values and to the network as it is now, reckoned from the changes alone.
 
 use crate::case::{Call, Case};
+use crate::previews::{digest, is_true, unlike_after};
 use crate::random::Random;
 use crate::reference::{self, Change, Edge, Network};
 use crate::{check, generate, unlike_now, value_told, Counts, Failure};
@@ -18,6 +19,14 @@ struct Followed<'a> {
 }
 
 type Held = Result<(), Box<Failure>>;
+
+/// A preview of a batch that is still to be applied: what was asked, number and outcome, and the settled words before the batch.
+struct Foretold {
+    c: Case,
+    number: u32,
+    shown: Case,
+    before: Vec<u32>,
+}
 
 impl Followed<'_> {
     /// The call both ways: number and outcome, the same by either.
@@ -124,8 +133,49 @@ impl Followed<'_> {
         Ok(())
     }
 
-    /// A batch: where it is accepted, the network is another.
+    /// The settled words of a property from a source, with no schedule.
+    fn asked(&mut self, property: u32, source: u32) -> Result<Vec<u32>, Box<Failure>> {
+        let c = Case { property, source, schedule: vec![], ..self.drawn(Call::Query) };
+        let mut settled = self.accepted(&c)?.settled;
+        settled.truncate(self.w.n as usize);
+        Ok(settled)
+    }
+
+    /// What the changes would do to each property, each from a drawn source. The network stays as it is.
+    fn previews(&mut self, changes: &[Change]) -> Result<Vec<Foretold>, Box<Failure>> {
+        let mut list = Vec::new();
+        for property in 1..=5 {
+            let source = self.r.below(self.w.n);
+            let c = Case { property, source, changes: changes.to_vec(), ..self.drawn(Call::Preview) };
+            let before = self.asked(property, source)?;
+            let (number, shown) = self.call(&c)?;
+            hold(&c, shown.network == self.w, "a preview writes the network")?;
+            list.push(Foretold { c, number, shown, before });
+        }
+        Ok(list)
+    }
+
+    /// What was foretold of a batch, after it: it was judged as its previews were, and they showed the words that are asked for now, and the best values on
+    /// the edges before it and now.
+    fn come_true(&mut self, list: &[Foretold], number: u32, place: u64, old: &[Edge]) -> Held {
+        for Foretold { c, number: said, shown, before } in list {
+            hold(c, *said == number && (number == 0 || shown.reply[0] == place), "a batch is not judged as its preview was")?;
+            if number == 0 {
+                let after = self.asked(c.property, c.source)?;
+                hold(c, is_true(shown, before, &after), "a preview is not what becomes of the settled words")?;
+                let said = unlike_after(shown, old, &self.now);
+                hold(c, said.is_none(), said.unwrap_or_default())?;
+                self.counts.previews += 1;
+                digest(shown, self.r.next() as u32, self.counts)?;
+            }
+        }
+        Ok(())
+    }
+
+    /// A batch, which is previewed first: where it is accepted, the network is another.
     fn batch(&mut self, changes: Vec<Change>) -> Held {
+        let foretold = self.previews(&changes)?;
+        let old = self.now.clone();
         let c = Case { changes, ..self.drawn(Call::Batch) };
         let (number, after) = self.call(&c)?;
         let mut next = self.now.clone();
@@ -137,7 +187,7 @@ impl Followed<'_> {
             self.counts.batches += 1;
             self.counts.updates += c.changes.iter().filter(|change| change[0] == 3).count() as u64;
         }
-        Ok(())
+        self.come_true(&foretold, number, after.reply[0], &old)
     }
 }
 

@@ -14,6 +14,7 @@ mod generate;
 mod histories;
 #[path = "../../../bindings/plate_track.rs"]
 mod plate_track;
+mod previews;
 mod random;
 mod reference;
 mod shrink;
@@ -37,6 +38,9 @@ struct Counts {
     batches: u64,
     updates: u64,
     listed: u64,
+    previews: u64,
+    /// the least and the greatest move that a preview showed
+    moves: (i64, i64),
 }
 
 struct Failure {
@@ -59,6 +63,10 @@ fn check(case: &Case, salt: u32, counts: &mut Counts) -> Result<(u32, Case), Box
             return Err(fail(said.into()));
         }
         counts.listed += u64::from(few);
+    }
+    if case.call == Call::Preview && real.0 == 0 {
+        let shown = &real.1.moves[..case.network.n as usize];
+        counts.moves = shown.iter().fold(counts.moves, |(least, greatest), &by| (least.min(by), greatest.max(by)));
     }
     *counts.by.entry((format!("{:?}", case.call), real.0)).or_default() += 1;
     Ok(real)
@@ -91,13 +99,15 @@ fn unlike_best(number: u32, after: &Case, few: bool) -> Option<&'static str> {
 
 fn kind(r: &mut Random) -> Call {
     match r.below(100) {
-        0..=29 => Call::Query,
-        30..=57 => Call::Batch,
-        58..=69 => Call::Route,
-        70..=75 => Call::Settled,
-        76..=80 => Call::Choose,
-        81..=85 => Call::Row,
-        86..=89 => Call::Open,
+        0..=26 => Call::Query,
+        27..=51 => Call::Batch,
+        52..=59 => Call::Preview,
+        60..=69 => Call::Route,
+        70..=74 => Call::Settled,
+        75..=78 => Call::Choose,
+        79..=82 => Call::Row,
+        83..=86 => Call::Open,
+        87..=89 => Call::Digest,
         90..=93 => Call::Read,
         94..=96 => Call::Write,
         _ => Call::ReadSources,
@@ -161,6 +171,9 @@ fn session(seed: u64, number: u64, counts: &mut Counts, tell: bool) -> Result<()
             print!("{}", describe(&c));
         }
         let (number, after) = check(&c, salt, counts)?;
+        if call == Call::Preview && !damaged {
+            previews::bear_out(&c, number, &after, (!arbitrary).then_some(&now[..]), salt, counts)?;
+        }
         if damaged || number != 0 {
             continue;
         }
@@ -200,8 +213,8 @@ fn session(seed: u64, number: u64, counts: &mut Counts, tell: bool) -> Result<()
 fn report(counts: &Counts, began: Instant) {
     let took = began.elapsed().as_secs_f64();
     println!(
-        "{} calls on {} networks, {} batches accepted with {} updates, {} routes listed, {:.1} s, {:.0} calls a second",
-        counts.calls, counts.histories, counts.batches, counts.updates, counts.listed, took, counts.calls as f64 / took
+        "{} calls on {} networks, {} batches accepted with {} updates, {} routes listed, {} previews borne out, moves from {} to {}, {:.1} s, {:.0} calls a second",
+        counts.calls, counts.histories, counts.batches, counts.updates, counts.listed, counts.previews, counts.moves.0, counts.moves.1, took, counts.calls as f64 / took
     );
     let mut kinds: Vec<&str> = counts.by.keys().map(|k| k.0.as_str()).collect();
     kinds.dedup();

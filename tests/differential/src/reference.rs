@@ -1,6 +1,6 @@
-//! An independent implementation of document 01 with requests One and Two of document 02, written from the documents alone and for plainness: no bit words, no index beyond a
-//! list of edges for each vertex, no scratch that is shared. Each call takes what the call takes and answers number and place, or
-//! the words of its reply; what it lends is changed only where it accepts.
+//! An independent implementation of document 01 with requests One, Two and Four of document 02, written from the documents alone (the digest of a preview, which
+//! they don't have, from include/plate_track.h) and for plainness: no bit words, no index beyond a list of edges for each vertex, no scratch that is shared.
+//! Each call takes what the call takes and answers number and place, or the words of its reply; what it lends is changed only where it accepts.
 
 pub const M: u32 = 4_294_967_295;
 pub const MOST_VERTICES: u32 = 256;
@@ -651,6 +651,80 @@ pub fn route(w: &Network, p: u32, source: u32, target: u32, vertices: &mut [u32]
     Ok(vec![through.len() as u64])
 }
 
+// ---- what a batch would do
+
+/// What becomes of a vertex: "0 same, 1 gained a route, 2 lost it or 3 moved, with after minus before as a signed number where both have a route, else 0".
+/// A vertex has a route where its word is not the no-route word.
+fn becomes(p: u32, before: u32, after: u32) -> (u32, i64) {
+    let (had, has) = (before != no_route(p), after != no_route(p));
+    let effect = match (had, has) {
+        _ if before == after => 0,
+        (false, _) => 1,
+        (_, false) => 2,
+        _ => 3,
+    };
+    (effect, if had && has { i64::from(after) - i64::from(before) } else { 0 })
+}
+
+/// The settled words of a query without a schedule.
+fn settled_words(w: &Network, p: u32, source: u32) -> Answer<Vec<u32>> {
+    let (mut starts, mut settled) = (vec![0; w.n as usize], vec![0; w.n as usize]);
+    query(w, p, source, &[], &mut starts, &mut settled)?;
+    Ok(settled)
+}
+
+/// "It equals applying the batch to a copy and querying before and after": on whatever words stand in the rows.
+pub fn preview(w: &Network, changes: &[Change], p: u32, source: u32, effects: &mut [u32], moves: &mut [i64]) -> Answer<Vec<u64>> {
+    let n = w.n as usize;
+    w.judge(changes.len() > MOST_CHANGES, effects.len() < n || moves.len() < n)?;
+    if !(1..=5).contains(&p) {
+        return refuse(5, 0);
+    }
+    if source >= w.n {
+        return refuse(6, 0);
+    }
+    let mut copy = w.clone();
+    copy.count = batch(&mut copy, changes)?[0] as u32;
+    let before = settled_words(w, p, source)?;
+    let after = settled_words(&copy, p, source)?;
+    let told = before.iter().zip(&after).map(|(&a, &b)| becomes(p, a, b));
+    for (entry, (effect, by)) in effects.iter_mut().zip(moves.iter_mut()).zip(told) {
+        (*entry.0, *entry.1) = (effect, by);
+    }
+    Ok(vec![])
+}
+
+/// How much a vertex loses by its two entries: a lost route is more than any move, and a move counts by its way for the worse. Nothing where it does
+/// not lose.
+fn loss(p: u32, effect: u32, by: i64) -> Option<i128> {
+    let worse = if better(p, 1, 0) { -i128::from(by) } else { i128::from(by) };
+    match effect {
+        2 => Some(i128::MAX),
+        3 if worse > 0 => Some(worse),
+        _ => None,
+    }
+}
+
+/// How many vertices gained a route, lost it, moved for the better and for the worse, and the lowest of those that lose most; n where none does.
+pub fn digest(n: u32, p: u32, effects: &[u32], moves: &[i64]) -> Answer<Vec<u64>> {
+    if n == 0 || n > MOST_VERTICES {
+        return refuse(1, 0);
+    }
+    if effects.len() < n as usize || moves.len() < n as usize {
+        return refuse(2, 0);
+    }
+    if !(1..=5).contains(&p) {
+        return refuse(5, 0);
+    }
+    let entries: Vec<(u32, i64)> = effects.iter().copied().zip(moves.iter().copied()).take(n as usize).collect();
+    let losses: Vec<Option<i128>> = entries.iter().map(|&(e, by)| loss(p, e, by)).collect();
+    let (gained, lost, moved) = [1, 2, 3].map(|effect| entries.iter().filter(|x| x.0 == effect && (effect < 3 || x.1 != 0)).count()).into();
+    let losing = losses.iter().flatten().count();
+    let most = losses.iter().flatten().max();
+    let named = losses.iter().position(|x| x.is_some() && x.as_ref() == most).unwrap_or(n as usize);
+    Ok([gained, lost, moved + lost - losing, losing - lost, named].map(|x| x as u64).to_vec())
+}
+
 // ---- text
 
 /// A number as document 01 writes them, of any length; those above every limit are told apart from none that fits.
@@ -882,6 +956,18 @@ pub fn best_values(p: u32, n: u32, edges: &[Edge], source: u32) -> Vec<u32> {
         }
     }
     words
+}
+
+/// Which vertices a route from the source leads to: those that its edges reach, one after the other.
+pub fn reached(n: u32, edges: &[Edge], source: u32) -> Vec<bool> {
+    let mut found = vec![false; n as usize];
+    let mut to_follow = vec![source];
+    while let Some(v) = to_follow.pop() {
+        if !std::mem::replace(&mut found[v as usize], true) {
+            to_follow.extend(edges.iter().filter(|e| e.tail == v).map(|e| e.head));
+        }
+    }
+    found
 }
 
 /// Both row lists as best values of the edges.

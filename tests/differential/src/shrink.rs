@@ -47,10 +47,24 @@ fn smaller(case: &Case) -> Vec<Case> {
             c.schedule.remove(i);
         });
     }
+    less(&|c| c.effects.truncate(c.network.n as usize));
+    less(&|c| c.moves.truncate(c.network.n as usize));
+    for i in 0..case.effects.len().min(40) {
+        less(&|c| c.effects[i] = 0);
+    }
+    for i in 0..case.moves.len().min(40) {
+        less(&|c| c.moves[i] = 0);
+    }
     let breaks: Vec<usize> = (0..case.text.len()).filter(|&i| case.text[i] == b'\n').collect();
     for (j, &end) in breaks.iter().enumerate().take(60) {
         let start = if j == 0 { 0 } else { breaks[j - 1] + 1 };
         less(&|c| drop(c.text.drain(start..=end)));
+    }
+    for i in 0..case.network.forward.len().min(60) {
+        less(&|c| c.network.forward[i] = 0);
+    }
+    for i in 0..case.network.backward.len().min(60) {
+        less(&|c| c.network.backward[i] = 0);
     }
     let records = (case.network.count as usize).min(60);
     found.extend((0..records).map(|i| without_record(case, i)));

@@ -1,17 +1,13 @@
 -- `batch::batch` meets its contract: a walk of its MIR, by hand, with no loop. The local array of zeros is lent as a `&mut [u32]` for a lifetime that is made
--- for the call of `copy_changes`, and as a `&[u32]` for another that is made for the call of `batch_copied`, which is given all else for good. After that the
+-- for the call of `copy_changes`, and as a `&[u32]` for another that is made for the call of `batch_laid`, which is given all else for good. After that the
 -- array's memory is room again. All that the proof knows of the three callees is that they meet their contracts. Assumes nothing.
-use Rattle.property.proofs.Basics.{_≡_, refl, sym, _∙_, subst, ℕ, min, arith, List, [], _∷_, map, lit<, length, length-replicate}
-use Rattle.run.proofs.Kit.{URA, fullShare, w32, w64, Val, vint, SProp, ent, id⊢, Lft, GName, Share, ftrue, froom, flft, flent, Memory, Routine, Heap, Env, WpFn, Tables, Atoms, Fun, givenOf, tables, tablesOf, Given, Item, ‵, raw, some, later, _⊛_, _$_, _∵_, !, qed, move, keep, drop, use1, use2, use3, split, join, pick, fsplit, fjoin, feqL, suffices, await, done, agg, whole, sub, look-in, look, init, store, stop, hop, fld, from, load, lit, addr, of-opd, and-then, no-more, assigns, land, returns, enter, alloc1, alloc0, params1, pass1, pass0, free1, free0, lft-new, lft-end, fmOf, RattleType, Is, shows, uint-vals, uint-makes, nothing-lawful, u32, usize, unit, RefT, sliceVal, Room, slice-vals, peeks, owned, heard, nothing, calls-at, onEntry, tripleOf, Contract, Triple, entered, cited, says, ends-at}
+use Rattle.property.proofs.Basics.{_≡_, refl, ℕ, List, [], _∷_, map, lit<, length}
+use Rattle.run.proofs.Kit.{URA, fullShare, w32, w64, vint, SProp, ent, Lft, GName, Share, flft, Memory, Routine, Heap, WpFn, Tables, Atoms, Fun, givenOf, tables, tablesOf, Given, ‵, raw, _⊛_, _$_, _∵_, !, qed, move, keep, use1, use2, split, join, fsplit, fjoin, suffices, done, agg, whole, sub, look-in, look, init, store, stop, hop, fld, from, load, lit, addr, of-opd, and-then, no-more, assigns, land, returns, enter, alloc1, alloc0, params1, pass1, pass0, free1, free0, fmOf, RattleType, Is, shows, uint-vals, uint-makes, nothing-lawful, u32, usize, RefT, sliceVal, slice-vals, peeks, owned, heard, calls-at, onEntry, tripleOf, Contract, Triple, entered, cited, says, ends-at}
 use Rattle.run.proofs.ByHand.{_⨾_, Params, number, shared, given, stays, Holds, walkFor, boundAt, entry, meets, gave, held, downs, upto, snoc, front, last, tokens, token-in, token-out, wide, var}
 use contract.Lifetimes.{Lfts, Shares}
 use denote.Triple.Entry.{Args}
 use denote.Triple.Clauses.{Clauses}
-use mir.Syntax.{Width, intBig}
-use mir.Val.{Fits}
-use base.Logic.{via, guardI}
 use types.Part.{rep}
-use types.Run.{Opd}
 use denote.Array.{array-lawful}
 use denote.Plain.{uint-lawful}
 use denote.Enum.Laws as EL
@@ -19,35 +15,30 @@ use Rattle.network.specs.Change as spec
 use Rattle.network.specs.Batch.{batchCall}
 use Rattle.calls.specs.Code.{network}
 use Rattle.apply.specs.Code.{batchOutcome}
-use Rattle.batch.specs.Code.{recorded, copied, Laid}
+use Rattle.items.specs.Code.{Laid}
+use Rattle.batch.specs.Code.{recorded}
 use Rattle.batch.specs.declared.Change.{Change}
 use Rattle.apply.specs.declared.Applied.{Applied}
-use Rattle.batch.proofs.Copying.{copied-laid}
-use Rattle.batch.proofs.Scratch.{zeros, zeros-val, words-ty, is-zeros, words-at, Zeros, Kept, lends-zeros, Held, zeros-back, Words, lends-words, words-back}
-use Rattle.batch.proofs.Change as T
+use Rattle.batch.proofs.Scratch.{zeros, zeros-val, is-zeros, words-at}
+use Rattle.batch.proofs.Walking.{big-lit, R, Lesser, Copy, calls-lesser, calls-copy, lends-laid, room-again}
 use Rattle.apply.proofs.Applied as S
 use Rattle.apply.proofs.Applied.Laws as S′
-use Rattle.graph.proofs.lesser as lesser
 use Rattle.graph.proofs.lesser.Symbol as lesser-def
 use Rattle.graph.proofs.lesser.Symbol.{name as #graph·lesser}
 use Rattle.graph.proofs.lesser.Met as lesser-thm
-use Rattle.batch.proofs.copy_changes as copy
 use Rattle.batch.proofs.copy_changes.Symbol as copy-def
 use Rattle.batch.proofs.copy_changes.Symbol.{name as #batch·copy-changes}
 use Rattle.batch.proofs.copy_changes.Met as copy-thm
-use Rattle.batch.proofs.batch_copied as core
-use Rattle.batch.proofs.batch_copied.Symbol as core-def
-use Rattle.batch.proofs.batch_copied.Symbol.{name as #batch·batch-copied}
-use Rattle.batch.proofs.batch_copied.Met as core-thm
+use Rattle.plain_batch.proofs.batch_laid as core
+use Rattle.plain_batch.proofs.batch_laid.Symbol as core-def
+use Rattle.plain_batch.proofs.batch_laid.Symbol.{name as #plain-batch·batch-laid}
+use Rattle.plain_batch.proofs.batch_laid.Met as core-thm
 use Rattle.batch.proofs.batch.Key.{name as #batch·batch}
 use Rattle.batch.proofs.batch as batch′
 use Rattle.batch.proofs.batch.Statement as stated
 use Rattle.batch.proofs.batch.Code as code
 
--- the rows of a record and of the reply
-abbrev R : RattleType
-R = T.the-row
-
+-- the row of the reply
 abbrev Re : RattleType
 Re = S.the-row
 
@@ -55,24 +46,10 @@ Re = S.the-row
 abbrev params : Params (batch′.ended .signature .params) (batch′.ended .kept)
 params = number w32 ⨾ shared 0 tt u32 ⨾ given 1 tt u32 ⨾ given 2 tt u32 ⨾ given 3 tt u32 ⨾ number w32 ⨾ given 4 tt u32 ⨾ given 5 tt u32 ⨾ shared 6 tt R ⨾ tt
 
--- the contracts that the proof cites
+-- the contract of the callee that does the rest
 module _ {M : Type 1} (𝓤 : URA M) (H : Heap 𝓤) (A : Atoms 𝓤) (at-mem : Memory → SProp 𝓤) (run : Routine → Fun 𝓤) where
-  abbrev Lesser : Contract 𝓤
-  Lesser = tripleOf 𝓤 H A lesser.signature (lesser.spec 𝓤 H A at-mem run)
-
-  abbrev Copy : Contract 𝓤
-  Copy = tripleOf 𝓤 H A copy.signature (copy.spec 𝓤 H A at-mem run)
-
   abbrev Core : Contract 𝓤
   Core = tripleOf 𝓤 H A core.signature (core.spec 𝓤 H A at-mem run)
-
--- a constant of 1,024 or more is `intBig` in MIR, for which `Types/Run.antt` has no rule
-module _ {M : Type 1} {𝓤 : URA M} {H : Heap 𝓤} {A : Atoms 𝓤} {K : Type 0} {W : Given 𝓤 H A} {Γ : List (Item 𝓤)} {E : Env 𝓤 H} where
-  big-lit : K → {w : Width} {n : ℕ} → Fits w n → Opd K W Γ E (intBig w n) (vint w n)
-  big-lit t {w} {n} z = record { go = λ Kt h. via 𝓤 (Kt (vint w n)) h (guardI 𝓤 (Fits w n) (Kt (vint w n)) z) }
-
-long : (us : List ℕ) → length us ≡ length (zeros 4096) → length us ≡ 4096
-long us e = e ∙ length-replicate {A = ℕ} 4096 0
 
 module _ {M : Type 1} (𝓤 : URA M) (H : Heap 𝓤) (A : Atoms 𝓤) (W : Given 𝓤 H A) (at-mem : Memory → SProp 𝓤) (run : Routine → Fun 𝓤) (κs : Lfts 6) (κ : Lft) (qs : Shares 6) (q : Share)
     (n : ℕ) (ls ts hs vs : RefT (List ℕ)) (m : ℕ) (fs bs : RefT (List ℕ)) (ys : RefT (List Change)) where
@@ -91,20 +68,7 @@ module _ {M : Type 1} (𝓤 : URA M) (H : Heap 𝓤) (A : Atoms 𝓤) (W : Given
   abbrev size : ℕ
   size = length (ys .now)
 
-  -- ---- what each callee's triple binds outside, and what it asks
-  abbrev to-lesser : Lesser 𝓤 H A at-mem run .Ghost
-  to-lesser = ((tt, tt, tt, size ⨾ 1024 ⨾ tt, uint-vals w64 size ⨾ uint-vals w64 1024 ⨾ tt), tt)
-
-  -- `copy_changes`: the zeros in the local l, lent for ν; k at its machine value w
-  abbrev to-copy : ℕ → Val → ℕ → ℕ → GName → Copy 𝓤 H A at-mem run .Ghost
-  to-copy k w ν l γ = ((κ ⨾ (ν ∷ []) ⨾ tt, q ⨾ fullShare ⨾ tt, tt, ys ⨾ k ⨾ words-at 𝓤 H A W 4096 l ν γ (zeros 4096) ⨾ tt, slice-vals ys ⨾ (w ∷ []) ⨾ (sliceVal (l, 0) 4096 ∷ []) ⨾ tt), tt)
-
-  goes-copy : (k : ℕ) → k ≡ min size 1024 → (w : Val) (ν l : ℕ) (γ : GName) → ent 𝓤 (onEntry 𝓤 H A copy.signature (κ ⨾ (ν ∷ []) ⨾ tt) (q ⨾ fullShare ⨾ tt) (to-copy k w ν l γ .0 .3) (to-copy k w ν l γ .0 .4)) (Copy 𝓤 H A at-mem run .pre (to-copy k w ν l γ))
-  goes-copy k e w ν l γ =
-      qed W (raw (onEntry 𝓤 H A copy.signature (κ ⨾ (ν ∷ []) ⨾ tt) (q ⨾ fullShare ⨾ tt) (to-copy k w ν l γ .0 .3) (to-copy k w ν l γ .0 .4)) ∷ []) ∵
-      says ! (omega (arith, e), omega (arith, e), length-replicate {A = ℕ} 4096 0) $ done !
-
-  -- `batch_copied`: the words us in the local l, lent for ν
+  -- `batch_laid`: the words us in the local l, lent for ν
   abbrev to-core : List ℕ → ℕ → ℕ → GName → Core 𝓤 H A at-mem run .Ghost
   to-core us ν l γ = (
     (
@@ -120,11 +84,11 @@ module _ {M : Type 1} (𝓤 : URA M) (H : Heap 𝓤) (A : Atoms 𝓤) (W : Given
   goes-core : (us : List ℕ) → length us ≡ 4096 → (ν l : ℕ) (γ : GName) → ent 𝓤 (onEntry 𝓤 H A core.signature (snoc 6 κs (ν ∷ [])) (snoc 6 qs fullShare) (to-core us ν l γ .0 .3) (to-core us ν l γ .0 .4)) (Core 𝓤 H A at-mem run .pre (to-core us ν l γ))
   goes-core us e ν l γ = qed W (raw (onEntry 𝓤 H A core.signature (snoc 6 κs (ν ∷ [])) (snoc 6 qs fullShare) (to-core us ν l γ .0 .3) (to-core us ν l γ .0 .4)) ∷ []) ∵ says ! e $ done !
 
-  -- what `batch_copied` tells of its reply and the last words of the five lists, of all changes that are laid in the words us
+  -- what `batch_laid` tells of its reply and the last words of the five lists, of all changes that are laid in the words us
   abbrev Told : List ℕ → Applied → List ℕ → List ℕ → List ℕ → List ℕ → List ℕ → Type 0
   Told us r ts′ hs′ vs′ fs′ bs′ = (cs : List spec.Change) → Laid size cs us → batchOutcome r ts′ hs′ vs′ fs′ bs′ ≡ batchCall n (ls .now) (network (ts .now) (hs .now) (vs .now) (fs .now) (bs .now) m) cs
 
-  module _ (𝓣 : Tables 𝓤 H) (known-l : Triple 𝓤 (𝓣 .C #graph·lesser) (Lesser 𝓤 H A at-mem run)) (known-c : Triple 𝓤 (𝓣 .C #batch·copy-changes) (Copy 𝓤 H A at-mem run)) (known-b : Triple 𝓤 (𝓣 .C #batch·batch-copied) (Core 𝓤 H A at-mem run)) where
+  module _ (𝓣 : Tables 𝓤 H) (known-l : Triple 𝓤 (𝓣 .C #graph·lesser) (Lesser 𝓤 H A at-mem run)) (known-c : Triple 𝓤 (𝓣 .C #batch·copy-changes) (Copy 𝓤 H A at-mem run)) (known-b : Triple 𝓤 (𝓣 .C #plain-batch·batch-laid) (Core 𝓤 H A at-mem run)) where
     walk : Holds batch′.ended params (snoc 6 κs κ) a → ent 𝓤 (Walk .pre bound) (WpFn 𝓤 H (𝓣 .C) (𝓣 .Λ) code.function (Walk .args bound) (Walk .post bound))
     walk are =
         qed W (entry 𝓤 H A batch′.ended params c bound) ∵ enter ! (𝓣 .C) (𝓣 .Λ) code.function (Walk .args bound) _ $
@@ -134,27 +98,12 @@ module _ {M : Type 1} (𝓤 : URA M) (H : Heap 𝓤) (A : Atoms 𝓤) (W : Given
         -- [the changes; κ; the tokens; true; what the other parameters own, from the last to the first; _27 at 12; …; local i at 12 + 2 (27 - i)]: how many are copied
         assigns ! (rep ! 4096 (lit ! tt)) (from ! (stop !)) (init ! 46 refl (array-lawful 𝓤 H A W u32 (uint-lawful 𝓤 H A W w32) 4096 .typed (zeros 4096) (zeros-val 4096 ∷ []) (is-zeros 4096) .0)) $
         assigns ! (of-opd ! (load ! (from ! (fld ! refl (stop !))) (look-in ! 48 (sub ! 1 refl (whole !))))) (from ! (stop !)) (init ! 40 refl (tt, record { fits = are .1 .1 .1 .1 .1 .1 .1 .1 .0 .0 .1 .0 })) $
-        owned ! usize (Is usize) (uint-makes 𝓤 H A W w64) 1024 (vint w64 1024 ∷ []) (refl, lit< tt) $ owned ! usize (Is usize) (uint-makes 𝓤 H A W w64) size (vint w64 size ∷ []) (refl, are .1 .1 .1 .1 .1 .1 .1 .1 .0 .0 .1 .0) $
-        nothing ! $ move ! (2 ∷ 0 ∷ []) $ join ! $ move ! (1 ∷ 0 ∷ []) $ join ! $ nothing ! $ join ! $ nothing ! $ move ! (1 ∷ 0 ∷ []) $ use2 W (raw (Lesser 𝓤 H A at-mem run .pre to-lesser)) (id⊢ 𝓤 _) $
-        calls-at ! (fmOf 𝓤 H (W .laws) 𝓣) (Lesser 𝓤 H A at-mem run) known-l to-lesser (and-then ! (var ! 41 refl) (and-then ! (big-lit ! (record { fits = lit< tt })) (no-more !))) (λ w.
-        gave ! tt lesser.ended (lesser.clauses 𝓤 H A at-mem run) to-lesser w (λ k _. move ! (3 ∷ []) $ heard ! (k ≡ min size 1024) (λ ek. drop ! $ move ! (1 ∷ []) $ drop ! $
-        peeks ! usize (Is usize) (shows 𝓤 H A usize) k (w ∷ []) (λ is. land ! (from ! (stop !)) (init ! 43 refl (uint-lawful 𝓤 H A W w64 .typed k _ is .0)) $
-        -- [k's; the changes; κ; …; _27 at 13; …]: the zeros are lent for ν
+        calls-lesser 𝓤 H A W at-mem run κ q ys 𝓣 ! known-l (are .1 .1 .1 .1 .1 .1 .1 .1 .0 .0 .1 .0) (var ! 41 refl) (λ w k ek is. land ! (from ! (stop !)) (init ! 43 refl (uint-lawful 𝓤 H A W w64 .typed k _ is .0)) $
+        -- [k's; the changes; κ; …; _27 at 13; …]: they are copied to the array
         assigns ! (addr ! (from ! (stop !))) (from ! (stop !)) (init ! 39 refl (tt, tt)) $
         assigns ! (agg ! (and-then ! (var ! 39 refl) (and-then ! (big-lit ! (record { fits = lit< tt })) (no-more !)))) (from ! (stop !)) (init ! 37 refl (wide (lit< tt))) $
-        move ! (47 ∷ []) $ lft-new ! tt (λ ν. move ! (1 ∷ []) $ use1 W (later (some (λ (γ : GName). ‵ (Zeros 𝓤 H A W 4096 l₁₀ ν 4096 γ) ⊛ ‵ (Kept 𝓤 H A W 4096 l₁₀ ν γ)))) (lends-zeros 𝓤 H A W 4096 l₁₀ ν (subst (Room u32) (sym (length-replicate {A = ℕ} 4096 0)) (lit< tt, lit< tt))) $ await ! tt $ pick ! (λ γ. split ! $
-        -- [the `&mut [u32]`; the lender's part; ν; k's; the changes; κ; …]
-        nothing ! $ move ! (1 ∷ 0 ∷ []) $ fjoin ! $ move ! (3 ∷ 0 ∷ []) $ fjoin ! $ move ! (3 ∷ 0 ∷ []) $ fjoin ! $ nothing ! $ move ! (3 ∷ 0 ∷ []) $ join ! $ move ! (3 ∷ 0 ∷ []) $ join ! $
-        use2 W (raw (Copy 𝓤 H A at-mem run .pre (to-copy k w ν l₁₀ γ))) (goes-copy k ek w ν l₁₀ γ) $
-        -- [the call's pre; the lender's part; the tokens; true; what the other parameters own; _27 at 12; …; that _10 dies, at 46; _9 at 47; …]
-        calls-at ! (fmOf 𝓤 H (W .laws) 𝓣) (Copy 𝓤 H A at-mem run) known-c (to-copy k w ν l₁₀ γ) (and-then ! (var ! 47 refl) (and-then ! (var ! 42 refl) (and-then ! (var ! 36 refl) (no-more !)))) (λ w₁.
-        gave ! tt copy.ended (copy.clauses 𝓤 H A at-mem run) (to-copy k w ν l₁₀ γ) w₁ (λ r₁ us. move ! (3 ∷ []) $ heard ! (us .1 .1 .0 ≡ copied (ys .now) (zeros 4096) k) (λ ec.
-        move ! (2 ∷ []) $ fsplit ! $ move ! (1 ∷ []) $ fsplit ! $ move ! (1 ∷ []) $ fsplit ! $ fsplit ! $ move ! (1 ∷ []) $ feqL ! (λ le.
-        -- [the last words; three times true; the tokens; the result's; the lender's part; the other tokens; …; _27 at 17; …]
-        move ! (5 ∷ []) $ peeks ! unit (Is unit) (shows 𝓤 H A unit) r₁ (w₁ ∷ []) (λ is₁. land ! (from ! (stop !)) (init ! 49 refl (nothing-lawful 𝓤 H A W .typed r₁ _ is₁ .0)) $
-        move ! (5 ∷ []) $ use1 W (‵ (flft κ q) ⊛ ‵ (flft (ν ∷ []) fullShare) ⊛ ‵ ftrue) (id⊢ 𝓤 _) $ split ! $ move ! (1 ∷ []) $ split ! $ lft-end ! tt $
-        move ! (0 ∷ 8 ∷ 4 ∷ []) $ use3 W (later (‵ (Held 𝓤 H A W 4096 l₁₀ ν (us .1 .1 .0)))) (zeros-back 𝓤 H A W 4096 l₁₀ ν γ (us .1 .1 .0)) $ await ! tt $ keep ! (0 ∷ 2 ∷ upto 65 7 []) $
-        -- [the array's words; κ; the tokens; true; what the other parameters own; _27 at 12; …; that _10 dies, at 46; _9 at 47; …]: the arguments of `batch_copied`
+        move ! (47 ∷ []) $ calls-copy 𝓤 H A W at-mem run κ q ys 𝓣 ! known-c w k ek l₁₀ (λ ν γ. and-then ! (var ! 47 refl) (and-then ! (var ! 42 refl) (and-then ! (var ! 36 refl) (no-more !)))) (λ ν w₁ us is₁ laid long. land ! (from ! (stop !)) (init ! 44 refl (nothing-lawful 𝓤 H A W .typed tt _ is₁ .0)) $
+        -- [the array's words; κ; the tokens; true; what the other parameters own; _27 at 12; …; that _10 dies, at 46; _9 at 47; …]: the arguments of `batch_laid`
         assigns ! (addr ! (from ! (fld ! refl (hop ! (look-in ! 59 (sub ! 0 refl (whole !))) (stop !))))) (from ! (stop !)) (init ! 34 refl (tt, tt)) $
         assigns ! (agg ! (and-then ! (var ! 34 refl) (and-then ! (load ! (from ! (fld ! refl (stop !))) (look-in ! 59 (sub ! 1 refl (whole !)))) (no-more !)))) (from ! (stop !)) (init ! 32 refl (wide (are .1 .1 .0 .0 .1 .0))) $
         assigns ! (addr ! (from ! (fld ! refl (hop ! (look-in ! 57 (sub ! 0 refl (whole !))) (stop !))))) (from ! (stop !)) (init ! 30 refl (tt, tt)) $
@@ -168,24 +117,24 @@ module _ {M : Type 1} (𝓤 : URA M) (H : Heap 𝓤) (A : Atoms 𝓤) (W : Given
         assigns ! (addr ! (from ! (stop !))) (from ! (stop !)) (init ! 14 refl (tt, tt)) $
         assigns ! (agg ! (and-then ! (var ! 14 refl) (and-then ! (big-lit ! (record { fits = lit< tt })) (no-more !)))) (from ! (stop !)) (init ! 12 refl (wide (lit< tt))) $
         assigns ! (of-opd ! (load ! (from ! (fld ! refl (stop !))) (look-in ! 47 (sub ! 1 refl (whole !))))) (from ! (stop !)) (store ! 42 refl (tt, record { fits = are .1 .1 .1 .1 .1 .1 .1 .1 .0 .0 .1 .0 })) $
-        lft-new ! tt (λ ν′. move ! (1 ∷ []) $ use1 W (later (some (λ (γ′ : GName). ‵ (Words 𝓤 H A W 4096 l₁₀ ν′ (us .1 .1 .0) 4096 γ′) ⊛ ‵ (flent (ν′ ∷ []) (Held 𝓤 H A W 4096 l₁₀ ν′ (us .1 .1 .0)))))) (lends-words 𝓤 H A W 4096 l₁₀ ν′ (us .1 .1 .0) (long (us .1 .1 .0) le) (subst (Room u32) (sym (long (us .1 .1 .0) le)) (lit< tt, lit< tt))) $ await ! tt $ pick ! (λ γ′. split ! $
+        lends-laid 𝓤 H A W at-mem run κ q ys ! tt us long l₁₀ ν (λ ν′ γ′.
         -- [the `&[u32]`; the lender's part; ν′; κ; the tokens; true; what the other parameters own; _27 at 14; …]
         owned ! usize (Is usize) (uint-makes 𝓤 H A W w64) size (vint w64 size ∷ []) (refl, are .1 .1 .1 .1 .1 .1 .1 .1 .0 .0 .1 .0) $ move ! (0 ∷ 6 ∷ []) $ fjoin ! $ move ! (1 ∷ 0 ∷ []) $ fjoin ! $ move ! (5 ∷ 0 ∷ []) $ fjoin ! $ move ! (5 ∷ 0 ∷ []) $ fjoin ! $ move ! (5 ∷ 0 ∷ []) $ fjoin ! $ move ! (5 ∷ 0 ∷ []) $ fjoin ! $ move ! (5 ∷ 0 ∷ []) $ fjoin ! $ move ! (5 ∷ 0 ∷ []) $ fjoin ! $ move ! (5 ∷ 0 ∷ []) $ fjoin ! $ move ! (5 ∷ 0 ∷ []) $ fjoin ! $
         move ! (4 ∷ 2 ∷ []) $ use2 W (raw (tokens 𝓤 H A W 7 (snoc 6 κs (ν′ ∷ [])) (snoc 6 qs fullShare))) (token-in 𝓤 H A W (ν′ ∷ []) fullShare 6 κs qs) $
-        use2 W (raw (Core 𝓤 H A at-mem run .pre (to-core (us .1 .1 .0) ν′ l₁₀ γ′))) (goes-core (us .1 .1 .0) (long (us .1 .1 .0) le) ν′ l₁₀ γ′) $
+        use2 W (raw (Core 𝓤 H A at-mem run .pre (to-core us ν′ l₁₀ γ′))) (goes-core us long ν′ l₁₀ γ′) $
         -- [the call's pre; the lender's part; κ; _27 at 3; …; that _10 dies, at 37; _9 at 38; …]
-        calls-at ! (fmOf 𝓤 H (W .laws) 𝓣) (Core 𝓤 H A at-mem run) known-b (to-core (us .1 .1 .0) ν′ l₁₀ γ′) (and-then ! (var ! 54 refl) (and-then ! (var ! 52 refl) (and-then ! (var ! 23 refl) (and-then ! (var ! 19 refl) (and-then ! (var ! 15 refl) (and-then ! (var ! 44 refl) (and-then ! (var ! 11 refl) (and-then ! (var ! 7 refl) (and-then ! (var ! 3 refl) (and-then ! (var ! 33 refl) (no-more !))))))))))) (λ w₂.
-        gave ! tt core.ended (core.clauses 𝓤 H A at-mem run) (to-core (us .1 .1 .0) ν′ l₁₀ γ′) w₂ (λ r xs. move ! (3 ∷ []) $ heard ! (Told (us .1 .1 .0) r (xs .1 .1 .0) (xs .1 .1 .1 .0) (xs .1 .1 .1 .1 .0) (xs .1 .1 .1 .1 .1 .1 .0) (xs .1 .1 .1 .1 .1 .1 .1 .0)) (λ e.
+        calls-at ! (fmOf 𝓤 H (W .laws) 𝓣) (Core 𝓤 H A at-mem run) known-b (to-core us ν′ l₁₀ γ′) (and-then ! (var ! 54 refl) (and-then ! (var ! 52 refl) (and-then ! (var ! 23 refl) (and-then ! (var ! 19 refl) (and-then ! (var ! 15 refl) (and-then ! (var ! 44 refl) (and-then ! (var ! 11 refl) (and-then ! (var ! 7 refl) (and-then ! (var ! 3 refl) (and-then ! (var ! 33 refl) (no-more !))))))))))) (λ w₂.
+        gave ! tt core.ended (core.clauses 𝓤 H A at-mem run) (to-core us ν′ l₁₀ γ′) w₂ (λ r xs. move ! (3 ∷ []) $ heard ! (Told us r (xs .1 .1 .0) (xs .1 .1 .1 .0) (xs .1 .1 .1 .1 .0) (xs .1 .1 .1 .1 .1 .1 .0) (xs .1 .1 .1 .1 .1 .1 .1 .0)) (λ e.
         move ! (2 ∷ []) $ fsplit ! $ move ! (1 ∷ []) $ fsplit ! $ move ! (1 ∷ []) $ fsplit ! $ move ! (1 ∷ []) $ fsplit ! $ move ! (1 ∷ []) $ fsplit ! $ move ! (1 ∷ []) $ fsplit ! $ move ! (1 ∷ []) $ fsplit ! $ move ! (1 ∷ []) $ fsplit ! $ move ! (1 ∷ []) $ fsplit ! $ move ! (1 ∷ []) $ move ! (2 ∷ 0 ∷ []) $ fjoin ! $ move ! (2 ∷ 0 ∷ []) $ fjoin ! $ move ! (2 ∷ 0 ∷ []) $ fjoin ! $ move ! (2 ∷ 0 ∷ []) $ fjoin ! $ move ! (2 ∷ 0 ∷ []) $ fjoin ! $ move ! (2 ∷ 0 ∷ []) $ fjoin ! $ move ! (2 ∷ 0 ∷ []) $ fjoin ! $ move ! (2 ∷ 0 ∷ []) $ fjoin ! $
         -- [what is left of the parameters; true; the tokens; the reply's; the lender's part; κ; _27 at 6; …; _0 at 59; …]
         move ! (3 ∷ []) $ peeks ! Re (Is Re) (shows 𝓤 H A Re) r (w₂ ∷ []) (λ is₂. land ! (from ! (stop !)) (init ! 59 refl (EL.lawful S.the-type S′.the-laws 𝓤 H A W tt .typed r _ is₂ .0)) $
-        move ! (3 ∷ []) $ use1 W (raw (tokens 𝓤 H A W 6 κs qs) ⊛ ‵ (flft (ν′ ∷ []) fullShare)) (token-out 𝓤 H A W (ν′ ∷ []) fullShare 6 κs qs) $ split ! $ move ! (1 ∷ []) $ lft-end ! tt $
-        move ! (0 ∷ 5 ∷ []) $ use2 W (later (‵ (froom (words-ty 4096) l₁₀ 0))) (words-back 𝓤 H A W 4096 l₁₀ ν′ (us .1 .1 .0) (long (us .1 .1 .0) le)) $ await ! tt $ keep ! (2 ∷ 3 ∷ 1 ∷ 5 ∷ upto 34 6 (0 ∷ upto 21 40 [])) $
+        move ! (3 ∷ []) $ use1 W (raw (tokens 𝓤 H A W 6 κs qs) ⊛ ‵ (flft (ν′ ∷ []) fullShare)) (token-out 𝓤 H A W (ν′ ∷ []) fullShare 6 κs qs) $ split ! $ move ! (1 ∷ 5 ∷ []) $
+        room-again 𝓤 H A W at-mem run κ q ys ! tt us long l₁₀ ν′ $ keep ! (2 ∷ 3 ∷ 1 ∷ 5 ∷ upto 34 6 (0 ∷ upto 21 40 [])) $
         -- [the reply's; what is left of the parameters; the tokens; κ; _27 at 4; …; local i at 4 + 2 (27 - i)]
         returns ! (look ! 58 refl) $ move ! (downs 4 52) $ held ! $ held ! $ held ! $ held ! $ move ! (downs 4 44) $ held ! $ held ! $ held ! $ held ! $ move ! (downs 4 36) $ held ! $ held ! $ free1 ! $ held ! $ move ! (downs 4 28) $ held ! $ held ! $ held ! $ held ! $ move ! (downs 4 20) $ held ! $ held ! $ held ! $ held ! $ move ! (downs 4 12) $ held ! $ held ! $ held ! $ held ! $ move ! (downs 4 4) $ held ! $ held ! $ held ! $ held ! $ free0 ! $
         suffices ! _ (ends-at 𝓤 H A batch′.ended (stays (batch′.ended .signature .params) (batch′.ended .kept) params) c W bound w₂ r (tt ⨾ tt ⨾ xs .1 .1 .0 ⨾ xs .1 .1 .1 .0 ⨾ xs .1 .1 .1 .1 .0 ⨾ tt ⨾ xs .1 .1 .1 .1 .1 .1 .0 ⨾ xs .1 .1 .1 .1 .1 .1 .1 .0 ⨾ tt ⨾ tt) (tt ⨾ tt ⨾ tt ⨾ tt ⨾ tt ⨾ tt ⨾ tt ⨾ tt ⨾ tt ⨾ tt)) $
-        says ! (e (map recorded (ys .now)) (copied-laid (ys .now) (zeros 4096) (us .1 .1 .0) k ek ec (length-replicate {A = ℕ} 4096 0))) $
-        move ! (2 ∷ 3 ∷ []) $ use2 W (raw (tokens 𝓤 H A W 7 (snoc 6 κs κ) (snoc 6 qs q))) (token-in 𝓤 H A W κ q 6 κs qs) $ move ! (2 ∷ 1 ∷ []) $ join ! $ move ! (1 ∷ 0 ∷ []) $ join ! $ done !)))))))))))))))))))))))))))))))))))))))))))))
+        says ! (e (map recorded (ys .now)) laid) $
+        move ! (2 ∷ 3 ∷ []) $ use2 W (raw (tokens 𝓤 H A W 7 (snoc 6 κs κ) (snoc 6 qs q))) (token-in 𝓤 H A W κ q 6 κs qs) $ move ! (2 ∷ 1 ∷ []) $ join ! $ move ! (1 ∷ 0 ∷ []) $ join ! $ done !)))))))))))))))))))))))))))))))))))
 
 pub batch-spec : {M : Type 1} → stated.statement M
 unfolding code.routine tablesOf
@@ -200,4 +149,4 @@ batch-spec 𝓤 H 𝓜 𝓖 𝓡 =
     (a .0) (a .1 .0) (a .1 .1 .0) (a .1 .1 .1 .0) (a .1 .1 .1 .1 .0) (a .1 .1 .1 .1 .1 .0) (a .1 .1 .1 .1 .1 .1 .0) (a .1 .1 .1 .1 .1 .1 .1 .0) (a .1 .1 .1 .1 .1 .1 .1 .1 .0) (tablesOf 𝓤 H 𝓜 (tables 𝓤 H 𝓜 𝓡 code.env))
     (cited 𝓤 H (Lesser 𝓤 H (𝓖 .A) (𝓜 .mem) (𝓡 .run)) 𝓜 𝓡 code.env #graph·lesser lesser-def.routine code.calls-graph·lesser (lesser-thm.met 𝓤 H 𝓜 𝓖 𝓡))
     (cited 𝓤 H (Copy 𝓤 H (𝓖 .A) (𝓜 .mem) (𝓡 .run)) 𝓜 𝓡 code.env #batch·copy-changes copy-def.routine code.calls-batch·copy-changes (copy-thm.met 𝓤 H 𝓜 𝓖 𝓡))
-    (cited 𝓤 H (Core 𝓤 H (𝓖 .A) (𝓜 .mem) (𝓡 .run)) 𝓜 𝓡 code.env #batch·batch-copied core-def.routine code.calls-batch·batch-copied (core-thm.met 𝓤 H 𝓜 𝓖 𝓡)) are))
+    (cited 𝓤 H (Core 𝓤 H (𝓖 .A) (𝓜 .mem) (𝓡 .run)) 𝓜 𝓡 code.env #plain-batch·batch-laid core-def.routine code.calls-plain-batch·batch-laid (core-thm.met 𝓤 H 𝓜 𝓖 𝓡)) are))

@@ -1,11 +1,11 @@
--- `batch::batch_copied` meets its contract. Assumes nothing.
+-- `plain_batch::batch_laid` meets its contract. Assumes nothing.
 use Rattle.property.proofs.Basics.{needs, arith, sym, ap, _∙_, length, length-take-le}
 use Rattle.network.specs.Batch.{batchCall}
 use Rattle.calls.specs.Code.{network}
 use Rattle.plain_batch.proofs.Calling.{call-faulty, faults-long}
-use Rattle.batch.proofs.Copying.{laid-parts}
-use Rattle.batch.proofs.batch_copied.Statement.{statement}
-use Rattle.batch.proofs.batch_copied.Tie as tie
+use Rattle.items.proofs.Laying.{laid-parts}
+use Rattle.plain_batch.proofs.batch_laid.Statement.{statement}
+use Rattle.plain_batch.proofs.batch_laid.Tie as tie
 
 returns-2 : tie.Need-returns-2
 returns-2 c cs l =
@@ -16,8 +16,8 @@ returns-2 c cs l =
     let w = network (a .tails .now) (a .heads .now) (a .weights .now) (a .forward .now) (a .backward .now) (a .count) in
     d .batch-lists .ensures ∙ ap (batchCall (a .n) (a .landmarks .now) w) (laid-parts (a .size) cs (a .lists .now) l (omega (arith, e .if1 .left)) (s .pre))
 
-pub batch-copied-spec : {M : Type 1} → statement M
-batch-copied-spec =
+pub batch-laid-spec : {M : Type 1} → statement M
+batch-laid-spec =
     tie.close
     (tie.spec
     (λ c cs l.
