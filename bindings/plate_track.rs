@@ -357,7 +357,8 @@ pub fn route(
     judged(number, reply)
 }
 
-/// Shows what a batch would do to a property from a source: `effects` gets SAME, GAINED, LOST or MOVED for each vertex, `moves` after minus before.
+/// Shows what a batch would do to a property from a source: `effects` gets SAME, GAINED, LOST or MOVED for each vertex, `moves` after minus before where
+/// there is a route before and after, else 0.
 pub fn preview(
     n: u32, landmarks: &[u32], tails: &[u32], heads: &[u32], weights: &[u32], count: u32, forward: &[u32], backward: &[u32],
     changes: &[[u32; 4]], property: u32, source: u32, effects: &mut [u32], moves: &mut [i64], reply: &mut [u64],

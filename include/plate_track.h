@@ -2,7 +2,7 @@
  * while edges come, go and change their weights in batches, queries from any vertex, the route behind a value, and what a batch would do.
  *
  * Every plate_track_ function of the archive is proved to meet its contract (crates/plate_track). Nothing is allocated and nothing is kept
- * between calls: the caller lends all memory. PLATE_TRACK_STACK_ below has the stack of each call; none needs 192 KiB.
+ * between calls: the caller lends all memory. PLATE_TRACK_STACK_ below has the stack of each call; none needs more than 192 KiB.
  * plate_track_deck.h holds a network and its memory in one struct and keeps the count.
  *
  * WORDS. Here, and in document 01: vertex = station, edge = segment, weight = figure, landmark = post, forward = outward, backward =

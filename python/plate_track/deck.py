@@ -149,8 +149,8 @@ class Deck:
         return report
 
     def preview(self, changes, property, source):
-        """What a batch of these changes, given as `batch` takes them, would do to a property from a source: a Preview. The deck stays as it is. After a bad
-        property or source, what `batch` would refuse is refused by the same number and place."""
+        """What a batch of these changes, given as `batch` takes them, would do to a property from a source: a Preview. The deck stays as it is. It is
+        refused for numbers 1 to 4, then for a bad property or source, and then for the changes as `batch` is, by the same number and place."""
         room = min(self.n, MOST_VERTICES)
         effects, moves = words(room), array("q", bytes(8 * room))
         calls.preview(*self._network(), change_words(changes), property, source, effects, moves)

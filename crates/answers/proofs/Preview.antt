@@ -1,6 +1,6 @@
 -- A preview on a network of these calls tells best values, its batch comes to what it showed, and a batch without changes shows nothing: the claims of
 -- specs/Preview.antt, proved. Assumes nothing.
-use Rattle.property.proofs.Basics.{_≡_, refl, sym, ap, _∙_, subst, ap₂, _≢_, _↔_, inl, inr, ⊎-elim, Bool, true, false, cond, _||_, List, [], _∷_, _++_, map, ℕ, zero, suc, _<_, arith, length, getD, drop, replicate, length-replicate, List·getD-append, ltb, eqb, le-ltb, eq-eqb, ne-eqb, eqb-true, eqb-false}
+use Rattle.property.proofs.Basics.{_≡_, refl, sym, ap, _∙_, subst, ap₂, _≢_, _↔_, inl, inr, ⊎-elim, Bool, true, false, cond, _||_, List, [], _∷_, _++_, map, ℕ, zero, suc, _≤_, _<_, arith, length, getD, drop, replicate, length-replicate, List·getD-append, ltb, eqb, ltb-false, le-ltb, eq-eqb, ne-eqb, eqb-true, eqb-false}
 use mathlib.Core.List.{foldl-append}
 use lib.IntN.{ℤ, pos, _-ℤ_, +ℤ-invr}
 use Rattle.property.specs.Property.{Property, property}
@@ -10,20 +10,22 @@ use Rattle.graph.specs.Refusal.{accept, _▷_, refuseIf, accepted, refused, ver
 use Rattle.graph.specs.Edge.{Edge, range}
 use Rattle.graph.specs.Route.{Best}
 use Rattle.graph.specs.Routed.{Routed}
-use Rattle.graph.proofs.Tests.{or-false, or-right}
+use Rattle.graph.proofs.Tests.{neither, or-false, or-right}
 use Rattle.graph.proofs.Lists.{length-table, table-at}
-use Rattle.graph.proofs.Verdicts.{then-accept, accept-then, accept-if, then-same, then-last, then-assoc, verdict-replied, reply-accepted, reply-refused, choose-accept, outcome-refused}
+use Rattle.graph.proofs.Verdicts.{then-accept, accept-then, if-accept, accept-if, then-same, then-last, then-assoc, verdict-replied, reply-accepted, reply-refused, choose-accept, outcome-refused}
 use Rattle.run.specs.Run.{word}
 use Rattle.theory.proofs.Exists.{best-same}
 use Rattle.network.specs.Network.{Network, edgesIn, faults, row}
-use Rattle.network.specs.Query.{shortWords, requested, queryCall}
+use Rattle.network.specs.Query.{shortWords, requested, queryFaults, queryCall}
 use Rattle.network.specs.Change.{Change, items}
 use Rattle.network.specs.Batch.{longBatch, batchCall}
 use Rattle.network.specs.Caller.{reported, queried}
 use Rattle.network.specs.Current.{turnedBack}
+use Rattle.network.specs.Steady.{RestStays}
 use Rattle.network.specs.History.{moment, edgesNow, RoutesBest}
 use Rattle.network.specs.Routed.{RoutedAt}
 use Rattle.network.proofs.Moment.{Good, good-faults, steps}
+use Rattle.network.proofs.Items.{length-over}
 use Rattle.network.proofs.Query.{query-own, query-parts}
 use Rattle.network.proofs.History.{best-over-routes}
 use Rattle.network.proofs.Never.{query-judged, batch-judged, begun}
@@ -115,11 +117,11 @@ query-passes n ls u p s g h = query-judged n ls u (inquiry p s) (record { starts
 
 module _ (n : ℕ) (ls : List ℕ) (w : Network) (b : List Change) (p s : ℕ) (out : Shown) where
   -- the entries of a vertex
-  abbrev effectAt : ℕ → ℕ
-  effectAt t = effectOf (property p) (settledWord n ls w b p s (before n ls w b p s) t) (settledWord n ls w b p s (afterwards n ls w b p s) t)
+  abbrev shownEffect : ℕ → ℕ
+  shownEffect t = effectOf (property p) (settledWord n ls w b p s (before n ls w b p s) t) (settledWord n ls w b p s (afterwards n ls w b p s) t)
 
-  abbrev moveAt : ℕ → ℤ
-  moveAt t = moveOf (property p) (settledWord n ls w b p s (before n ls w b p s) t) (settledWord n ls w b p s (afterwards n ls w b p s) t)
+  abbrev shownMove : ℕ → ℤ
+  shownMove t = moveOf (property p) (settledWord n ls w b p s (before n ls w b p s) t) (settledWord n ls w b p s (afterwards n ls w b p s) t)
 
   -- numbers 1 to 6, where 1 to 4 let the network pass
   own-faults : faults n ls w ≡ accept → previewFaults n ls w b p s (length (out .effects)) (length (out .moves))
@@ -134,7 +136,7 @@ module _ (n : ℕ) (ls : List ℕ) (w : Network) (b : List Change) (p s : ℕ) (
         then-assoc (shortWords n (length (out .effects)) (length (out .moves))) _ _ ∙ then-same (shortWords n (length (out .effects)) (length (out .moves))) (λ _.
         then-same (requested n (inquiry p s)) (λ h.
         ap₂ _▷_ (batch-judged n ls w b g ∙ accept-then k) refl ∙ then-last (items n 0 (edgesIn w) b) (λ _.
-        accept-then (query-passes n ls w p s g h) ∙ query-passes n ls (applied n ls w b p s) p s ((steps n ls w b g) .kept) h))))
+        accept-then (query-passes n ls w p s g h) ∙ query-passes n ls (applied n ls w b) p s ((steps n ls w b g) .kept) h))))
 
   -- ---- accepted
 
@@ -152,6 +154,16 @@ module _ (n : ℕ) (ls : List ℕ) (w : Network) (b : List Change) (p s : ℕ) (
         let z = then-accept (verdictOf ((before n ls w b p s) .reply)) (verdictOf ((afterwards n ls w b p s) .reply)) (y .1) in
         (x .0, y .0, z .0, z .1)
 
+    asked : queryFaults n ls w (inquiry p s) (length (out .effects)) (length (out .moves)) ≡ accept
+    unfolding previewFaults
+    asked = (then-accept (longBatch (length b)) _ (parts .0)) .1
+
+    -- both lists have room for n entries
+    room : (n ≤ length (out .effects)) × (n ≤ length (out .moves))
+    room =
+        let z = neither (ltb (length (out .effects)) n) (ltb (length (out .moves)) n) (if-accept _ 2 0 (query-parts n ls w (inquiry p s) _ _ asked .4)) in
+        (ltb-false _ _ (z .0), ltb-false _ _ (z .1))
+
     left : (previewCall n ls w b p s out) .memory ≡ shown n ls w b p s out
     unfolding previewCall
     left = choose-accept (shown n ls w b p s out) out accepts
@@ -159,11 +171,19 @@ module _ (n : ℕ) (ls : List ℕ) (w : Network) (b : List Change) (p s : ℕ) (
 entry : {A : Type 0} (f : ℕ → A) (n : ℕ) (xs : List A) (d : A) (t : ℕ) → t < n → getD (over (map f (range 0 n)) xs) t d ≡ f t
 entry f n xs d t l = List·getD-append (map f (range 0 n)) (drop (length (map f (range 0 n))) xs) d t (rw (length-table f 0 n) l) ∙ table-at f n t d l
 
+-- n entries written over a list that has room for them: it is as long as it was, and past n as it was
+written : {A : Type 0} (f : ℕ → A) (n : ℕ) (xs : List A) → n ≤ length xs
+    → (length (over (map f (range 0 n)) xs) ≡ length xs) × RestStays n xs (over (map f (range 0 n)) xs)
+written f n xs h = (length-over (map f (range 0 n)) xs (rw (length-table f 0 n) h), over-rest n (map f (range 0 n)) xs (length-table f 0 n))
+
 -- ---- at any moment of a list of batches
 
 module _ (n : ℕ) (ls : List ℕ) (w : Network) (h : faults n ls w ≡ accept) (bs : List (List Change)) (b : List Change) (p s : ℕ) (out : Shown) where
   abbrev m : Network
   m = moment n ls w bs
+
+  abbrev m′ : Network
+  m′ = moment n ls w (bs ++ b ∷ [])
 
   abbrev es : List Edge
   es = edgesNow n w bs
@@ -172,13 +192,13 @@ module _ (n : ℕ) (ls : List ℕ) (w : Network) (h : faults n ls w ≡ accept) 
   fs = edgesNow n w (bs ++ b ∷ [])
 
   -- the copy after the batch is the network at the next moment
-  next : moment n ls w (bs ++ b ∷ []) ≡ applied n ls m b p s
+  next : m′ ≡ applied n ls m b
   next = foldl-append _ _ bs (b ∷ [])
 
-  then-best : RoutesBest n ls fs (applied n ls m b p s)
+  then-best : RoutesBest n ls fs (applied n ls m b)
   then-best = subst (RoutesBest n ls fs) next (best-over-routes n ls w h (bs ++ b ∷ []))
 
-  then-routed : RoutedAt n ls fs (applied n ls m b p s)
+  then-routed : RoutedAt n ls fs (applied n ls m b)
   then-routed = subst (RoutedAt n ls fs) next (words-routed n ls w h (bs ++ b ∷ []))
 
   -- the words of the two queries
@@ -194,8 +214,8 @@ module _ (n : ℕ) (ls : List ℕ) (w : Network) (h : faults n ls w ≡ accept) 
 
     shows : Differ (property p) (old t) (new t) (getD (left′ .effects) t 0) (getD (left′ .moves) t (pos 0))
     shows = differ-at (property p) (old t) (new t)
-        (ap (λ o. getD (o .effects) t 0) (left n ls m b p s out e) ∙ entry (effectAt n ls m b p s out) n (out .effects) 0 t l)
-        (ap (λ o. getD (o .moves) t (pos 0)) (left n ls m b p s out e) ∙ entry (moveAt n ls m b p s out) n (out .moves) (pos 0) t l)
+        (ap (λ o. getD (o .effects) t 0) (left n ls m b p s out e) ∙ entry (shownEffect n ls m b p s out) n _ 0 t l)
+        (ap (λ o. getD (o .moves) t (pos 0)) (left n ls m b p s out e) ∙ entry (shownMove n ls m b p s out) n _ (pos 0) t l)
 
     old-best : Best (property p) es s t (old t) × Routed (property p) es s t (old t)
     old-best = let (tally, x) = reply-given ((before n ls m b p s) .reply) (parts n ls m b p s out e .2) in
@@ -211,12 +231,12 @@ module _ (n : ℕ) (ls : List ℕ) (w : Network) (h : faults n ls w ≡ accept) 
   asked-so xs c d i j z = rw (i, j) at z
 
   -- an accepted query, before the batch or after it, gives best values too, and there is one only
-  borne : (previewCall n ls m b p s out) .reply ≡ accepted tt → Borne n ls m b p s ((previewCall n ls m b p s out) .memory)
+  borne : (previewCall n ls m b p s out) .reply ≡ accepted tt → Borne n ls m m′ b p s ((previewCall n ls m b p s out) .memory)
   borne e = record {
     accepts = parts n ls m b p s out e .1;
     shows = λ q r was is one two i j k f x y t l.
         let c = best-same (property-laws p) (old-best e t l .0) (asked-so ((queryCall n ls m q was) .memory .settled) _ _ i j (best-over-routes n ls w h bs .query q was one x t l)) in
-        let d = best-same (property-laws p) (new-best e t l .0) (asked-so ((queryCall n ls (applied n ls m b p s) r is) .memory .settled) _ _ k f (then-best .query r is two y t l)) in
+        let d = best-same (property-laws p) (new-best e t l .0) (asked-so ((queryCall n ls m′ r is) .memory .settled) _ _ k f (best-over-routes n ls w h (bs ++ b ∷ []) .query r is two y t l)) in
         differ-as c d (shows e t l);
   }
 
@@ -236,9 +256,9 @@ preview-holds n ls w h bs b p s out =
           ∙ ap (λ es. previewBack n es b p s out) (z .1);
       stays = stays n ls w h bs b p s out;
       tells = tells n ls w h bs b p s out;
-      kept = λ e. subst (EntriesStay n out) (sym (left n ls (moment n ls w bs) b p s out e)) (record {
-        effects = over-rest n (map (effectAt n ls (moment n ls w bs) b p s out) (range 0 n)) (out .effects) (length-table _ 0 n);
-        moves = over-rest n (map (moveAt n ls (moment n ls w bs) b p s out) (range 0 n)) (out .moves) (length-table _ 0 n);
+      rest = λ e. subst (EntriesStay n out) (sym (left n ls (moment n ls w bs) b p s out e)) (record {
+        effects = written (shownEffect n ls (moment n ls w bs) b p s out) n (out .effects) (room n ls (moment n ls w bs) b p s out e .0);
+        moves = written (shownMove n ls (moment n ls w bs) b p s out) n (out .moves) (room n ls (moment n ls w bs) b p s out e .1);
       });
     }
 
@@ -254,13 +274,12 @@ table-of {A} f a h i (suc n) = ap₂ {C = List A} _∷_ (h i) (table-of f a h (s
 
 module _ (n : ℕ) (ls : List ℕ) (w : Network) (p s : ℕ) (out : Shown) (e : (previewCall n ls w [] p s out) .reply ≡ accepted tt) where
   passes : faults n ls w ≡ accept
-  unfolding previewFaults
   passes =
-      let o = query-parts n ls w (inquiry p s) _ _ ((then-accept (longBatch 0) _ (parts n ls w [] p s out e .0)) .1) in
+      let o = query-parts n ls w (inquiry p s) _ _ (asked n ls w [] p s out e) in
       accept-then (o .0) ∙ accept-then (o .2) ∙ accept-then (o .3) ∙ accept-then (o .5) ∙ o .6
 
   -- the copy is the network, but for what its table lists hold past the count
-  alike : Alike n ls w (applied n ls w [] p s)
+  alike : Alike n ls w (applied n ls w [])
   unfolding reported
   alike =
       let z = empty-batch n ls w passes in
@@ -273,7 +292,7 @@ module _ (n : ℕ) (ls : List ℕ) (w : Network) (p s : ℕ) (out : Shown) (e : 
       }
 
   same : afterwards n ls w [] p s ≡ before n ls w [] p s
-  same = query-alike n ls w (applied n ls w [] p s) passes alike (inquiry p s) _
+  same = query-alike n ls w (applied n ls w []) passes alike (inquiry p s) _
 
 unchanged : (P : Property) (a b : ℕ) → b ≡ a → (effectOf P a b ≡ 0) × (moveOf P a b ≡ pos 0)
 unchanged P a b e = (
@@ -284,8 +303,8 @@ unchanged P a b e = (
 -- A batch without changes leaves edges, count and rows, and by these a query goes, whatever words the rows hold: so both give the same words.
 pub empty-shown : EmptyShown
 empty-shown n ls w p s out e =
-    let still : (t : ℕ) → (effectAt n ls w [] p s out t ≡ 0) × (moveAt n ls w [] p s out t ≡ pos 0) =
+    let still : (t : ℕ) → (shownEffect n ls w [] p s out t ≡ 0) × (shownMove n ls w [] p s out t ≡ pos 0) =
     λ t. unchanged (property p) _ _ (ap (λ o. settledWord n ls w [] p s o t) (same n ls w p s out e)) in
     left n ls w [] p s out e
     ∙ ap₂ (λ xs ys. record { effects = over xs (out .effects); moves = over ys (out .moves) })
-    (table-of (effectAt n ls w [] p s out) 0 (λ t. still t .0) 0 n) (table-of (moveAt n ls w [] p s out) (pos 0) (λ t. still t .1) 0 n)
+    (table-of (shownEffect n ls w [] p s out) 0 (λ t. still t .0) 0 n) (table-of (shownMove n ls w [] p s out) (pos 0) (λ t. still t .1) 0 n)

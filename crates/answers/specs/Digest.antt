@@ -9,21 +9,23 @@
 --   isMore P e d f g     == of two that lose, the one of e and d loses more than that of f and g: its route where the other has one, or more of its value
 --   effectAt, moveAt     == the entries of a vertex
 --   loses, losesMore     == so do vertices by their entries
---   counted f n          == how many vertices pass the test f
+--   howMany f n          == how many vertices pass the test f
 --   most P n out         == the lowest of the vertices that lose most, or n where none loses
 --   digest P n out       == the digest of n vertices
 --   digestFaults x y     == numbers 1, 2 and 5, where the lists have x and y entries
 --   digestCall n p out   == the reply
---   Worst P n out u      == u is that vertex
---   DigestMost           == the claim: none loses more than the vertex that is named, and of those that lose as much it is the lowest; n is named
---                           exactly where none loses
+--   LosesMost P n out u  == u is that vertex
+--   DigestMost           == the claim: none loses more than the vertex that is named, and of those that lose as much it is the lowest; where one lost its
+--                           route, so did the one that is named; n is named exactly where none loses
+--   MovesJudged          == the claim: a move from one value to another is one for the better, or for the worse, exactly where the other value is better, or
+--                           worse, by the property itself
 use mathlib.Core.Path.{_≡_}
 use mathlib.Core.Logic.{_↔_}
 use mathlib.Core.Bool.{Bool, true, false, not, _&&_, _||_, cond}
 use mathlib.Core.List.{List, foldl, map}
-use Prim.Native.Nat.{ℕ, _<_}
+use Prim.Native.Nat.{ℕ, _≤_, _<_}
 use lib.ListN.{length, getD}
-use lib.IntN.{ℤ, pos}
+use lib.IntN.{ℤ, pos, _-ℤ_}
 use lib.Signed.{ltZ}
 use lib.Dec.{eqb}
 use Rattle.property.specs.Property.{Property, property, isProperty}
@@ -76,8 +78,8 @@ module _ (P : Property) (out : Shown) where
 
 -- ---- all vertices
 
-abbrev pub counted : (ℕ → Bool) → ℕ → ℕ
-counted f n = countOf (map f (range 0 n))
+abbrev pub howMany : (ℕ → Bool) → ℕ → ℕ
+howMany f n = countOf (map f (range 0 n))
 
 module _ (P : Property) (n : ℕ) (out : Shown) where
   abbrev pub most : ℕ
@@ -85,10 +87,10 @@ module _ (P : Property) (n : ℕ) (out : Shown) where
 
   abbrev pub digest : Digest
   digest = record {
-    gained = counted (λ t. eqb (effectAt (out .effects) t) 1) n;
-    lost = counted (λ t. eqb (effectAt (out .effects) t) 2) n;
-    better = counted (λ t. eqb (effectAt (out .effects) t) 3 && movesTo P true (moveAt (out .moves) t)) n;
-    worse = counted (λ t. eqb (effectAt (out .effects) t) 3 && movesTo P false (moveAt (out .moves) t)) n;
+    gained = howMany (λ t. eqb (effectAt (out .effects) t) 1) n;
+    lost = howMany (λ t. eqb (effectAt (out .effects) t) 2) n;
+    better = howMany (λ t. eqb (effectAt (out .effects) t) 3 && movesTo P true (moveAt (out .moves) t)) n;
+    worse = howMany (λ t. eqb (effectAt (out .effects) t) 3 && movesTo P false (moveAt (out .moves) t)) n;
     most = most;
   }
 
@@ -100,11 +102,17 @@ digestCall n p out = replied (digestFaults n p (length (out .effects)) (length (
 
 -- ---- the claim
 
-pub record Worst (P : Property) (n : ℕ) (out : Shown) (u : ℕ) : Type 0 where
+pub record LosesMost (P : Property) (n : ℕ) (out : Shown) (u : ℕ) : Type 0 where
+  pub within : u ≤ n
   pub named : u < n → loses P out u ≡ true
+  pub routeFirst : (t : ℕ) → t < n → effectAt (out .effects) t ≡ 2 → effectAt (out .effects) u ≡ 2
   pub unrivalled : u < n → (t : ℕ) → t < n → loses P out t ≡ true → losesMore P out t u ≡ false
   pub lowest : u < n → (t : ℕ) → t < u → loses P out t ≡ true → losesMore P out u t ≡ true
   pub none : (u ≡ n) ↔ ((t : ℕ) → t < n → loses P out t ≡ false)
 
 abbrev pub DigestMost : Type 0
-DigestMost = (P : Property) (n : ℕ) (out : Shown) → Worst P n out (most P n out)
+DigestMost = (P : Property) (n : ℕ) (out : Shown) → LosesMost P n out (most P n out)
+
+-- "better" and "worse" of a move are those of the values
+abbrev pub MovesJudged : Type 0
+MovesJudged = (p a b : ℕ) → (improves (property p) (pos b -ℤ pos a) ≡ property p .better b a) × (worsens (property p) (pos b -ℤ pos a) ≡ property p .better a b)

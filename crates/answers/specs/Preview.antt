@@ -19,14 +19,15 @@
 --   Reached P es s t    == they have one
 --   Accounts P es fs s t left == the two entries of t in the lists left tell its best values on es and on fs: 0 says that they are the same, 1 and 2 that a route
 --                          came or went, 3 that there is one on both and the values differ; the move is their difference where there is one on both
---   EntriesStay n out left == past n entries both lists are as they were
+--   EntriesStay n out left == both lists are as long as they were, and past n entries as they were
 --   Foretold ..         == what the call does there, for a batch b, property p and source s
 --   PreviewHolds        == the claim: so it is after any list of batches
 --   Differ P x y e d    == the entries e and d say how the words x before and y after differ
---   Borne ..            == the batch is accepted, and of any accepted query before it and any one after it the lists left show the differences
+--   Borne ..            == the batch is accepted on w, and of any accepted query on w and any one on v, the network after it, the lists left show the
+--                          differences
 --   PreviewComesTrue    == the claim: so it is of an accepted preview after any list of batches. A preview returns no table and no rows, so
 --                          previews may stand anywhere between batches
---   EmptyShown          == the claim: on any network and whatever words it holds, a batch without changes shows 0 and 0
+--   EmptyShown          == the claim: on any network and whatever words it holds, an accepted preview of a batch without changes shows 0 and 0
 use mathlib.Core.Path.{_≡_}
 use mathlib.Core.Logic.{_≢_, _↔_, _⊎_}
 use mathlib.Core.Bool.{_||_, cond}
@@ -43,7 +44,7 @@ use Rattle.run.specs.Run.{Tally, word}
 use Rattle.network.specs.Network.{Network, faults}
 use Rattle.network.specs.Query.{Query, Words, shortWords, requested, queryFaults, queryCall}
 use Rattle.network.specs.Change.{Change, items}
-use Rattle.network.specs.Batch.{Report, longBatch, batchCall}
+use Rattle.network.specs.Batch.{longBatch, batchCall}
 use Rattle.network.specs.Caller.{handOn, queried}
 use Rattle.network.specs.Steady.{RestStays}
 use Rattle.network.specs.History.{moment, edgesNow}
@@ -65,15 +66,15 @@ moveOf P a b = cond (eqb a (P .none) || eqb b (P .none)) (pos 0) (pos b -ℤ pos
 abbrev pub inquiry : ℕ → ℕ → Query
 inquiry p s = record { property = p; source = s; schedule = [] }
 
-module _ (n : ℕ) (ls : List ℕ) (w : Network) (b : List Change) (p s : ℕ) where
-  abbrev pub applied : Network
-  applied = handOn w (batchCall n ls w b)
+abbrev pub applied : ℕ → List ℕ → Network → List Change → Network
+applied n ls w b = handOn w (batchCall n ls w b)
 
+module _ (n : ℕ) (ls : List ℕ) (w : Network) (b : List Change) (p s : ℕ) where
   abbrev pub before : Outcome Tally Words
   before = queried n ls w p s []
 
   abbrev pub afterwards : Outcome Tally Words
-  afterwards = queried n ls applied p s []
+  afterwards = queried n ls (applied n ls w b) p s []
 
   unfoldable pub previewFaults : ℕ → ℕ → Verdict
   previewFaults x y = longBatch (length b) ▷ queryFaults n ls w (inquiry p s) x y
@@ -122,15 +123,15 @@ pub record Accounts (P : Property) (es fs : List Edge) (s t : ℕ) (left : Shown
   pub unmoved : Unrouted P es s t ⊎ Unrouted P fs s t → getD (left .moves) t (pos 0) ≡ pos 0
 
 pub record EntriesStay (n : ℕ) (out left : Shown) : Type 0 where
-  pub effects : RestStays n (out .effects) (left .effects)
-  pub moves : RestStays n (out .moves) (left .moves)
+  pub effects : (length (left .effects) ≡ length (out .effects)) × RestStays n (out .effects) (left .effects)
+  pub moves : (length (left .moves) ≡ length (out .moves)) × RestStays n (out .moves) (left .moves)
 
 module _ (n : ℕ) (ls : List ℕ) (es fs : List Edge) (w : Network) (b : List Change) (p s : ℕ) (out : Shown) where
   pub record Foretold : Type 0 where
     pub judged : verdictOf ((previewCall n ls w b p s out) .reply) ≡ previewBack n es b p s out
     pub stays : (k i : ℕ) → (previewCall n ls w b p s out) .reply ≡ refused k i → (previewCall n ls w b p s out) .memory ≡ out
     pub tells : (previewCall n ls w b p s out) .reply ≡ accepted tt → (t : ℕ) → t < n → Accounts (property p) es fs s t ((previewCall n ls w b p s out) .memory)
-    pub kept : (previewCall n ls w b p s out) .reply ≡ accepted tt → EntriesStay n out ((previewCall n ls w b p s out) .memory)
+    pub rest : (previewCall n ls w b p s out) .reply ≡ accepted tt → EntriesStay n out ((previewCall n ls w b p s out) .memory)
 
 abbrev pub PreviewHolds : Type 0
 PreviewHolds = (n : ℕ) (ls : List ℕ) (w : Network) → faults n ls w ≡ accept → (bs : List (List Change)) (b : List Change) (p s : ℕ) (out : Shown)
@@ -146,18 +147,18 @@ pub record Differ (P : Property) (x y e : ℕ) (d : ℤ) : Type 0 where
   pub move : x ≢ P .none → y ≢ P .none → d ≡ pos y -ℤ pos x
   pub unmoved : (x ≡ P .none) ⊎ (y ≡ P .none) → d ≡ pos 0
 
-pub record Borne (n : ℕ) (ls : List ℕ) (w : Network) (b : List Change) (p s : ℕ) (left : Shown) : Type 0 where
+pub record Borne (n : ℕ) (ls : List ℕ) (w v : Network) (b : List Change) (p s : ℕ) (left : Shown) : Type 0 where
   pub accepts : verdictOf ((batchCall n ls w b) .reply) ≡ accept
   pub shows : (q r : Query) (was is : Words) (one two : Tally) → q .property ≡ p → q .source ≡ s → r .property ≡ p → r .source ≡ s
-      → (queryCall n ls w q was) .reply ≡ accepted one → (queryCall n ls (applied n ls w b p s) r is) .reply ≡ accepted two → (t : ℕ) → t < n
+      → (queryCall n ls w q was) .reply ≡ accepted one → (queryCall n ls v r is) .reply ≡ accepted two → (t : ℕ) → t < n
       → let x = word (property p) ((queryCall n ls w q was) .memory .settled) t in
-      let y = word (property p) ((queryCall n ls (applied n ls w b p s) r is) .memory .settled) t in
+      let y = word (property p) ((queryCall n ls v r is) .memory .settled) t in
       Differ (property p) x y (getD (left .effects) t 0) (getD (left .moves) t (pos 0))
 
 abbrev pub PreviewComesTrue : Type 0
 PreviewComesTrue = (n : ℕ) (ls : List ℕ) (w : Network) → faults n ls w ≡ accept → (bs : List (List Change)) (b : List Change) (p s : ℕ) (out : Shown)
     → (previewCall n ls (moment n ls w bs) b p s out) .reply ≡ accepted tt
-    → Borne n ls (moment n ls w bs) b p s ((previewCall n ls (moment n ls w bs) b p s out) .memory)
+    → Borne n ls (moment n ls w bs) (moment n ls w (bs ++ b ∷ [])) b p s ((previewCall n ls (moment n ls w bs) b p s out) .memory)
 
 abbrev pub EmptyShown : Type 0
 EmptyShown = (n : ℕ) (ls : List ℕ) (w : Network) (p s : ℕ) (out : Shown) → (previewCall n ls w [] p s out) .reply ≡ accepted tt

@@ -75,7 +75,7 @@ fn moves_to(p: u32, good: bool, d: i64) -> bool
 // How many of `n` vertices have the effect `e`.
 fn count_effect(n: usize, e: u32, effects: &[u32]) -> u32
     requires { ⌜ (n ≤ maxVertices) × (n ≤ length (now effects)) ⌝ }
-    ensures { λ r. ⌜ r ≡ spec.counted (λ t. eqb (spec.effectAt (now (effects .entry)) t) e) n ⌝ }
+    ensures { λ r. ⌜ r ≡ spec.howMany (λ t. eqb (spec.effectAt (now (effects .entry)) t) e) n ⌝ }
 {
     let mut count = 0;
     let mut t = 0;
@@ -91,7 +91,7 @@ fn count_effect(n: usize, e: u32, effects: &[u32]) -> u32
 // How many of `n` vertices moved for the better where `good` holds, and else for the worse.
 fn count_moved(p: u32, n: usize, good: bool, effects: &[u32], moves: &[i64]) -> u32
     requires { ⌜ (n ≤ maxVertices) × (n ≤ length (now effects)) × (n ≤ length (now moves)) ⌝ }
-    ensures { λ r. ⌜ r ≡ spec.counted (λ t. eqb (spec.effectAt (now (effects .entry)) t) 3 && spec.movesTo (property p) good (spec.moveAt (now (moves .entry)) t)) n ⌝ }
+    ensures { λ r. ⌜ r ≡ spec.howMany (λ t. eqb (spec.effectAt (now (effects .entry)) t) 3 && spec.movesTo (property p) good (spec.moveAt (now (moves .entry)) t)) n ⌝ }
 {
     let mut count = 0;
     let mut t = 0;

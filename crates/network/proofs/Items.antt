@@ -73,7 +73,7 @@ table-count cs m h l =
 
 -- ---- the table after a batch
 
-pub length-over : (new old : List ℕ) → length new ≤ length old → length (over new old) ≡ length old
+pub length-over : {A : Type 0} (new old : List A) → length new ≤ length old → length (over new old) ≡ length old
 length-over new old h = length-append new (drop (length new) old) ∙ (let e = length-drop (length new) old in omega arith)
 
 pub rewritten-edges : (fs : List Edge) (cs : Columns) → edgesOf (rewritten fs cs) (length fs) ≡ fs

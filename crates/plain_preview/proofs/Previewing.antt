@@ -1,12 +1,13 @@
 -- A query without a schedule and a preview as calls: their verdicts, and the lists lent for the answer. Assumes nothing.
-use Rattle.property.proofs.Basics.{_≡_, refl, sym, ap, ap₂, _∙_, List, [], map, ℕ, _<_, _≤_, arith, length, getD, take, replicate, length-replicate, le-ltb}
+use Rattle.property.proofs.Basics.{_≡_, refl, sym, ap, ap₂, _∙_, Bool, true, false, List, [], map, ℕ, _<_, _≤_, arith, length, getD, take, replicate, length-replicate, le-ltb}
 use lib.IntN.{ℤ}
 use Rattle.property.specs.Property.{property}
 use Rattle.graph.specs.Limits.{maxVertices}
 use Rattle.graph.specs.declared.Judged.{Judged}
 use Rattle.graph.specs.declared.Judged.the-variants.{Fine, Refused}
-use Rattle.graph.specs.Refusal.{accept, _▷_, accepted, replied, verdictOf, Outcome, over}
+use Rattle.graph.specs.Refusal.{Verdict, accept, refuse, _▷_, refuseIf, accepted, replied, verdictOf, Outcome, over}
 use Rattle.graph.specs.Edge.{range}
+use Rattle.graph.specs.Table.{size, shortTable, table}
 use Rattle.graph.specs.Code.{told}
 use Rattle.graph.proofs.Tests.{or-false}
 use Rattle.graph.proofs.Lists.{range-below, getD-within, take-replicate}
@@ -16,12 +17,12 @@ use Rattle.run.specs.Run.{Tally, word}
 use Rattle.query.specs.declared.Answered.{Answered}
 use Rattle.query.specs.Code.{asking, wordsOf, answering, asOutcome}
 use Rattle.query.proofs.AskingFaults.{Sound, faults-accept}
-use Rattle.network.specs.Network.{Network, faults}
-use Rattle.network.specs.Query.{Words, queryFaults, queryVerdict, queryCall}
+use Rattle.network.specs.Network.{Network, shortRows, landmarks, faults}
+use Rattle.network.specs.Query.{Words, longSchedule, shortWords, requested, queryFaults, queryVerdict, queryCall}
 use Rattle.network.specs.Change.{Change}
 use Rattle.network.specs.Batch.{batchCall, longBatch}
 use Rattle.network.specs.Caller.{queried}
-use Rattle.network.proofs.Query.{query-parts, query-own}
+use Rattle.network.proofs.Query.{query-parts}
 use Rattle.network.proofs.Alike.{map-alike}
 use Rattle.network.proofs.Never.{FitList, query-verdict}
 use Rattle.answers.specs.Preview.{Shown, effectOf, moveOf, inquiry, before, afterwards, previewFaults, previewVerdict, previewCall}
@@ -35,12 +36,54 @@ answers-as n ls w p s ys us zs a r h y e v =
     let q : asOutcome a us zs ≡ queried n ls w p s [] = e ∙ ap₂ (λ us vs. queryCall n ls w (asking p s []) (wordsOf us vs)) (take-replicate n maxVertices 0 h) y in
     record { verdict = v ∙ ap (λ (o : Outcome Tally Words). verdictOf (o .reply)) q; words = λ _. ap (λ (o : Outcome Tally Words). o .memory .settled) q }
 
--- ---- what is known past numbers 1 to 6, where the batch has k changes and the rows hold words of 32 bits
+-- ---- numbers 1 to 6: first 1 of both and 2 of the lists for the answer, and then the query before, whose own lists have n words
 
+-- tests for one number may be made in any order
+ordered : (a z : Verdict) (t r w : Bool) (v : Verdict)
+    → (a ▷ z ▷ refuseIf t 2 0 ▷ refuseIf r 2 0 ▷ refuseIf w 2 0 ▷ v) ≡ ((a ▷ z ▷ refuseIf w 2 0) ▷ z ▷ refuseIf t 2 0 ▷ refuseIf r 2 0 ▷ v)
+unfolding refuseIf _▷_
+ordered (refuse k i) z t r w v = refl
+ordered accept (refuse k i) t r w v = refl
+ordered accept accept true r true v = refl
+ordered accept accept true r false v = refl
+ordered accept accept false true true v = refl
+ordered accept accept false true false v = refl
+ordered accept accept false false true v = refl
+ordered accept accept false false false v = refl
+
+module _ (n : ℕ) (ls : List ℕ) (w : Network) (p s : ℕ) where
+  abbrev zeros : ℕ
+  zeros = length (replicate {A = ℕ} n 0)
+
+  abbrev rest : Verdict
+  rest = landmarks n ls ▷ table n (w .memory .table) (w .count) ▷ requested n (inquiry p s)
+
+  flat : (x y : ℕ) → queryFaults n ls w (inquiry p s) x y ≡ (size n ▷ shortTable (w .memory .table) ▷ shortRows n ls (w .memory .rows) ▷ shortWords n x y ▷ rest)
+  unfolding queryFaults
+  flat x y = ap (λ v. size n ▷ v) (accept-then {a = longSchedule 0} (accept-if 1 0 refl))
+
+  -- the query's own lists are long enough
+  roomy : shortWords n zeros zeros ≡ accept
+  roomy = let l : n ≤ zeros = omega (arith, length-replicate {A = ℕ} n 0) in accept-if 2 0 (or-false (le-ltb _ _ l) (le-ltb _ _ l))
+
+  pub faults-first : (k x y : ℕ) → (longBatch k ▷ queryFaults n ls w (inquiry p s) x y) ≡ ((longBatch k ▷ size n ▷ shortWords n x y) ▷ queryFaults n ls w (inquiry p s) zeros zeros)
+  faults-first k x y =
+      ap (λ v. longBatch k ▷ v) (flat x y) ∙ ordered (longBatch k) (size n) _ _ _ rest
+      ∙ ap (λ v. (longBatch k ▷ size n ▷ shortWords n x y) ▷ v)
+      (sym (flat zeros zeros ∙ ap (λ v. size n ▷ shortTable (w .memory .table) ▷ shortRows n ls (w .memory .rows) ▷ v) (accept-then roomy)))
+
+  -- with words of 32 bits in the rows it is judged by these numbers alone
+  pub asked-verdict : FitList (w .memory .rows .forward) → FitList (w .memory .rows .backward)
+      → verdictOf ((queried n ls w p s []) .reply) ≡ queryFaults n ls w (inquiry p s) zeros zeros
+  unfolding queryCall
+  asked-verdict f b =
+      let o : Words = wordsOf (replicate n 0) (replicate n 0) in
+      verdict-replied (queryVerdict n ls w (inquiry p s) o) _ ∙ query-verdict n ls w (inquiry p s) o f b
+
+-- what is known past them, where the batch has k changes
 pub record Passed (n : ℕ) (ls : List ℕ) (w : Network) (k p s : ℕ) (xs : List ℕ) (ys : List ℤ) : Type 0 where
   pub fine : (longBatch k ▷ queryFaults n ls w (inquiry p s) (length xs) (length ys)) ≡ accept
-  pub forward : FitList (w .memory .rows .forward)
-  pub backward : FitList (w .memory .rows .backward)
+  pub before : verdictOf ((queried n ls w p s []) .reply) ≡ accept
 
 module _ {n : ℕ} {ls : List ℕ} {w : Network} {k p s : ℕ} {xs : List ℕ} {ys : List ℤ} (g : Passed n ls w k p s xs ys) where
   asked : queryFaults n ls w (inquiry p s) (length xs) (length ys) ≡ accept
@@ -52,20 +95,11 @@ module _ {n : ℕ} {ls : List ℕ} {w : Network} {k p s : ℕ} {xs : List ℕ} {
   pub passed-network : faults n ls w ≡ accept
   passed-network = let o = query-parts n ls w (inquiry p s) _ _ asked in accept-then (o .0) ∙ accept-then (o .2) ∙ accept-then (o .3) ∙ accept-then (o .5) ∙ o .6
 
-  -- the query before is answered
-  pub passed-before : verdictOf ((queried n ls w p s []) .reply) ≡ accept
-  unfolding queryCall
-  passed-before =
-      let o : Words = wordsOf (replicate n 0) (replicate n 0) in
-      let l : n ≤ length (replicate {A = ℕ} n 0) = omega (arith, length-replicate {A = ℕ} n 0) in
-      verdict-replied (queryVerdict n ls w (inquiry p s) o) _ ∙ query-verdict n ls w (inquiry p s) o (g .forward) (g .backward) ∙ query-own n ls w (inquiry p s) _ _ passed-network
-      ∙ accept-then (accept-if 1 0 refl) ∙ accept-then (accept-if 2 0 (or-false (le-ltb _ _ l) (le-ltb _ _ l))) ∙ query-parts n ls w (inquiry p s) _ _ asked .7
-
-  -- so the batch and the query after it are judged alone
+  -- the batch and the query after it are judged alone
   pub passed-later : (cs : List Change) → length cs ≡ k → previewVerdict n ls w cs p s (shownOf xs ys)
       ≡ (verdictOf ((batchCall n ls w cs) .reply) ▷ verdictOf ((afterwards n ls w cs p s) .reply))
   unfolding previewFaults
-  passed-later cs e = accept-then (rw e (g .fine)) ∙ then-same _ (λ _. accept-then passed-before)
+  passed-later cs e = accept-then (rw e (g .fine)) ∙ then-same _ (λ _. accept-then (g .before))
 
 -- ---- the preview
 

@@ -1,6 +1,7 @@
 // What a batch would do to one source and property: the batch on a copy of the network, and a query before and after.
 use apply::Applied;
 use graph::Judged;
+use graph::rules;
 use graph::words;
 use query::Answered;
 ghost use mathlib.Core.Path.{_≡_};
@@ -9,53 +10,30 @@ ghost use Prim.Native.Nat.{_*_, _≤_};
 ghost use lib.ListN.{length, replicate};
 ghost use Rattle.graph.specs.Limits.{maxVertices, maxBatch};
 ghost use Rattle.graph.specs.Refusal.{accept, _▷_};
+ghost use Rattle.graph.specs.Table as table;
 ghost use Rattle.graph.specs.Code.{told};
 ghost use Rattle.network.specs.Network.{faults};
-ghost use Rattle.network.specs.Query.{queryFaults};
+ghost use Rattle.network.specs.Query.{shortWords};
 ghost use Rattle.network.specs.Batch.{longBatch};
 ghost use Rattle.network.specs.Change.{Change};
-ghost use Rattle.answers.specs.Preview.{inquiry, previewCall};
+ghost use Rattle.answers.specs.Preview.{previewCall};
 ghost use Rattle.calls.specs.Code.{network};
 ghost use Rattle.items.specs.Code.{Laid};
 ghost use Rattle.effects.specs.Code.{shownOf};
 ghost use Rattle.plain_preview.specs.Code.{previewOutcome, AskDone, AskAfterDone};
 
-// Number 1 of a batch of `size` changes, and numbers 1 to 6 of the query, where the lists for the answer have `effects` and `moves` entries.
-fn judge_preview(
-    n: u32,
-    landmarks: &[u32],
-    tails: &[u32],
-    heads: &[u32],
-    weights: &[u32],
-    count: u32,
-    forward: &[u32],
-    backward: &[u32],
-    size: usize,
-    property: u32,
-    source: u32,
-    effects: usize,
-    moves: usize,
-) -> Judged
-    ensures { λ r. ⌜ told r ≡ (longBatch size ▷ queryFaults n (now (landmarks .entry)) (network (now (tails .entry)) (now (heads .entry)) (now (weights .entry)) (now (forward .entry)) (now (backward .entry)) count) (inquiry property source) effects moves) ⌝ }
+// Number 1 of n and of a batch of `size` changes, and number 2 of the lists for the answer: what the query before does not judge.
+fn judge_preview(n: u32, size: usize, effects: usize, moves: usize) -> Judged
+    ensures { λ r. ⌜ told r ≡ (longBatch size ▷ table.size n ▷ shortWords n effects moves) ⌝ }
 {
     if size > graph::MAX_BATCH {
         return Judged::Refused(1, 0);
     }
-    query::judge_query(
-        n,
-        landmarks,
-        tails,
-        heads,
-        weights,
-        count,
-        forward,
-        backward,
-        property,
-        source,
-        &landmarks[..0],
-        effects,
-        moves,
-    )
+    let own = rules::judge_size(n);
+    let Judged::Fine = own else {
+        return own;
+    };
+    calls::judge_outputs(n, effects, moves)
 }
 
 // A query without a schedule: its settled words go to a list of zeros, one for each vertex.
@@ -187,7 +165,13 @@ pub fn preview_laid(
     requires { ⌜ length (now lists) ≡ 4 * maxBatch ⌝ }
     ensures { λ r. ⌜ ((cs : List Change) → Laid size cs (now (lists .entry)) → previewOutcome r (now (effects .exit)) (now (moves .exit)) ≡ previewCall n (now (landmarks .entry)) (network (now (tails .entry)) (now (heads .entry)) (now (weights .entry)) (now (forward .entry)) (now (backward .entry)) count) cs property source (shownOf (now (effects .entry)) (now (moves .entry)))) ⌝ }
 {
-    let judged = judge_preview(
+    let judged = judge_preview(n, size, effects.len(), moves.len());
+    let Judged::Fine = judged else {
+        return judged;
+    };
+    let vertices = n as usize;
+    let mut before = [0u32; graph::VERTEX_WORDS];
+    let sooner = ask(
         n,
         landmarks,
         tails,
@@ -196,16 +180,13 @@ pub fn preview_laid(
         count,
         forward,
         backward,
-        size,
         property,
         source,
-        effects.len(),
-        moves.len(),
+        &mut before[..vertices],
     );
-    let Judged::Fine = judged else {
-        return judged;
+    let Judged::Fine = sooner else {
+        return sooner;
     };
-    let vertices = n as usize;
     let mut after = [0u32; graph::VERTEX_WORDS];
     let later = ask_after(
         n,
@@ -224,23 +205,6 @@ pub fn preview_laid(
     );
     let Judged::Fine = later else {
         return later;
-    };
-    let mut before = [0u32; graph::VERTEX_WORDS];
-    let sooner = ask(
-        n,
-        landmarks,
-        tails,
-        heads,
-        weights,
-        count,
-        forward,
-        backward,
-        property,
-        source,
-        &mut before[..vertices],
-    );
-    let Judged::Fine = sooner else {
-        return sooner;
     };
     effects::show(
         property,

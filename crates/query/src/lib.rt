@@ -66,7 +66,7 @@ fn judge_request(n: u32, property: u32, source: u32, schedule: &[u32]) -> Judged
 }
 
 // Every refusal that comes before the run.
-pub fn judge_query(
+fn judge_query(
     n: u32,
     landmarks: &[u32],
     tails: &[u32],
