@@ -329,7 +329,7 @@ uint32_t plate_track_route(
 /* Shows what a batch would do to one property from one source, and writes nothing of the network: it is the batch on a copy, and a query before and
  * after, without a schedule. `effects` gets for each vertex PLATE_TRACK_SAME, _GAINED (it has a route after the batch and none before), _LOST or _MOVED;
  * `moves` gets the value after minus the value before where it has a route before and after, else 0. Both have at least n entries, and entries past
- * them stay. A batch that would be refused is refused by the same number and place.
+ * them stay. With a good property and source, a batch that would be refused is refused by the same number and place.
  * The reply has no words. Numbers: 1 to 5, 6 (the source, place 0), then 6 to 12 of the batch's changes, 13. */
 uint32_t plate_track_preview(
     uint32_t n,

@@ -52,8 +52,8 @@ ordered accept accept false false true v = refl
 ordered accept accept false false false v = refl
 
 module _ (n : ℕ) (ls : List ℕ) (w : Network) (p s : ℕ) where
-  abbrev zeros : ℕ
-  zeros = length (replicate {A = ℕ} n 0)
+  abbrev room : ℕ
+  room = length (replicate {A = ℕ} n 0)
 
   abbrev rest : Verdict
   rest = landmarks n ls ▷ table n (w .memory .table) (w .count) ▷ requested n (inquiry p s)
@@ -63,18 +63,18 @@ module _ (n : ℕ) (ls : List ℕ) (w : Network) (p s : ℕ) where
   flat x y = ap (λ v. size n ▷ v) (accept-then {a = longSchedule 0} (accept-if 1 0 refl))
 
   -- the query's own lists are long enough
-  roomy : shortWords n zeros zeros ≡ accept
-  roomy = let l : n ≤ zeros = omega (arith, length-replicate {A = ℕ} n 0) in accept-if 2 0 (or-false (le-ltb _ _ l) (le-ltb _ _ l))
+  roomy : shortWords n room room ≡ accept
+  roomy = let l : n ≤ room = omega (arith, length-replicate {A = ℕ} n 0) in accept-if 2 0 (or-false (le-ltb _ _ l) (le-ltb _ _ l))
 
-  pub faults-first : (k x y : ℕ) → (longBatch k ▷ queryFaults n ls w (inquiry p s) x y) ≡ ((longBatch k ▷ size n ▷ shortWords n x y) ▷ queryFaults n ls w (inquiry p s) zeros zeros)
+  pub faults-first : (k x y : ℕ) → (longBatch k ▷ queryFaults n ls w (inquiry p s) x y) ≡ ((longBatch k ▷ size n ▷ shortWords n x y) ▷ queryFaults n ls w (inquiry p s) room room)
   faults-first k x y =
       ap (λ v. longBatch k ▷ v) (flat x y) ∙ ordered (longBatch k) (size n) _ _ _ rest
       ∙ ap (λ v. (longBatch k ▷ size n ▷ shortWords n x y) ▷ v)
-      (sym (flat zeros zeros ∙ ap (λ v. size n ▷ shortTable (w .memory .table) ▷ shortRows n ls (w .memory .rows) ▷ v) (accept-then roomy)))
+      (sym (flat room room ∙ ap (λ v. size n ▷ shortTable (w .memory .table) ▷ shortRows n ls (w .memory .rows) ▷ v) (accept-then roomy)))
 
   -- with words of 32 bits in the rows it is judged by these numbers alone
   pub asked-verdict : FitList (w .memory .rows .forward) → FitList (w .memory .rows .backward)
-      → verdictOf ((queried n ls w p s []) .reply) ≡ queryFaults n ls w (inquiry p s) zeros zeros
+      → verdictOf ((queried n ls w p s []) .reply) ≡ queryFaults n ls w (inquiry p s) room room
   unfolding queryCall
   asked-verdict f b =
       let o : Words = wordsOf (replicate n 0) (replicate n 0) in
@@ -83,7 +83,7 @@ module _ (n : ℕ) (ls : List ℕ) (w : Network) (p s : ℕ) where
 -- what is known past them, where the batch has k changes
 pub record Passed (n : ℕ) (ls : List ℕ) (w : Network) (k p s : ℕ) (xs : List ℕ) (ys : List ℤ) : Type 0 where
   pub fine : (longBatch k ▷ queryFaults n ls w (inquiry p s) (length xs) (length ys)) ≡ accept
-  pub before : verdictOf ((queried n ls w p s []) .reply) ≡ accept
+  pub answered : verdictOf ((queried n ls w p s []) .reply) ≡ accept
 
 module _ {n : ℕ} {ls : List ℕ} {w : Network} {k p s : ℕ} {xs : List ℕ} {ys : List ℤ} (g : Passed n ls w k p s xs ys) where
   asked : queryFaults n ls w (inquiry p s) (length xs) (length ys) ≡ accept
@@ -99,7 +99,7 @@ module _ {n : ℕ} {ls : List ℕ} {w : Network} {k p s : ℕ} {xs : List ℕ} {
   pub passed-later : (cs : List Change) → length cs ≡ k → previewVerdict n ls w cs p s (shownOf xs ys)
       ≡ (verdictOf ((batchCall n ls w cs) .reply) ▷ verdictOf ((afterwards n ls w cs p s) .reply))
   unfolding previewFaults
-  passed-later cs e = accept-then (rw e (g .fine)) ∙ then-same _ (λ _. accept-then (g .before))
+  passed-later cs e = accept-then (rw e (g .fine)) ∙ then-same _ (λ _. accept-then (g .answered))
 
 -- ---- the preview
 

@@ -10,7 +10,7 @@ ghost use Prim.Native.Nat.{_*_, _≤_};
 ghost use lib.ListN.{length, replicate};
 ghost use Rattle.graph.specs.Limits.{maxVertices, maxBatch};
 ghost use Rattle.graph.specs.Refusal.{accept, _▷_};
-ghost use Rattle.graph.specs.Table as table;
+ghost use Rattle.graph.specs.Table.{size};
 ghost use Rattle.graph.specs.Code.{told};
 ghost use Rattle.network.specs.Network.{faults};
 ghost use Rattle.network.specs.Query.{shortWords};
@@ -22,11 +22,11 @@ ghost use Rattle.items.specs.Code.{Laid};
 ghost use Rattle.effects.specs.Code.{shownOf};
 ghost use Rattle.plain_preview.specs.Code.{previewOutcome, AskDone, AskAfterDone};
 
-// Number 1 of n and of a batch of `size` changes, and number 2 of the lists for the answer: what the query before does not judge.
-fn judge_preview(n: u32, size: usize, effects: usize, moves: usize) -> Judged
-    ensures { λ r. ⌜ told r ≡ (longBatch size ▷ table.size n ▷ shortWords n effects moves) ⌝ }
+// Number 1 of n and of a batch of so many changes, and number 2 of the lists for the answer: what comes before the query.
+fn judge_preview(n: u32, changes: usize, effects: usize, moves: usize) -> Judged
+    ensures { λ r. ⌜ told r ≡ (longBatch changes ▷ size n ▷ shortWords n effects moves) ⌝ }
 {
-    if size > graph::MAX_BATCH {
+    if changes > graph::MAX_BATCH {
         return Judged::Refused(1, 0);
     }
     let own = rules::judge_size(n);

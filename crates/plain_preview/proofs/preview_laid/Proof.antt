@@ -39,8 +39,8 @@ few : (e : tie.After-enum-told) → start e .args .n ≤ maxVertices
 few e = let a = start e .args in size-accept (a .n) (then-accept (size (a .n)) (shortWords (a .n) (length (a .effects .now)) (length (a .moves .now))) (then-accept (longBatch (a .size)) _ (first e) .1) .0) .1
 
 -- the query before goes by numbers 1 to 6 alone, and with the judge's they are the preview's
-asked : (q : tie.After-ask) → let a = start (judged-at q) .args in told (q .ask .result) ≡ (longBatch (a .size) ▷ queryFaults (a .n) (a .landmarks .now) (net (start (judged-at q))) (inquiry (a .property) (a .source)) (length (a .effects .now)) (length (a .moves .now)))
-asked q =
+asked-says : (q : tie.After-ask) → let a = start (judged-at q) .args in told (q .ask .result) ≡ (longBatch (a .size) ▷ queryFaults (a .n) (a .landmarks .now) (net (start (judged-at q))) (inquiry (a .property) (a .source)) (length (a .effects .now)) (length (a .moves .now)))
+asked-says q =
     let e = judged-at q in
     let j = e .before .before in
     let a = start e .args in
@@ -50,7 +50,7 @@ asked q =
 
 passed : (d : tie.After-enum-told3) → let a = start (judged-at (asked-at d)) .args in
     Passed (a .n) (a .landmarks .now) (net (start (judged-at (asked-at d)))) (a .size) (a .property) (a .source) (a .effects .now) (a .moves .now)
-passed d = let q = asked-at d in record { fine = fine-accept _ _ (asked q) (d .enum-told3 .given .1); before = fine-accept _ _ (q .ask .ensures .verdict) (d .enum-told3 .given .1) }
+passed d = let q = asked-at d in record { fine = fine-accept _ _ (asked-says q) (d .enum-told3 .given .1); answered = fine-accept _ _ (q .ask .ensures .verdict) (d .enum-told3 .given .1) }
 
 -- ---- the lists for the settled words: n of 256 zeros are lent, and come back as the words ws
 
@@ -96,7 +96,7 @@ returns c cs l =
     ∙ sym (faults-first (a .n) (a .landmarks .now) (net s) (a .property) (a .source) (a .size) (length (a .effects .now)) (length (a .moves .now))))
 
 returns-2 : tie.Need-returns-2
-returns-2 c cs l = preview-faulty _ _ _ _ _ _ _ _ _ (l .size) (c .enum-told4 .given .1) (asked (c .before .before .before))
+returns-2 c cs l = preview-faulty _ _ _ _ _ _ _ _ _ (l .size) (c .enum-told4 .given .1) (asked-says (c .before .before .before))
 
 returns-3 : tie.Need-returns-3
 returns-3 c cs l =
