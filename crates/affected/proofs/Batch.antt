@@ -54,7 +54,7 @@ module _ {P : Property} (L : Laws P) (es fs : List Edge) (s n : ℕ) (old : With
     where
       closed : (e : Edge) → List·Memᴰ e es → tight P ws e ≡ true → e .head ≢ s → word P ws (e .head) ≢ none → out (e .head) ≡ false
           → Stands P fs e × (out (e .tail) ≡ false)
-      closed e m t d w q = let z = affected-closed P es fs s ws n old e m t d w q in (removed-stands L fs e (z .0), z .1)
+      closed e m t d w q = let z = affected-closed P es fs s ws n old e m t d w q in (removed-stands L es fs e (z .0), z .1)
 
       pick : Dec (t < n) → (b : Bool) → out t ≡ b → Backed P fs s t (word P (ready .words) t)
       pick (no d) b q = inr (prepared-beyond t (omega arith))
@@ -63,23 +63,23 @@ module _ {P : Property} (L : Laws P) (es fs : List Edge) (s n : ℕ) (old : With
 
   -- ---- who waits
 
-  prepared-waits : (e : Edge) → List·Memᴰ e fs → (out (e .head) || added P es e) ≡ true → waits ready (e .tail) ≡ true
+  prepared-waits : (e : Edge) → List·Memᴰ e fs → (out (e .head) || added P es fs e) ≡ true → waits ready (e .tail) ≡ true
   unfolding prepared reopened
-  prepared-waits e m h = table-at (λ t. exists (λ x. eqb (x .tail) t && (out (x .head) || added P es x)) fs) n (e .tail) false (new .tails e m)
-      ∙ true-exists (λ x. eqb (x .tail) (e .tail) && (out (x .head) || added P es x)) m (and-true (eq-eqb (e .tail) (e .tail) refl) h)
+  prepared-waits e m h = table-at (λ t. exists (λ x. eqb (x .tail) t && (out (x .head) || added P es fs x)) fs) n (e .tail) false (new .tails e m)
+      ∙ true-exists (λ x. eqb (x .tail) (e .tail) && (out (x .head) || added P es fs x)) m (and-true (eq-eqb (e .tail) (e .tail) refl) h)
 
   -- A new edge that could better its head has a waiting tail. If its head is affected or the edge is added, its tail was set waiting.
   -- Otherwise one no worse was there before, and its head has the word that it had: if its tail has too, best words were settled; if its
   -- tail is affected, it has none, which leads on to none.
   prepared-pending : (e : Edge) → List·Memᴰ e fs → relaxable P (ready .words) e ≡ true → waits ready (e .tail) ≡ true
-  prepared-pending e m c = pick (out (e .head)) refl (added P es e) refl (out (e .tail)) refl
+  prepared-pending e m c = pick (out (e .head)) refl (added P es fs e) refl (out (e .tail)) refl
     where
-      pick : (a : Bool) → out (e .head) ≡ a → (b : Bool) → added P es e ≡ b → (t : Bool) → out (e .tail) ≡ t → waits ready (e .tail) ≡ true
+      pick : (a : Bool) → out (e .head) ≡ a → (b : Bool) → added P es fs e ≡ b → (t : Bool) → out (e .tail) ≡ t → waits ready (e .tail) ≡ true
       pick true p b q t r = prepared-waits e m (rw p)
       pick false p true q t r = prepared-waits e m (rw (p, q))
       pick false p false q true r = absurd (true≢false (sym c ∙ none-quiet L fs s n new (ready .words) prepared-sound e m (prepared-out _ (new .tails e m) r)))
       pick false p false q false r = absurd (true≢false (sym c
-          ∙ rw (relaxable, prepared-other _ (new .tails e m) r, prepared-other _ (new .heads e m) p) (settled-stands L es ws (best-settled L es s n old ws best) e (added-stands L es e q))))
+          ∙ rw (relaxable, prepared-other _ (new .tails e m) r, prepared-other _ (new .heads e m) p) (settled-stands L es ws (best-settled L es s n old ws best) e (added-stands L es fs e q))))
 
   -- ---- the rounds
 

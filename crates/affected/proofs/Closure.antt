@@ -47,23 +47,23 @@ module _ (l : List Bool) (h : ℕ) (b : Bool) where
 module _ (P : Property) (es fs : List Edge) (s : ℕ) (ws : List ℕ) where
   -- ---- closed marks have every affected vertex
 
-  pub closed-marked : (ms : List Bool) → Closed P es fs s ws ms → {t : ℕ} → Affected P es fs s ws t → marked ms t ≡ true
+  pub closed-marked : (ms : List Bool) → Closed P es fs s ws es ms → {t : ℕ} → Affected P es fs s ws t → marked ms t ≡ true
   closed-marked ms c (at-removed {e = e} m r h) = c e m (and-true (of-held P s ws e h) (rw r))
-  closed-marked ms c (onward {e = e} a m r h) = c e m (and-true (of-held P s ws e h) (or-right (removed P fs e) (closed-marked ms c a)))
+  closed-marked ms c (onward {e = e} a m r h) = c e m (and-true (of-held P s ws e h) (or-right (removed P es fs e) (closed-marked ms c a)))
 
   -- ---- an edge marks affected vertices alone
 
-  touches-named : (ms : List Bool) (e : Edge) → Named P es fs s ws ms → List·Memᴰ e es → touches P fs s ws ms e ≡ true
+  touches-named : (ms : List Bool) (e : Edge) → Named P es fs s ws ms → List·Memᴰ e es → touches P es fs s ws ms e ≡ true
       → Affected P es fs s ws (e .head)
-  touches-named ms e g m h = let a = both (held P s ws e) _ h in pick (held-of P s ws e (a .0)) (removed P fs e) refl (a .1)
+  touches-named ms e g m h = let a = both (held P s ws e) _ h in pick (held-of P s ws e (a .0)) (removed P es fs e) refl (a .1)
     where
-      pick : Held P s ws e → (b : Bool) → removed P fs e ≡ b → (b || marked ms (e .tail)) ≡ true → Affected P es fs s ws (e .head)
+      pick : Held P s ws e → (b : Bool) → removed P es fs e ≡ b → (b || marked ms (e .tail)) ≡ true → Affected P es fs s ws (e .head)
       pick k true r q = at-removed m r k
       pick k false r q = onward (g (e .tail) q) m r k
 
-  pub mark-named : (ms : List Bool) (e : Edge) → Named P es fs s ws ms → List·Memᴰ e es → Named P es fs s ws (mark P fs s ws ms e)
+  pub mark-named : (ms : List Bool) (e : Edge) → Named P es fs s ws ms → List·Memᴰ e es → Named P es fs s ws (mark P es fs s ws ms e)
   unfolding mark
-  mark-named ms e g m t q = ⊎-elim (g t) (λ k. rw (k .1) (touches-named ms e g m (k .0))) (raise-only ms (e .head) (touches P fs s ws ms e) t q)
+  mark-named ms e g m t q = ⊎-elim (g t) (λ k. rw (k .1) (touches-named ms e g m (k .0))) (raise-only ms (e .head) (touches P es fs s ws ms e) t q)
 
   -- ---- whom the closure never has
 

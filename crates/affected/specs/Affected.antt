@@ -1,4 +1,4 @@
--- Affected vertices of a row ("suspects"): document 01, "Batch"; document 02, One and Three. Assumes nothing.
+-- Affected vertices of a row ("suspects"): document 01, "Batch"; document 02, One, Three and Five. Assumes nothing.
 --
 -- es is the list of edges before the batch, fs the list after it, s the landmark of the row, ws its words.
 --
@@ -10,7 +10,7 @@
 --   sweep .. xs ms          == one pass over the edges xs, from last to first, each marking its head where it does
 --   hunt .. xs k ms         == pass by pass until one adds none, k passes at most
 --   affected P es fs s ws n == the affected ones of n vertices, as marks: n passes over the old edges find all
---   Closed P es fs s ws ms  == each edge that would mark its head finds it marked
+--   Closed P es fs s ws xs ms == each edge of xs that would mark its head finds it marked
 --   AffectedExact           == the marks are the closure, for any words: proved as affected-exact
 --   Named P es fs s ws ms   == each mark of ms is of an affected vertex
 --   mark .. ms e            == the marks after one edge: its head is marked where it touches
@@ -41,8 +41,8 @@ pub record Held (P : Property) (s : ℕ) (ws : List ℕ) (e : Edge) : Type 0 whe
   pub routed : word P ws (e .head) ≢ P .none
 
 pub data Affected (P : Property) (es fs : List Edge) (s : ℕ) (ws : List ℕ) : ℕ → Type 0 where
-  at-removed : {e : Edge} → List·Memᴰ e es → removed P fs e ≡ true → Held P s ws e → Affected P es fs s ws (e .head)
-  onward : {e : Edge} → Affected P es fs s ws (e .tail) → List·Memᴰ e es → removed P fs e ≡ false → Held P s ws e
+  at-removed : {e : Edge} → List·Memᴰ e es → removed P es fs e ≡ true → Held P s ws e → Affected P es fs s ws (e .head)
+  onward : {e : Edge} → Affected P es fs s ws (e .tail) → List·Memᴰ e es → removed P es fs e ≡ false → Held P s ws e
       → Affected P es fs s ws (e .head)
 
 -- ---- as marks that compute
@@ -53,9 +53,9 @@ held P s ws e = tight P ws e && (not (eqb (e .head) s) && not (eqb (word P ws (e
 abbrev pub marked : List Bool → ℕ → Bool
 marked ms t = getD ms t false
 
-module _ (P : Property) (fs : List Edge) (s : ℕ) (ws : List ℕ) where
+module _ (P : Property) (es fs : List Edge) (s : ℕ) (ws : List ℕ) where
   abbrev pub touches : List Bool → Edge → Bool
-  touches ms e = held P s ws e && (removed P fs e || marked ms (e .tail))
+  touches ms e = held P s ws e && (removed P es fs e || marked ms (e .tail))
 
   unfoldable pub mark : List Bool → Edge → List Bool
   mark ms e = cond (touches ms e) (set ms (e .head) true) ms
@@ -68,7 +68,7 @@ module _ (P : Property) (fs : List Edge) (s : ℕ) (ws : List ℕ) where
   hunt xs (suc k) ms = cond (eqb (countOf (sweep xs ms)) (countOf ms)) ms (hunt xs k (sweep xs ms))
 
 unfoldable pub affected : Property → List Edge → List Edge → ℕ → List ℕ → ℕ → List Bool
-affected P es fs s ws n = hunt P fs s ws es n (replicate n false)
+affected P es fs s ws n = hunt P es fs s ws es n (replicate n false)
 
 -- ---- that they are the closure
 
@@ -76,8 +76,8 @@ abbrev pub AffectedExact : Type 0
 AffectedExact = (P : Property) (es fs : List Edge) (s : ℕ) (ws : List ℕ) (n : ℕ) → ((e : Edge) → List·Memᴰ e es → e .head < n)
     → (t : ℕ) → (marked (affected P es fs s ws n) t ≡ true) ↔ Affected P es fs s ws t
 
-abbrev pub Closed : Property → List Edge → List Edge → ℕ → List ℕ → List Bool → Type 0
-Closed P es fs s ws ms = (e : Edge) → List·Memᴰ e es → touches P fs s ws ms e ≡ true → marked ms (e .head) ≡ true
+abbrev pub Closed : Property → List Edge → List Edge → ℕ → List ℕ → List Edge → List Bool → Type 0
+Closed P es fs s ws xs ms = (e : Edge) → List·Memᴰ e xs → touches P es fs s ws ms e ≡ true → marked ms (e .head) ≡ true
 
 abbrev pub Named : Property → List Edge → List Edge → ℕ → List ℕ → List Bool → Type 0
 Named P es fs s ws ms = (t : ℕ) → marked ms t ≡ true → Affected P es fs s ws t

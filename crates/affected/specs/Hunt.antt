@@ -29,7 +29,7 @@ use Rattle.affected.specs.Affected.{Held, marked, sweep, hunt, affected}
 
 abbrev pub AnyOrder : Type 0
 AnyOrder = (P : Property) (es xs fs : List Edge) (s : ℕ) (ws : List ℕ) (n : ℕ) → ((e : Edge) → List·Memᴰ e es → e .head < n)
-    → ((e : Edge) → List·Memᴰ e xs ↔ List·Memᴰ e es) → hunt P fs s ws xs n (replicate n false) ≡ affected P es fs s ws n
+    → ((e : Edge) → List·Memᴰ e xs ↔ List·Memᴰ e es) → hunt P es fs s ws xs n (replicate n false) ≡ affected P es fs s ws n
 
 abbrev pub TableOrder : Type 0
 TableOrder = (n : ℕ) (is : List ℕ) (es : List Edge) → rules n es ≡ accept → Own n is es → inOrder is 0 n ≡ es
@@ -39,16 +39,16 @@ Descends P s ws es = (e : Edge) → List·Memᴰ e es → Held P s ws e → e .h
 
 abbrev pub FirstPass : Type 0
 FirstPass = (P : Property) (es fs : List Edge) (s : ℕ) (ws : List ℕ) (n : ℕ) → rules n es ≡ accept
-    → (Descends P s ws es → sweep P fs s ws es (replicate n false) ≡ affected P es fs s ws n)
-    × (((e : Edge) → List·Memᴰ e es → e .head < e .tail) → sweep P fs s ws es (replicate n false) ≡ affected P es fs s ws n)
+    → (Descends P s ws es → sweep P es fs s ws es (replicate n false) ≡ affected P es fs s ws n)
+    × (((e : Edge) → List·Memᴰ e es → e .head < e .tail) → sweep P es fs s ws es (replicate n false) ≡ affected P es fs s ws n)
 
 abbrev pub leadsUp : Edge → ℕ
 leadsUp e = cond (ltb (e .tail) (e .head)) 1 0
 
 pub data Chained (P : Property) (es fs : List Edge) (s : ℕ) (ws : List ℕ) : ℕ → ℕ → Type 0 where
-  chain-removed : {e : Edge} → List·Memᴰ e es → removed P fs e ≡ true → Held P s ws e → Chained P es fs s ws (e .head) (leadsUp e)
+  chain-removed : {e : Edge} → List·Memᴰ e es → removed P es fs e ≡ true → Held P s ws e → Chained P es fs s ws (e .head) (leadsUp e)
   chain-onward : {e : Edge} {k : ℕ} → Chained P es fs s ws (e .tail) k → List·Memᴰ e es → Held P s ws e → Chained P es fs s ws (e .head) (k + leadsUp e)
 
 abbrev pub PassBound : Type 0
 PassBound = (P : Property) (es fs : List Edge) (s : ℕ) (ws : List ℕ) (n : ℕ) → rules n es ≡ accept
-    → (k t u : ℕ) → Chained P es fs s ws t u → u < k → marked (hunt P fs s ws es k (replicate n false)) t ≡ true
+    → (k t u : ℕ) → Chained P es fs s ws t u → u < k → marked (hunt P es fs s ws es k (replicate n false)) t ≡ true

@@ -1,4 +1,4 @@
--- Where a row's rounds start after a batch: document 01, "Batch"; document 02, One. Assumes nothing.
+-- Where a row's rounds start after a batch: document 01, "Batch"; document 02, One and Five. Assumes nothing.
 --
 --   cleared P ms ws n      == the row's words, with no route for the affected vertices
 --   reopened P es fs ms n  == who waits: the tails of all new edges into affected vertices, and of all added edges
@@ -17,7 +17,7 @@ unfoldable pub cleared : Property → List Bool → List ℕ → ℕ → List �
 cleared P ms ws n = map (λ t. cond (marked ms t) (P .none) (word P ws t)) (range 0 n)
 
 unfoldable pub reopened : Property → List Edge → List Edge → List Bool → ℕ → List Bool
-reopened P es fs ms n = map (λ t. exists (λ e. eqb (e .tail) t && (marked ms (e .head) || added P es e)) fs) (range 0 n)
+reopened P es fs ms n = map (λ t. exists (λ e. eqb (e .tail) t && (marked ms (e .head) || added P es fs e)) fs) (range 0 n)
 
 unfoldable pub prepared : Property → List Edge → List Edge → ℕ → List ℕ → ℕ → State
 prepared P es fs s ws n = record {

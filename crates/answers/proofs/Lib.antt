@@ -1,8 +1,11 @@
+pub mod Parallel
 pub mod Follow
 pub mod Marks
 pub mod Preferring
 pub mod Routing
+pub mod Weights
 pub mod Deciding
 pub mod Behind
 pub mod Preview
 pub mod Digest
+pub mod Upgrade

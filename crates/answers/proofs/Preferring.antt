@@ -4,7 +4,8 @@
 --   Unbettered P ps qs == the value of qs is no better than that of ps
 --   Asked n es p s t   == what an accepted request has: few vertices, sound edges, a property, source and target
 --   by b               == the eligible edges of a property that is strict, or that selects
-use Rattle.property.proofs.Basics.{_≡_, sym, ap, subst, _⊎_, inl, inr, ⊎-elim, _↔_, _≢_, Bool, false, cond, List, map, ℕ, _≤_, _<_, arith, length, leb, le-ltb, leb-true, leb-false}
+use Rattle.property.proofs.Basics.{_≡_, refl, sym, ap, subst, _⊎_, inl, inr, ⊎-elim, _↔_, _≢_, Bool, false, cond, List, map, ℕ, _≤_, _<_, arith, length, leb, le-ltb, leb-true, leb-false}
+use mathlib.Core.List.{tail-eq-of-cons-eq}
 use Rattle.property.specs.Property.{Property, bfs, property, properties}
 use Rattle.property.proofs.Instances.{bfs-laws, bfs-joins, property-laws, property-rest}
 use Rattle.property.proofs.Tests.{by-test}
@@ -25,6 +26,7 @@ use Rattle.theory.proofs.Routed.{best-routed}
 use Rattle.theory.proofs.Leads.{Least, leads-route, route-leads, leads-best, count-along, reach-along}
 use Rattle.theory.proofs.Kept.{own, owned-best, tights-best}
 use Rattle.answers.specs.Routing.{Request, eligible, bestWord, candidates, hops, preferred}
+use Rattle.answers.proofs.Parallel.{Light, light-lowest}
 use Rattle.answers.proofs.Follow.{followed-least}
 
 -- ---- where the value goes by the number of edges
@@ -42,11 +44,12 @@ shorter-unbettered p (inr l) ps qs h =
     rw (property-rest p ((((tt, λ z. omega arith), λ z. omega arith), λ z. omega arith), λ z. omega arith), reach-along 1 ps, reach-along 1 qs)
 
 -- so one with the fewest edges is best, whichever edges the best routes keep to
-pub fewest-preferred : (p : ℕ) → (p ≡ 2) ⊎ (4 < p) → {es : List Edge} {s t : ℕ} {ps : List Edge} → Least es s t ps → Preferred (property p) es s t ps
-fewest-preferred p kind {ps = ps} (l, least) = record {
+pub fewest-preferred : (p : ℕ) → (p ≡ 2) ⊎ (4 < p) → {es : List Edge} {s t : ℕ} {ps : List Edge} → Least es s t ps → Light es ps → Preferred (property p) es s t ps
+fewest-preferred p kind {ps = ps} (l, least) w = record {
   best = record { leads = l; unbettered = λ qs k. shorter-unbettered p kind ps qs ((least qs k) .0) };
   fewest = λ qs b. (least qs (b .leads)) .0;
   lowest = λ qs b. (least qs (b .leads)) .1;
+  lightest = λ qs b v. light-lowest l (b .leads) refl (tail-eq-of-cons-eq (sym v)) w;
 }
 
 -- ---- what an accepted request has
@@ -93,11 +96,13 @@ module _ {n : ℕ} {es : List Edge} {p s t : ℕ} (g : Asked n es p s t) where
       Same : List Edge → Type 0
       Same xs = BestLeads P es s t qs ↔ Leads xs s qs t
 
-  pub least-preferred : {ps : List Edge} → v ≢ P .none → Least ks s t ps → Preferred P es s t ps
-  least-preferred d (l, least) = record {
+  -- those are best with any twins that are eligible, so the lightest of these, taken all at once, are the lowest at each place
+  pub least-preferred : {ps : List Edge} → v ≢ P .none → Least ks s t ps → Light ks ps → Preferred P es s t ps
+  least-preferred d (l, least) w = record {
     best = eligible-best d .1 l;
     fewest = λ qs b. (least qs (eligible-best d .0 b)) .0;
     lowest = λ qs b. (least qs (eligible-best d .0 b)) .1;
+    lightest = λ qs b v. light-lowest l (eligible-best d .0 b) refl (tail-eq-of-cons-eq (sym v)) w;
   }
 
   -- ---- whether there is a route
@@ -132,5 +137,5 @@ module _ (n : ℕ) (cs : Columns) (m : ℕ) (q : Request) (g : Asked n (edgesOf 
       → Preferred (property (q .property)) (edgesOf cs m) (q .source) (q .target) (preferred n cs m q) × (length (preferred n cs m q) < n)
   preferred-holds d =
       let h = few-hops ((eligible-leads g d) .1) in
-      let (z, y) = followed-least n (candidates n cs m q) kept (q .target) (hops n cs m q) (λ u. reversed-best bfs-joins (hops-back u)) (q .source) (omega (arith, g .few)) in
-      (least-preferred g d z, omega arith)
+      let (z, w, y) = followed-least n (candidates n cs m q) kept (q .target) (hops n cs m q) (λ u. reversed-best bfs-joins (hops-back u)) (q .source) (omega (arith, g .few)) in
+      (least-preferred g d z w, omega arith)

@@ -6,14 +6,14 @@ use Rattle.property.proofs.Instances.{property-laws}
 use Rattle.graph.specs.Refusal.{Verdict, accept, refuse, _▷_, refuseIf, accepted, refused, replied, Outcome, over}
 use Rattle.graph.specs.Edge.{Edge}
 use Rattle.graph.specs.Table.{Columns, edgesOf, bareFaults}
-use Rattle.graph.specs.Leads.{Leads, stop, visited, valueAlong, BestLeads, Preferred}
+use Rattle.graph.specs.Leads.{Leads, stop, visited, weightsOf, valueAlong, BestLeads, Preferred}
 use Rattle.graph.proofs.Tests.{both}
 use Rattle.graph.proofs.Verdicts.{not-accept, then-accept, accept-then, accept-if, refuse-then, if-accept, reply-accepted, reply-refused, choose-accept, outcome-refused, outcome-accepted}
 use Rattle.graph.proofs.Judging.{bare-accept}
 use Rattle.graph.proofs.Order.{within, rules-accept}
-use Rattle.theory.proofs.Leads.{leads-none, along-after, preferred-unique}
-use Rattle.network.specs.Query.{shortWords}
-use Rattle.answers.specs.Routing.{Request, Answer, preferred, marksOf, routeFaults, noRoute, withRoute, routeCall, WritesRoute, otherFaults, bestWord, RoutesPreferred, OneVertex}
+use Rattle.theory.proofs.Leads.{leads-none, along-after}
+use Rattle.answers.specs.Routing.{Request, Answer, preferred, marksOf, shortLists, routeFaults, noRoute, withRoute, routeCall, WritesRoute, otherFaults, bestWord, RoutesPreferred, OneVertex}
+use Rattle.answers.proofs.Parallel.{preferred-only}
 use Rattle.answers.proofs.Marks.{marks-for}
 use Rattle.answers.proofs.Preferring.{Asked, preferred-holds, unrouted}
 
@@ -29,12 +29,12 @@ module _ (n : ℕ) (cs : Columns) (m : ℕ) (q : Request) where
   es = edgesOf cs m
 
   -- what the refusals leave
-  pub faults-asked : (a b : ℕ) → routeFaults n cs m q a b ≡ accept → Asked n es (q .property) (q .source) (q .target)
+  pub faults-asked : (a b c : ℕ) → routeFaults n cs m q a b c ≡ accept → Asked n es (q .property) (q .source) (q .target)
   unfolding routeFaults
-  faults-asked a b h =
-      let c = then-accept (bareFaults n cs m (shortWords n a b)) _ h in
-      let d = then-accept (refuseIf (not (isProperty (q .property))) 5 0) (refuseIf (not (ltb (q .source) n && ltb (q .target) n)) 6 0) (c .1) in
-      let t = bare-accept n cs m (shortWords n a b) (c .0) in
+  faults-asked a b c h =
+      let r = then-accept (bareFaults n cs m (shortLists n a b c)) _ h in
+      let d = then-accept (refuseIf (not (isProperty (q .property))) 5 0) (refuseIf (not (ltb (q .source) n && ltb (q .target) n)) 6 0) (r .1) in
+      let t = bare-accept n cs m (shortLists n a b c) (r .0) in
       let p = both (ltb 0 (q .property)) (leb (q .property) properties) (not-false _ (if-accept _ _ _ (d .0))) in
       let v = both (ltb (q .source) n) (ltb (q .target) n) (not-false _ (if-accept _ _ _ (d .1))) in
       record {
@@ -66,7 +66,7 @@ module _ (n : ℕ) (cs : Columns) (m : ℕ) (q : Request) where
       fine = reply-accepted _ _ k e
 
       asked : Asked n es (q .property) (q .source) (q .target)
-      asked = faults-asked _ _ ((then-accept faults none (fine .0)) .0)
+      asked = faults-asked _ _ _ ((then-accept faults none (fine .0)) .0)
 
       holds : Preferred P es (q .source) (q .target) (preferred n cs m q) × (length (preferred n cs m q) < n)
       holds = preferred-holds n cs m q asked (λ z. not-accept (sym (refuses z) ∙ (then-accept faults none (fine .0)) .1))
@@ -87,6 +87,7 @@ module _ (n : ℕ) (cs : Columns) (m : ℕ) (q : Request) where
             marks-for (q .property) (asked .least) (asked .most) (P .start) (preferred n cs m q),
             ap (λ a. a .marks) left,
           );
+          figures = ap (λ a. a .figures) left;
         },
       )
 
@@ -97,7 +98,7 @@ module _ (n : ℕ) (cs : Columns) (m : ℕ) (q : Request) where
     served : faults ≡ accept → (ps : List Edge) → Leads es (q .source) ps (q .target) → (k : ℕ) × ((routeCall n cs m q out) .reply ≡ accepted k)
     unfolding routeCall
     served h ps l =
-        let d : bestWord n cs m q ≢ P .none = λ z. unrouted (faults-asked _ _ h) .0 z ps l in (
+        let d : bestWord n cs m q ≢ P .none = λ z. unrouted (faults-asked _ _ _ h) .0 z ps l in (
           suc (length (preferred n cs m q)),
           ap (λ o. o .reply) (outcome-accepted (faults ▷ none) _ (withRoute n cs m q out) out (accept-then h ∙ accept-if 15 0 (ne-eqb _ _ d))),
         )
@@ -108,7 +109,7 @@ module _ (n : ℕ) (cs : Columns) (m : ℕ) (q : Request) where
     barred : faults ≡ accept → ((routeCall n cs m q out) .reply ≡ refused 15 0) ↔ ((ps : List Edge) → Leads es (q .source) ps (q .target) → ⊥)
     unfolding routeCall replied
     barred h =
-        let u = unrouted (faults-asked _ _ h) in (
+        let u = unrouted (faults-asked _ _ _ h) in (
           λ e. u .0 (eqb-true _ _ (if-refused _ 15 0 (sym (accept-then h) ∙ reply-refused (faults ▷ none) (suc (length (preferred n cs m q))) e))),
           λ d. ap (λ v. replied v (suc (length (preferred n cs m q)))) (accept-then h ∙ refuses (u .1 d)),
         )
@@ -122,14 +123,14 @@ module _ (n : ℕ) (cs : Columns) (m : ℕ) (q : Request) where
     stays k i e = ap (λ o. o .memory) (outcome-refused (faults ▷ none) (suc (length (preferred n cs m q))) (withRoute n cs m q out) out
         (reply-refused (faults ▷ none) (suc (length (preferred n cs m q))) e))
 
--- Document 02, Two: what is accepted is a best route, with the fewest edges and then the lowest vertices; 15 comes exactly where there is none. The
--- refusals leave a sound table and a request that can be asked. There what is followed along the eligible edges is the preferred route, and
--- the best value is the no-route word exactly where there is no route.
+-- Document 02, Two and Five: what is accepted is a best route, with the fewest edges, then the lowest vertices, and at each place the lowest weight; 15
+-- comes exactly where there is none. The refusals leave a sound table and a request that can be asked. There what is followed along the eligible edges
+-- is the preferred route, and the best value is the no-route word exactly where there is no route.
 pub routes-preferred : RoutesPreferred
 routes-preferred n cs m q out = record {
   written = written n cs m q out;
   fits = fits n cs m q out;
-  only = λ ps qs a b. preferred-unique a b;
+  only = λ ps qs a b. preferred-only a b;
   served = served n cs m q out;
   barred = barred n cs m q out;
   judged = judged n cs m q out;
@@ -140,7 +141,7 @@ routes-preferred n cs m q out = record {
 
 module _ (n : ℕ) (cs : Columns) (m : ℕ) (q : Request) (out : Answer) (h : otherFaults n cs m q out ≡ accept) (z : q .source ≡ q .target) where
   able : Asked n (es n cs m q) (q .property) (q .source) (q .target)
-  able = faults-asked n cs m q _ _ h
+  able = faults-asked n cs m q _ _ _ h
 
   -- the route without an edge
   ends : Leads (es n cs m q) (q .source) [] (q .target)
@@ -168,10 +169,11 @@ module _ (n : ℕ) (cs : Columns) (m : ℕ) (q : Request) (out : Answer) (h : ot
     memory = record {
       vertices = over (visited (q .source) ps) (out .vertices);
       marks = over (marksOf (q .property) (P n cs m q .start) ps) (out .marks);
+      figures = over (weightsOf ps) (out .figures);
     };
   }
 
-  stopped : routeCall n cs m q out ≡ record { reply = accepted 1; memory = record { vertices = over (q .source ∷ []) (out .vertices); marks = out .marks } }
+  stopped : routeCall n cs m q out ≡ record { reply = accepted 1; memory = record { vertices = over (q .source ∷ []) (out .vertices); marks = out .marks; figures = out .figures } }
   unfolding routeCall marksOf
   stopped =
       outcome-accepted _ (suc (length (preferred n cs m q))) (withRoute n cs m q out) out (accept-then h ∙ accept-if 15 0 (ne-eqb _ _ routed))

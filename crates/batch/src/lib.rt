@@ -1,44 +1,35 @@
-// A batch as it is lent: a slice of change records. Thin walkers copy the records to four lists, and all else is done on plain numbers.
+// A batch as it is lent: a slice of change records. Thin walkers lay the records in one list, and all else is done on plain numbers.
 use apply::Applied;
+use items::lay;
 ghost use mathlib.Core.Path.{_≡_};
 ghost use mathlib.Core.List.{map};
-ghost use Prim.Native.Nat.{_*_, _<_, _≤_};
+ghost use Prim.Native.Nat.{_*_, _≤_};
 ghost use lib.ListN.{length};
 ghost use Rattle.graph.specs.Limits.{maxBatch};
 ghost use Rattle.network.specs.Batch.{batchCall};
-ghost use Rattle.items.specs.Code.{change};
 ghost use Rattle.calls.specs.Code.{network};
 ghost use Rattle.apply.specs.Code.{batchOutcome};
-ghost use Rattle.batch.specs.Code.{recorded, putChange, copied};
+ghost use Rattle.batch.specs.Code.{recorded, copied};
 
-// A change: kind 1 adds an edge, 2 takes the one from `tail` to `head`, with weight 0, and 3 gives that one the weight `weight`.
+// A change: kind 1 adds the edge from `tail` to `head` of weight `weight`, 2 takes it, and 3 gives the one of weight `old` the weight `weight`; `old` is 0 for
+// the others.
 pub struct Change {
     pub kind: u32,
     pub tail: u32,
     pub head: u32,
     pub weight: u32,
+    pub old: u32,
 }
 
-// The words of a change go to place `i` of the four lists.
-fn put_change(lists: &mut [u32], i: usize, kind: u32, tail: u32, head: u32, weight: u32)
-    requires { ⌜ (i < maxBatch) × (length (now lists) ≡ 4 * maxBatch) ⌝ }
-    ensures { λ _. ⌜ now (lists .exit) ≡ putChange (now (lists .entry)) i (change kind tail head weight) ⌝ }
-{
-    lists[i] = kind;
-    lists[items::TAILS + i] = tail;
-    lists[items::HEADS + i] = head;
-    lists[items::WEIGHTS + i] = weight;
-}
-
-// The first `k` changes are copied to the four lists.
+// The first `k` changes are copied to the five lists.
 pub fn copy_changes(changes: &[Change], k: usize, lists: &mut [u32])
-    requires { ⌜ (k ≤ length (now changes)) × (k ≤ maxBatch) × (length (now lists) ≡ 4 * maxBatch) ⌝ }
+    requires { ⌜ (k ≤ length (now changes)) × (k ≤ maxBatch) × (length (now lists) ≡ 5 * maxBatch) ⌝ }
     ensures { λ _. ⌜ now (lists .exit) ≡ copied (now (changes .entry)) (now (lists .entry)) k ⌝ }
 {
     let mut i = 0;
     while i < k {
         let c = changes[i];
-        put_change(lists, i, c.kind, c.tail, c.head, c.weight);
+        lay::put_change(lists, i, c.kind, c.tail, c.head, c.weight, c.old);
         i += 1;
     }
 }

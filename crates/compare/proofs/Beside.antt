@@ -1,20 +1,21 @@
 -- Beside each arc of an index, what the batch made of it: the changes are gone over one by one, and so are the places of each. Assumes nothing.
 --
 --   Stored p v j os ys == of the places below j, those that p holds of have the word v in ys; all others have what they had in os
---   Aligned xs is k os == the first k changes are gone over: beside each arc stands the weight that its pair has after the batch, or else its own,
+--   Aligned xs is k os == the first k changes are gone over: beside each arc stands the weight that is in its place after the batch, or else its own,
 --                         where none of these changes is of its edge
 --
 -- A change tells of the place of its edge as it was before, and of no other, since the places of a vertex are no other's. It leaves the weight
--- after the batch there. An edge of no change does not differ, so that its own weight, which the copy of the index has, is the one after the batch.
-use Rattle.property.proofs.Basics.{_≡_, refl, sym, ap, subst, _∙_, _⊎_, inl, inr, ⊎-elim, Bool, true, not, cond, true≢false, List, ℕ, zero, suc, _+_, _*_, _≤_, _<_, ℕ-discrete, decLt, add-one, arith, length, getD, set, drop, length-set, getD-set-same, getD-set-other, paste, List·getD-append, eqb, leb, ltb, eqb-true, eq-eqb, leb-true, ltb-true, le-leb, lt-ltb}
+-- after the batch there. An edge of no change stays, so that its own weight, which the copy of the index has, is the one after the batch.
+use Rattle.property.proofs.Basics.{_≡_, refl, sym, ap, subst, _∙_, _⊎_, inl, inr, ⊎-elim, Bool, true, cond, true≢false, List, ℕ, zero, suc, _+_, _*_, _≤_, _<_, ℕ-discrete, decLt, add-one, arith, length, getD, set, drop, length-set, getD-set-same, getD-set-other, paste, List·getD-append, eqb, leb, ltb, eqb-true, eq-eqb, leb-true, ltb-true, le-leb, lt-ltb}
 use Rattle.property.proofs.Tests.{is-false, by-test}
 use Rattle.graph.specs.Arc.{arc, arcHead, arcWeight}
-use Rattle.graph.specs.Edge.{Edge, edge}
+use Rattle.graph.specs.Edge.{Edge, edge, among}
 use Rattle.graph.specs.Index.{edgeOf, Fit, Own}
 use Rattle.graph.proofs.Tests.{both}
 use Rattle.graph.proofs.Arcs.{fit-arc, own-reads}
 use Rattle.graph.proofs.Copies.{paste-over}
 use Rattle.affected.specs.Net.{counterpart}
+use Rattle.affected.proofs.Net.{kept-weight}
 use Rattle.compare.specs.Code.{before, pairs, Inside, Differences, tellsOf, Faces}
 
 -- ---- the places of a change
@@ -92,7 +93,7 @@ module _ (xs is : List ℕ) (k u j : ℕ) (a : getD is u 0 ≤ j) (b : j < getD 
 abbrev pub Aligned : List ℕ → List ℕ → ℕ → List ℕ → Type 0
 Aligned xs is k os =
     (n : ℕ) (es fs : List Edge) → Inside n xs → Fit n is → Own n is es → Differences es fs xs → (u j : ℕ) → u < n → getD is u 0 ≤ j → j < getD is (u + 1) 0
-    → (counterpart fs (edgeOf is u j) ≡ arcWeight (getD os j 0)) ⊎ ((arcWeight (getD is j 0) ≡ arcWeight (getD os j 0)) × ((i : ℕ) → i < k → before xs i ≡ edgeOf is u j → ⊥))
+    → (counterpart es fs (edgeOf is u j) ≡ arcWeight (getD os j 0)) ⊎ ((arcWeight (getD is j 0) ≡ arcWeight (getD os j 0)) × ((i : ℕ) → i < k → before xs i ≡ edgeOf is u j → ⊥))
 
 module _ (xs is os : List ℕ) where
   pub aligned-none : (os₀ : List ℕ) → os ≡ paste os₀ 0 is (length is) → Aligned xs is 0 os
@@ -104,8 +105,8 @@ module _ (xs is os : List ℕ) where
   aligned-turn ys k l q s n es fs i f o d u j h a b = by-test (tellsOf xs is k j)
       (λ e.
       let z = told-edge xs is k u j a b i f (omega arith) h e in
-      let w = subst (λ (x : Edge). 0 < x .weight) (sym z) (d .old .weighs _ (own-reads n is es o u j h a b)) in
-      inl (ap (counterpart fs) (sym z) ∙ d .old .other k l w ∙ ap arcWeight (sym (q j ∙ rw e))))
+      let w = subst (λ (x : Edge). 0 < x .weight) (sym z) (d .old .lacks .weighs _ (own-reads n is es o u j h a b)) in
+      inl (ap (counterpart es fs) (sym z) ∙ d .old .other k l w ∙ ap arcWeight (sym (q j ∙ rw e))))
       (λ e.
       let y = ap arcWeight (sym (q j ∙ rw e)) in
       ⊎-elim (λ p. inl (p ∙ y)) (λ p. inr (
@@ -116,7 +117,7 @@ module _ (xs is os : List ℕ) where
         ],
       )) (s n es fs i f o d u j h a b))
 
-  pub aligned-done : (k : ℕ) → pairs xs ≤ k → Aligned xs is k os → (n : ℕ) (es fs : List Edge) → Inside n xs → Fit n is → Own n is es → Differences es fs xs → Faces n fs is os
-  aligned-done k g s n es fs i f o d u j h a b = ⊎-elim (λ p. p) (λ p. by-test (eqb (counterpart fs (edgeOf is u j)) (arcWeight (getD is j 0))) (λ e. eqb-true _ _ e ∙ p .0) (λ e.
-      let (m, l, q, w) = d .old .all (edgeOf is u j) (own-reads n is es o u j h a b) (ap not e) in
+  pub aligned-done : (k : ℕ) → pairs xs ≤ k → Aligned xs is k os → (n : ℕ) (es fs : List Edge) → Inside n xs → Fit n is → Own n is es → Differences es fs xs → Faces n es fs is os
+  aligned-done k g s n es fs i f o d u j h a b = ⊎-elim (λ p. p) (λ p. by-test (among fs (edgeOf is u j)) (λ e. kept-weight es fs (edgeOf is u j) e ∙ p .0) (λ e.
+      let (m, l, q) = d .old .lacks .all (edgeOf is u j) (own-reads n is es o u j h a b) e in
       absurd (p .1 m (omega arith) q))) (s n es fs i f o d u j h a b)

@@ -1,28 +1,28 @@
 -- Backward rows: the list of changes with tails and heads changed over is that of the reversed edges. Assumes nothing.
-use Rattle.property.proofs.Basics.{_≡_, refl, sym, ap, _∙_, not, List, map, ℕ, _+_, _*_, _/_, _≤_, _<_, ℕ-discrete, decLt, arith, length, getD, set, length-set, eqb}
+use Rattle.property.proofs.Basics.{_≡_, refl, sym, ap, _∙_, List, map, ℕ, _+_, _*_, _/_, _≤_, _<_, ℕ-discrete, decLt, arith, length, getD, set, length-set}
 use Rattle.graph.specs.Arc.{arcWeights, arc, arcHead, arcWeight}
 use Rattle.graph.proofs.Arcs.{head-arc, weight-arc}
 use Rattle.graph.specs.Edge.{Edge, reverse}
 use Rattle.graph.proofs.Edges.{mem-reverse, reverse-mem}
-use Rattle.affected.proofs.Net.{net-reverse}
-use Rattle.compare.specs.Code.{before, after, pairs, Inside, differs, Lists, Differences}
-use Rattle.compare.proofs.Ruled.{put, put-other, put-first, put-second}
-
-differs-reverse : (fs : List Edge) (e : Edge) → differs (map reverse fs) (reverse e) ≡ differs fs e
-differs-reverse fs e = ap (λ c. not (eqb c (e .weight))) (net-reverse fs e)
+use Rattle.affected.proofs.Net.{among-reverse, net-reverse}
+use Rattle.compare.specs.Code.{before, after, pairs, Inside, Lacks, Lists, Differences, put}
+use Rattle.compare.proofs.Ruled.{put-other, put-first, put-second}
 
 -- the same edges, reversed
+lacks-reverse : (es fs : List Edge) (g : ℕ) (f k : ℕ → Edge) → ((i : ℕ) → i < g → k i ≡ reverse (f i)) → Lacks es fs g f → Lacks (map reverse es) (map reverse fs) g k
+lacks-reverse es fs g f k e l = record {
+  lacked = λ i a w. let x = e i a in let z = l .lacked i a (rw x at w) in rw x (mem-reverse (z .0), among-reverse fs (f i) ∙ z .1);
+  all = λ x m q.
+      let (i, a, z) = l .all (reverse x) (reverse-mem es x m) (sym (among-reverse fs (reverse x)) ∙ q) in
+      (i, a, e i a ∙ ap reverse z);
+  weighs = λ x m. l .weighs (reverse x) (reverse-mem es x m);
+}
+
 pub lists-reverse : (es fs : List Edge) (g h : ℕ) (f k : ℕ → Edge) (o p : ℕ → ℕ) → h ≡ g → ((i : ℕ) → i < g → k i ≡ reverse (f i)) → ((i : ℕ) → i < g → p i ≡ o i) → Lists es fs g f o
     → Lists (map reverse es) (map reverse fs) h k p
 lists-reverse es fs g h f k o p q e u l = rw q (record {
-  among = λ i a w. let x = e i a in rw x (mem-reverse (l .among i a (rw x at w)));
-  other = λ i a w. let x = e i a in rw (x, u i a) (net-reverse fs (f i) ∙ l .other i a (rw x at w));
-  apart = λ i a w. let x = e i a in rw x (differs-reverse fs (f i) ∙ l .apart i a (rw x at w));
-  all = λ x m r.
-      let z = l .all (reverse x) (reverse-mem es x m) (sym (differs-reverse fs (reverse x)) ∙ r) in
-      let y = e (z .0) (z .1) in
-      (z .0, z .1, y ∙ ap reverse (z .2), rw y (z .3));
-  weighs = λ x m. l .weighs (reverse x) (reverse-mem es x m);
+  lacks = lacks-reverse es fs g f k e (l .lacks);
+  other = λ i a w. let x = e i a in rw (x, u i a) (net-reverse es fs (f i) ∙ l .other i a (rw x at w));
 })
 
 -- ---- tails and heads change over

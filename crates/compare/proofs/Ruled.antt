@@ -4,20 +4,18 @@
 --   all s        == its edges
 --   at s i       == its edge at index i
 --   Past s e j   == its first j edges precede e
---   put xs k a b == the list with the words a and b for change k
-use Rattle.property.proofs.Basics.{_≡_, sym, ap, _∙_, true, false, true≢false, List, List·Memᴰ, ℕ, _+_, _*_, _<_, ℕ-discrete, decLt, arith, length, getD, set, length-set, getD-set-same, getD-set-other, eqb, eqb-true, eqb-false}
-use Rattle.property.proofs.Tests.{by-test}
+use Rattle.property.proofs.Basics.{_≡_, sym, ap, _∙_, true, false, true≢false, List, List·Memᴰ, ℕ, _+_, _*_, _<_, ℕ-discrete, decLt, arith, length, getD, set, length-set, getD-set-same, getD-set-other}
+use Rattle.property.proofs.Tests.{is-false}
 use Rattle.graph.specs.Refusal.{accept}
-use Rattle.graph.specs.Edge.{Edge, edge, alike, precedes, edges}
+use Rattle.graph.specs.Edge.{Edge, edge, same, among, precedes, edges}
 use Rattle.graph.specs.Table.{isEdge, rules}
 use Rattle.graph.specs.Code.{Room, edgeAt}
+use Rattle.graph.proofs.Edges.{same-own, among-mem}
 use Rattle.graph.proofs.Sorted.{sorted-before}
 use Rattle.graph.proofs.Order.{EdgeFacts, table-ordered, rules-accept, sound-fit}
 use Rattle.graph.proofs.Lists.{mem-index}
 use Rattle.graph.proofs.Records.{edges-length, edges-at, edges-mem}
-use Rattle.affected.specs.Net.{counterpart}
-use Rattle.affected.proofs.Net.{counterpart-found}
-use Rattle.compare.specs.Code.{Passed}
+use Rattle.compare.specs.Code.{Passed, put}
 
 pub record Ruled (n : ℕ) : Type 0 where
   pub count : ℕ
@@ -35,7 +33,7 @@ module _ {n : ℕ} (s : Ruled n) where
   at i = edgeAt (s .ts) (s .hs) (s .ws) i
 
   abbrev pub Past : Edge → ℕ → Type 0
-  Past e j = Passed (s .ts) (s .hs) (s .ws) (s .count) (e .tail) (e .head) j
+  Past e j = Passed (s .ts) (s .hs) (s .ws) (s .count) e j
 
   pub at-facts : (i : ℕ) → i < s .count → EdgeFacts n (at i)
   at-facts i l = sound-fit n all (rules-accept n all (s .sound)) (at i) (edges-mem _ _ _ _ (s .room) i l)
@@ -64,14 +62,13 @@ module _ {n : ℕ} (s : Ruled n) where
         pick k i (yes z) = rw z q
         pick k i (no d) = p .before k (omega arith)
 
-    -- the first edges precede e, and e precedes the next: the pair stands nowhere in the table
-    pub passed-counterpart : (j : ℕ) → Past e j → (j < s .count → precedes e (at j) ≡ true) → counterpart all e ≡ 0
-    passed-counterpart j p q = by-test (eqb (counterpart all e) 0) (λ z. eqb-true _ _ z) (λ z.
-        let (f, m, a, b) = counterpart-found all e (eqb-false _ _ z) in
-        let (k, l, x) = all-index f m in
-        absurd (true≢false (sym a ∙ ap (alike e) (sym x) ∙ never k l (decLt k j) (ℕ-discrete k j))))
+    -- the first edges precede e, and e precedes the next: e stands nowhere in the table
+    pub passed-absent : (j : ℕ) → Past e j → (j < s .count → precedes e (at j) ≡ true) → among all e ≡ false
+    passed-absent j p q = is-false (among all e) (λ h.
+        let (k, l, x) = all-index e (among-mem all e h) in
+        true≢false (sym (same-own e) ∙ ap (same e) (sym x) ∙ never k l (decLt k j) (ℕ-discrete k j)))
       where
-        never : (k : ℕ) → k < s .count → Dec (k < j) → Dec (k ≡ j) → alike e (at k) ≡ false
+        never : (k : ℕ) → k < s .count → Dec (k < j) → Dec (k ≡ j) → same e (at k) ≡ false
         never k l (yes b) d = table-ordered .symmetric e (at k) ∙ table-ordered .apart (at k) e (p .before k b)
         never k l (no b) (yes d) = table-ordered .apart e (at k) (rw d (q (rw d at l)))
         never k l (no b) (no d) = table-ordered .apart e (at k) (table-ordered .transitive e (at j) (at k) (q (omega arith)) (rises j k (omega arith) l))
@@ -79,14 +76,14 @@ module _ {n : ℕ} (s : Ruled n) where
 -- ---- the words of a change
 
 module _ (xs : List ℕ) (k a b : ℕ) where
-  abbrev pub put : List ℕ
-  put = set (set xs (2 * k) a) (2 * k + 1) b
+  pub length-put : length (put xs k a b) ≡ length xs
+  length-put = length-set (set xs (2 * k) a) (2 * k + 1) b ∙ length-set xs (2 * k) a
 
-  pub put-other : (i : ℕ) → (i ≡ 2 * k → ⊥) → (i ≡ 2 * k + 1 → ⊥) → getD put i 0 ≡ getD xs i 0
+  pub put-other : (i : ℕ) → (i ≡ 2 * k → ⊥) → (i ≡ 2 * k + 1 → ⊥) → getD (put xs k a b) i 0 ≡ getD xs i 0
   put-other i d e = getD-set-other (set xs (2 * k) a) (2 * k + 1) i b 0 e ∙ getD-set-other xs (2 * k) i a 0 d
 
-  pub put-first : 2 * k + 1 < length xs → getD put (2 * k) 0 ≡ a
+  pub put-first : 2 * k + 1 < length xs → getD (put xs k a b) (2 * k) 0 ≡ a
   put-first l = getD-set-other (set xs (2 * k) a) (2 * k + 1) (2 * k) b 0 (λ q. omega arith) ∙ getD-set-same xs (2 * k) a 0 (omega arith)
 
-  pub put-second : 2 * k + 1 < length xs → getD put (2 * k + 1) 0 ≡ b
+  pub put-second : 2 * k + 1 < length xs → getD (put xs k a b) (2 * k + 1) 0 ≡ b
   put-second l = getD-set-same (set xs (2 * k) a) (2 * k + 1) b 0 (let z = length-set xs (2 * k) a in omega arith)

@@ -1,34 +1,31 @@
--- A walk along two tables lists what differs. Assumes nothing.
+-- A walk along two tables lists what either lacks. Assumes nothing.
 --
 --   due s i s′ j         == edge i of s comes no later than edge j of s′: the walk goes past it
 --   Step s s′ i j b c    == one of the edges at hand is there; b and c say which of them are due
---   Noted fs i e w A     == e is one of the edges A a, of a below i; it differs in fs, where its pair has the weight w
---   Half fs i g f o A    == of the edges A a, of a below i, those that differ in fs are listed: by the edges f k, of k below g, that have a weight; and
---                           o k is the weight that the pair has in fs
---   Side s s′ f h i j g  == so far for the table s: by the edges f k, with the weights of the edges h k; and the edges of s′ that are gone past
---                           precede the one at hand
---   Walk s s′ f h i j g  == so far for both tables
+--   Noted fs i e A       == e is one of the edges A a, of a below i, and fs lacks it
+--   Half fs i g f A      == of the edges A a, of a below i, those that fs lacks are listed: by the edges f k, of k below g, that have a weight
+--   Side s s′ f i j g    == so far for the table s: by the edges f k; and the edges of s′ that are gone past precede the one at hand
+--   theOne f h k         == the edge of change k: f k, or h k where f k has no weight
+--   Walk s s′ f h i j g  == so far for both tables, by f k and h k: one of them has a weight, and these ascend
 --   Words s s′ i j b c x y o w == the words of a step: the pair of the edge that comes first, and its weights in both tables, 0 for none
 --   Listed s s′ xs i j g == the walk so far, with the list xs of changes, whose tails and heads are vertices
 --
--- Both tables are sorted by pair. At each step the edge that comes first is gone past: if it comes before the other table's edge at hand, it
--- stands nowhere in the other table, since all before that one precede it and all from there on come after it. If both are of one pair, both
--- are gone past, and they differ where their weights do.
-use Rattle.property.proofs.Basics.{_≡_, refl, sym, ap, _∙_, _⊎_, inl, inr, ⊎-elim, _≢_, Bool, true, false, not, _&&_, cond, true≢false, List, ℕ, _+_, _*_, _/_, _≤_, _<_, ℕ-discrete, decLt, arith, length, getD, take, length-take-le, getD-take, eqb, ltb, ltb-true, lt-ltb, eqb-true, eqb-false, eq-eqb, ne-eqb, not-true, not-false}
+-- Both tables are sorted. At each step the edge that comes first is gone past: if it comes before the other table's edge at hand, it stands
+-- nowhere in the other table, since all before that one precede it and all from there on come after it. If the two are the same edge, both are
+-- gone past, and the other table does not lack it. What is listed was gone past, so that it precedes what is at hand.
+use Rattle.property.proofs.Basics.{_≡_, refl, sym, ap, _∙_, _⊎_, inl, inr, ⊎-elim, Bool, true, false, not, _&&_, cond, true≢false, List, ℕ, _+_, _*_, _≤_, _<_, ℕ-discrete, decLt, arith, length, getD, take, length-take-le, getD-take, eqb, ltb, ltb-true, lt-ltb, eqb-false, eq-eqb, ne-eqb, not-true, not-false}
 use Rattle.property.proofs.Tests.{is-true, by-test}
 use Rattle.graph.specs.Limits.{maxWeight}
 use Rattle.graph.specs.Arc.{arcWeights, arc, arcHead}
-use Rattle.graph.specs.Edge.{Edge, edge, alike, precedes}
+use Rattle.graph.specs.Edge.{Edge, edge, among, precedes}
 use Rattle.graph.proofs.Tests.{both}
-use Rattle.graph.proofs.Edges.{pair-ends}
+use Rattle.graph.proofs.Edges.{same-eq, mem-among}
 use Rattle.graph.proofs.Sorted.{before-asym}
 use Rattle.graph.proofs.Order.{EdgeFacts, table-ordered}
 use Rattle.graph.proofs.Arcs.{head-arc, weight-arc}
 use Rattle.graph.proofs.Records.{edges-mem}
-use Rattle.affected.specs.Net.{counterpart}
-use Rattle.affected.proofs.Net.{rules-single}
-use Rattle.compare.specs.Code.{before, after, Inside, differs, Lists, Differences, Tables}
-use Rattle.compare.proofs.Ruled.{Ruled, all, at, Past, at-facts, all-index, rises, passed-none, passed-more, passed-counterpart, put, put-other, put-first, put-second}
+use Rattle.compare.specs.Code.{before, after, Inside, Lacks, Unpaired, put, Tables}
+use Rattle.compare.proofs.Ruled.{Ruled, all, at, Past, at-facts, all-index, rises, passed-none, passed-more, passed-absent, put-other, put-first, put-second}
 
 -- ---- which edge comes first
 
@@ -60,16 +57,16 @@ module _ {n : ℕ} (s : Ruled n) (i : ℕ) (s′ : Ruled n) (j : ℕ) where
       let y = due-later s′ j s i b (x .0) in
       true≢false (sym (y .1) ∙ before-asym table-ordered (at s′ j) (at s i) (x .1))
 
-  -- if both do, they are of one pair, and the edge of the pair in the other table is the one at hand
+  -- if both do, they are the same
   module _ (d : due s i s′ j ≡ true) (e : due s′ j s i ≡ true) where
-    met-alike : alike (at s i) (at s′ j) ≡ true
-    met-alike = is-true _ (λ q.
+    met : at s i ≡ at s′ j
+    met = same-eq (at s i) (at s′ j) (is-true _ (λ q.
         let x = due-first s i s′ j d in
         let y = due-first s′ j s i e in
-        true≢false (sym (table-ordered .trichotomy (at s i) (at s′ j) (y .1 (x .0)) q) ∙ x .1 (y .0)))
+        true≢false (sym (table-ordered .trichotomy (at s i) (at s′ j) (y .1 (x .0)) q) ∙ x .1 (y .0))))
 
-    met-counterpart : counterpart (all s′) (at s i) ≡ at s′ j .weight
-    met-counterpart = rules-single n (all s′) (s′ .sound) .at (at s i) (at s′ j) (edges-mem _ _ _ _ (s′ .room) j (due-first s′ j s i e .0)) met-alike
+    met-among : among (all s′) (at s i) ≡ true
+    met-among = ap (among (all s′)) met ∙ mem-among (edges-mem _ _ _ _ (s′ .room) j (due-first s′ j s i e .0))
 
   -- what precedes the edge at hand after a step
   passed-step : (i < s .count → Past s′ (at s i) j) → (b c : Bool) → due s i s′ j ≡ b → due s′ j s i ≡ c → cond b (i + 1) i < s .count → Past s′ (at s (cond b (i + 1) i)) (cond c (j + 1) j)
@@ -79,9 +76,7 @@ module _ {n : ℕ} (s : Ruled n) (i : ℕ) (s′ : Ruled n) (j : ℕ) where
       kept = let q = p (omega arith) in record { within = q .within; before = λ k o. table-ordered .transitive (at s′ k) (at s i) (at s (i + 1)) (q .before k o) (rises s i (i + 1) (omega arith) l) }
 
       on : (c : Bool) → due s′ j s i ≡ c → Past s′ (at s (i + 1)) (cond c (j + 1) j)
-      on true e =
-          let z = pair-ends (at s i) (at s′ j) (met-alike d e) in
-          passed-more s′ (at s (i + 1)) j kept (due-first s′ j s i e .0) (rw (← (z .0), ← (z .1)) (rises s i (i + 1) (omega arith) l))
+      on true e = passed-more s′ (at s (i + 1)) j kept (due-first s′ j s i e .0) (ap (λ (x : Edge). precedes x (at s (i + 1))) (sym (met d e)) ∙ rises s i (i + 1) (omega arith) l)
       on false e = kept
   passed-step p false true d e l = let z = due-later s i s′ j d l in passed-more s′ (at s i) j (p l) (z .0) (z .1)
   passed-step p false false d e l = absurd (due-some d e l)
@@ -115,119 +110,165 @@ module _ {n : ℕ} {s s′ : Ruled n} {i j : ℕ} where
 
 -- ---- what is listed
 
-abbrev Noted : List Edge → ℕ → Edge → ℕ → (ℕ → Edge) → Type 0
-Noted fs i e w A = ((a : ℕ) × (a < i) × (A a ≡ e)) × (counterpart fs e ≡ w) × (differs fs e ≡ true)
+abbrev Noted : List Edge → ℕ → Edge → (ℕ → Edge) → Type 0
+Noted fs i e A = ((a : ℕ) × (a < i) × (A a ≡ e)) × (among fs e ≡ false)
 
-pub record Half (fs : List Edge) (i g : ℕ) (f : ℕ → Edge) (o : ℕ → ℕ) (A : ℕ → Edge) : Type 0 where
-  pub each : (k : ℕ) → k < g → 0 < f k .weight → Noted fs i (f k) (o k) A
-  pub every : (a : ℕ) → a < i → differs fs (A a) ≡ true → (k : ℕ) × (k < g) × (f k ≡ A a)
+pub record Half (fs : List Edge) (i g : ℕ) (f A : ℕ → Edge) : Type 0 where
+  pub each : (k : ℕ) → k < g → 0 < f k .weight → Noted fs i (f k) A
+  pub every : (a : ℕ) → a < i → among fs (A a) ≡ false → (k : ℕ) × (k < g) × (f k ≡ A a)
 
-half-none : (fs : List Edge) (f : ℕ → Edge) (o : ℕ → ℕ) (A : ℕ → Edge) → Half fs 0 0 f o A
-half-none fs f o A = record { each = λ k l. absurd (omega arith); every = λ a l. absurd (omega arith) }
+half-none : (fs : List Edge) (f A : ℕ → Edge) → Half fs 0 0 f A
+half-none fs f A = record { each = λ k l. absurd (omega arith); every = λ a l. absurd (omega arith) }
 
-module _ {fs : List Edge} {i g : ℕ} {f : ℕ → Edge} {o : ℕ → ℕ} {A : ℕ → Edge} (t : Half fs i g f o A) where
-  -- by other lists that have the same
-  half-moved : (h : ℕ → Edge) (p : ℕ → ℕ) → ((k : ℕ) → k < g → h k ≡ f k) → ((k : ℕ) → k < g → p k ≡ o k) → Half fs i g h p A
-  half-moved h p s u = record {
-    each = λ k l w. let x = s k l in rw (x, u k l) (t .each k l (rw x at w));
+module _ {fs : List Edge} {i g : ℕ} {f A : ℕ → Edge} (t : Half fs i g f A) where
+  -- by another list that has the same
+  half-moved : (h : ℕ → Edge) → ((k : ℕ) → k < g → h k ≡ f k) → Half fs i g h A
+  half-moved h s = record {
+    each = λ k l w. let x = s k l in rw x (t .each k l (rw x at w));
     every = λ a l r. let (k, b, e) = t .every a l r in (k, b, s k b ∙ e);
   }
 
   -- more is listed, and more edges are gone past
-  half-more : (i′ g′ : ℕ) → i ≤ i′ → g ≤ g′ → ((k : ℕ) → g ≤ k → k < g′ → 0 < f k .weight → Noted fs i′ (f k) (o k) A)
-      → ((a : ℕ) → i ≤ a → a < i′ → differs fs (A a) ≡ true → (k : ℕ) × (k < g′) × (f k ≡ A a)) → Half fs i′ g′ f o A
+  half-more : (i′ g′ : ℕ) → i ≤ i′ → g ≤ g′ → ((k : ℕ) → g ≤ k → k < g′ → 0 < f k .weight → Noted fs i′ (f k) A)
+      → ((a : ℕ) → i ≤ a → a < i′ → among fs (A a) ≡ false → (k : ℕ) × (k < g′) × (f k ≡ A a)) → Half fs i′ g′ f A
   half-more i′ g′ up on z y = record { each = λ k l w. old k l w (decLt k g); every = λ a l r. past a l r (decLt a i) }
     where
-      old : (k : ℕ) → k < g′ → 0 < f k .weight → Dec (k < g) → Noted fs i′ (f k) (o k) A
-      old k l w (yes b) = let ((a, c, e), q, r) = t .each k b w in ((a, omega arith, e), q, r)
+      old : (k : ℕ) → k < g′ → 0 < f k .weight → Dec (k < g) → Noted fs i′ (f k) A
+      old k l w (yes b) = let ((a, c, e), q) = t .each k b w in ((a, omega arith, e), q)
       old k l w (no d) = z k (omega arith) l w
 
-      past : (a : ℕ) → a < i′ → differs fs (A a) ≡ true → Dec (a < i) → (k : ℕ) × (k < g′) × (f k ≡ A a)
+      past : (a : ℕ) → a < i′ → among fs (A a) ≡ false → Dec (a < i) → (k : ℕ) × (k < g′) × (f k ≡ A a)
       past a l r (yes b) = let (k, c, e) = t .every a b r in (k, omega arith, e)
       past a l r (no d) = y a (omega arith) l r
 
   -- one edge is gone past, and listed
-  half-list : counterpart fs (A i) ≡ o g → o g ≢ A i .weight → f g ≡ A i → Half fs (i + 1) (g + 1) f o A
-  half-list r d e = half-more (i + 1) (g + 1) (omega arith) (omega arith)
-      (λ k l b w. let q : k ≡ g = omega arith in rw (q, e) ((i, omega arith, refl), r, ap not (ne-eqb _ _ (λ z. d (sym r ∙ z)))))
+  half-list : among fs (A i) ≡ false → f g ≡ A i → Half fs (i + 1) (g + 1) f A
+  half-list r e = half-more (i + 1) (g + 1) (omega arith) (omega arith)
+      (λ k l b w. let q : k ≡ g = omega arith in rw (q, e) ((i, omega arith, refl), r))
       (λ a l b q. let p : a ≡ i = omega arith in (g, omega arith, e ∙ ap A (sym p)))
 
-  -- one is, and does not differ
-  half-skip : counterpart fs (A i) ≡ A i .weight → Half fs (i + 1) g f o A
+  -- one is, and is not lacked
+  half-skip : among fs (A i) ≡ true → Half fs (i + 1) g f A
   half-skip r = half-more (i + 1) g (omega arith) (omega arith) (λ k l b. absurd (omega arith))
-      (λ a l b q. let p : a ≡ i = omega arith in absurd (true≢false (sym q ∙ rw p (ap not (eq-eqb _ _ r)))))
+      (λ a l b q. let p : a ≡ i = omega arith in absurd (true≢false (sym r ∙ ap (λ x. among fs (A x)) (sym p) ∙ q)))
 
   -- none is, and what is listed more has no weight
-  half-stay : f g .weight ≡ 0 → Half fs i (g + 1) f o A
+  half-stay : f g .weight ≡ 0 → Half fs i (g + 1) f A
   half-stay z = half-more i (g + 1) (omega arith) (omega arith) (λ k l b w. let q : k ≡ g = omega arith in let y : 0 < f g .weight = rw q at w in absurd (omega arith)) (λ a l b. absurd (omega arith))
 
 -- all is gone past
-half-done : {n : ℕ} (s : Ruled n) (fs : List Edge) (g : ℕ) (f : ℕ → Edge) (o : ℕ → ℕ) → Half fs (s .count) g f o (at s) → Lists (all s) fs g f o
-half-done s fs g f o t = record {
-  among = λ k b w. let (a, c, e) = t .each k b w .0 in rw (← e) (edges-mem _ _ _ _ (s .room) a c);
-  other = λ k b w. t .each k b w .1;
-  apart = λ k b w. t .each k b w .2;
+half-done : {n : ℕ} (s : Ruled n) (fs : List Edge) (g : ℕ) (f : ℕ → Edge) → Half fs (s .count) g f (at s) → Lacks (all s) fs g f
+half-done s fs g f t = record {
+  lacked = λ k b w. let ((a, c, e), q) = t .each k b w in (rw (← e) (edges-mem _ _ _ _ (s .room) a c), q);
   all = λ e m b.
       let (a, l, v) = all-index s e m in
-      let (k, c, q) = t .every a l (ap (differs fs) v ∙ b) in
-      (k, c, q ∙ v, rw q (at-facts s a l .some-weight));
+      let (k, c, q) = t .every a l (ap (among fs) v ∙ b) in
+      (k, c, q ∙ v);
   weighs = λ e m. let (a, l, v) = all-index s e m in rw (← v) (at-facts s a l .some-weight);
 }
 
 -- ---- the walk
 
-pub record Side {n : ℕ} (s s′ : Ruled n) (f h : ℕ → Edge) (i j g : ℕ) : Type 0 where
-  pub listed : Half (all s′) i g f (λ k. h k .weight) (at s)
+pub record Side {n : ℕ} (s s′ : Ruled n) (f : ℕ → Edge) (i j g : ℕ) : Type 0 where
+  pub listed : Half (all s′) i g f (at s)
   pub behind : i < s .count → Past s′ (at s i) j
   pub low : i ≤ s .count
 
-pub record Walk {n : ℕ} (s s′ : Ruled n) (f h : ℕ → Edge) (i j g : ℕ) : Type 0 where
-  pub old : Side s s′ f h i j g
-  pub new : Side s′ s h f j i g
-  pub few : g ≤ i + j
+abbrev theOne : (ℕ → Edge) → (ℕ → Edge) → ℕ → Edge
+theOne f h k = cond (eqb (f k .weight) 0) (h k) (f k)
 
-side-start : {n : ℕ} (s s′ : Ruled n) (f h : ℕ → Edge) → Side s s′ f h 0 0 0
-side-start s s′ f h = record { listed = half-none _ _ _ _; behind = λ l. passed-none s′ (at s 0); low = omega arith }
+pub record Walk {n : ℕ} (s s′ : Ruled n) (f h : ℕ → Edge) (i j g : ℕ) : Type 0 where
+  pub old : Side s s′ f i j g
+  pub new : Side s′ s h j i g
+  pub few : g ≤ i + j
+  pub one : (k : ℕ) → k < g → eqb (f k .weight) 0 ≡ not (eqb (h k .weight) 0)
+  pub ascends : (a b : ℕ) → a < b → b < g → precedes (theOne f h a) (theOne f h b) ≡ true
+
+side-start : {n : ℕ} (s s′ : Ruled n) (f : ℕ → Edge) → Side s s′ f 0 0 0
+side-start s s′ f = record { listed = half-none _ _ _; behind = λ l. passed-none s′ (at s 0); low = omega arith }
 
 pub walk-start : {n : ℕ} (s s′ : Ruled n) (f h : ℕ → Edge) → Walk s s′ f h 0 0 0
-walk-start s s′ f h = record { old = side-start s s′ f h; new = side-start s′ s h f; few = omega arith }
+walk-start s s′ f h = record {
+  old = side-start s s′ f;
+  new = side-start s′ s h;
+  few = omega arith;
+  one = λ k l. absurd (omega arith);
+  ascends = λ a b k l. absurd (omega arith);
+}
 
-module _ {n : ℕ} {s s′ : Ruled n} {f h : ℕ → Edge} {i j g : ℕ} (t : Side s s′ f h i j g) where
-  side-moved : (f′ h′ : ℕ → Edge) → ((k : ℕ) → k < g → f′ k ≡ f k) → ((k : ℕ) → k < g → h′ k ≡ h k) → Side s s′ f′ h′ i j g
-  side-moved f′ h′ x y = record { listed = half-moved (t .listed) _ _ x (λ k l. ap (λ (e : Edge). e .weight) (y k l)); behind = t .behind; low = t .low }
+module _ {n : ℕ} {s s′ : Ruled n} {f : ℕ → Edge} {i j g : ℕ} (t : Side s s′ f i j g) where
+  side-moved : (f′ : ℕ → Edge) → ((k : ℕ) → k < g → f′ k ≡ f k) → Side s s′ f′ i j g
+  side-moved f′ x = record { listed = half-moved (t .listed) _ x; behind = t .behind; low = t .low }
 
-  side-made : (b c : Bool) → due s i s′ j ≡ b → due s′ j s i ≡ c → (g′ : ℕ) → Half (all s′) (cond b (i + 1) i) g′ f (λ k. h k .weight) (at s) → Side s s′ f h (cond b (i + 1) i) (cond c (j + 1) j) g′
+  side-made : (b c : Bool) → due s i s′ j ≡ b → due s′ j s i ≡ c → (g′ : ℕ) → Half (all s′) (cond b (i + 1) i) g′ f (at s) → Side s s′ f (cond b (i + 1) i) (cond c (j + 1) j) g′
   side-made b c d e g′ l = record { listed = l; behind = passed-step s i s′ j (t .behind) b c d e; low = due-low s i s′ j b d (t .low) }
 
 -- the tables change places
 walk-flip : {n : ℕ} {s s′ : Ruled n} {f h : ℕ → Edge} {i j g : ℕ} → Walk s s′ f h i j g → Walk s′ s h f j i g
-walk-flip w = record { old = w .new; new = w .old; few = let z = w .few in omega arith }
+walk-flip {f = f} {h = h} {g = g} w = record {
+  old = w .new;
+  new = w .old;
+  few = let z = w .few in omega arith;
+  one = λ k l. flip _ _ (w .one k l);
+  ascends = λ a b k l. rw (other a (omega arith), other b l) (w .ascends a b k l);
+}
+  where
+    flip : (x y : Bool) → x ≡ not y → y ≡ not x
+    flip x true p = rw p
+    flip x false p = rw p
+
+    other : (k : ℕ) → k < g → theOne h f k ≡ theOne f h k
+    other k l = rw (w .one k l) (by-test (eqb (h k .weight) 0) (λ q. rw q) (λ q. rw q))
 
 module _ {n : ℕ} {s s′ : Ruled n} {f h : ℕ → Edge} {i j g : ℕ} (w : Walk s s′ f h i j g) where
   -- by other lists that have the same
   walk-moved : (f′ h′ : ℕ → Edge) → ((k : ℕ) → k < g → f′ k ≡ f k) → ((k : ℕ) → k < g → h′ k ≡ h k) → Walk s s′ f′ h′ i j g
-  walk-moved f′ h′ x y = record { old = side-moved (w .old) f′ h′ x y; new = side-moved (w .new) h′ f′ y x; few = w .few }
+  walk-moved f′ h′ x y = record {
+    old = side-moved (w .old) f′ x;
+    new = side-moved (w .new) h′ y;
+    few = w .few;
+    one = λ k l. rw (x k l, y k l) (w .one k l);
+    ascends = λ a b k l. let c : a < g = omega arith in rw (x a c, y a c, x b l, y b l) (w .ascends a b k l);
+  }
 
-  made : (b c : Bool) → due s i s′ j ≡ b → due s′ j s i ≡ c → (g′ : ℕ) → g′ ≤ cond b (i + 1) i + cond c (j + 1) j → Half (all s′) (cond b (i + 1) i) g′ f (λ k. h k .weight) (at s)
-      → Half (all s) (cond c (j + 1) j) g′ h (λ k. f k .weight) (at s′) → Walk s s′ f h (cond b (i + 1) i) (cond c (j + 1) j) g′
-  made b c d e g′ l x y = record { old = side-made (w .old) b c d e g′ x; new = side-made (w .new) c b e d g′ y; few = l }
+  -- what is listed precedes the edge at hand
+  listed-behind : i < s .count → (k : ℕ) → k < g → precedes (theOne f h k) (at s i) ≡ true
+  listed-behind l k b = by-test (eqb (f k .weight) 0)
+      (λ q. let z = eqb-false (h k .weight) 0 (not-true _ (sym (w .one k b) ∙ q)) in
+      let ((a, c, e), _) = w .new .listed .each k b (omega arith) in
+      rw (q, ← e) (w .old .behind l .before a c))
+      (λ q. let z = eqb-false (f k .weight) 0 q in
+      let ((a, c, e), _) = w .old .listed .each k b (omega arith) in
+      rw (q, ← e) (rises s a i c l))
 
-  -- both edges are of one pair
-  step-both : due s i s′ j ≡ true → due s′ j s i ≡ true → f g ≡ at s i → h g ≡ at s′ j → (r : Bool) → eqb (f g .weight) (h g .weight) ≡ r → Walk s s′ f h (i + 1) (j + 1) (cond r g (g + 1))
-  step-both d e p q r t = pick r t (met-counterpart s i s′ j d e) (met-counterpart s′ j s i e d)
-    where
-      pick : (r : Bool) → eqb (f g .weight) (h g .weight) ≡ r → counterpart (all s′) (at s i) ≡ at s′ j .weight → counterpart (all s) (at s′ j) ≡ at s i .weight → Walk s s′ f h (i + 1) (j + 1) (cond r g (g + 1))
-      pick true t a b = let z = eqb-true (f g .weight) (h g .weight) t in let u = w .few in made true true d e g (omega arith) (half-skip (w .old .listed) (cc)) (half-skip (w .new .listed) (cc))
-      pick false t a b = let z = eqb-false (f g .weight) (h g .weight) t in let u = w .few in made true true d e (g + 1) (omega arith) (half-list (w .old .listed) (cc) (λ y. z (cc)) p) (half-list (w .new .listed) (cc) (λ y. z (cc)) q)
+  -- both edges are the same
+  step-both : due s i s′ j ≡ true → due s′ j s i ≡ true → Walk s s′ f h (i + 1) (j + 1) g
+  step-both d e = record {
+    old = side-made (w .old) true true d e g (half-skip (w .old .listed) (met-among s i s′ j d e));
+    new = side-made (w .new) true true e d g (half-skip (w .new .listed) (met-among s′ j s i e d));
+    few = let u = w .few in omega arith;
+    one = w .one;
+    ascends = w .ascends;
+  }
 
   -- an edge of one table alone
   step-one : due s i s′ j ≡ true → due s′ j s i ≡ false → f g ≡ at s i → h g .weight ≡ 0 → Walk s s′ f h (i + 1) j (g + 1)
-  step-one d e p q =
-      let l = due-first s i s′ j d .0 in
-      let u = w .few in
-      let v = at-facts s i l .some-weight in
-      made true false d e (g + 1) (omega arith)
-      (half-list (w .old .listed) (passed-counterpart s′ (at s i) j (w .old .behind l) (λ o. due-later s′ j s i e o .1) ∙ sym q) (λ z. omega arith) p) (half-stay (w .new .listed) q)
+  step-one d e p q = record {
+    old = side-made (w .old) true false d e (g + 1) (half-list (w .old .listed) (passed-absent s′ (at s i) j (w .old .behind l) (λ o. due-later s′ j s i e o .1)) p);
+    new = side-made (w .new) false true e d (g + 1) (half-stay (w .new .listed) q);
+    few = let u = w .few in omega arith;
+    one = λ k b. elim (ℕ-discrete k g) [ yes z ↦ rw (z, weighs, q) | no z ↦ w .one k (omega arith) ];
+    ascends = λ a b k o. elim (ℕ-discrete b g) [
+      | yes z ↦ rw (z, weighs, p) (listed-behind l a (omega arith))
+      | no z ↦ w .ascends a b k (omega arith)
+    ];
+  }
+    where
+      l : i < s .count
+      l = due-first s i s′ j d .0
+
+      weighs : eqb (f g .weight) 0 ≡ false
+      weighs = ne-eqb (f g .weight) 0 (λ z. let v = at-facts s i l .some-weight in let y = ap (λ (x : Edge). x .weight) p in omega arith)
 
 -- ---- a change is stored
 
@@ -308,8 +349,9 @@ module _ {n : ℕ} (s s′ : Ruled n) (xs : List ℕ) (i j g : ℕ) (wk : Listed
       pick : (b c : Bool) → Words s s′ i j b c x y o w → Walk s s′ (before ys) (after ys) i j g → before ys g ≡ edge x y o → after ys g ≡ edge x y w
           → Walk s s′ (before ys) (after ys) (cond b (i + 1) i) (cond c (j + 1) j) (cond (eqb o w) g (g + 1))
       pick true true p v a z =
-          let q = pair-ends (at s i) (at s′ j) (met-alike s i s′ j (sym (p .step .old)) (sym (p .step .new))) in
-          step-both v (sym (p .step .old)) (sym (p .step .new)) (a ∙ rw (p .tail, p .head, p .old)) (z ∙ rw (p .tail, p .head, p .new, q .0, q .1)) (eqb o w) (cc)
+          let d = sym (p .step .old) in
+          let e = sym (p .step .new) in
+          rw (eq-eqb o w (p .old ∙ ap (λ (f : Edge). f .weight) (met s i s′ j d e) ∙ sym (p .new))) (step-both v d e)
       pick true false p v a z =
           let l = at-facts s i (step-due (p .step) refl) .some-weight in
           let e = p .old in
@@ -322,18 +364,15 @@ module _ {n : ℕ} (s s′ : Ruled n) (xs : List ℕ) (i j g : ℕ) (wk : Listed
           rw (ne-eqb o w (λ q. omega arith)) (walk-flip (step-one (walk-flip v) (sym (p .step .new)) (sym (p .step .old)) (z ∙ rw (p .tail, p .head, p .new)) (ap (λ (f : Edge). f .weight) a ∙ e)))
       pick false false p v a z = absurd (step-none (p .step))
 
-  module _ (long : 2 * g ≤ length xs) where
-    pub walk-inside : Inside n (take (2 * g) xs)
-    walk-inside k l = let z = length-take-le (2 * g) xs long in rw (getD-take (2 * g) xs k 0 (omega arith)) (wk .1 k (omega arith))
+  pub walk-inside : 2 * g ≤ length xs → Inside n (take (2 * g) xs)
+  walk-inside long k l = let z = length-take-le (2 * g) xs long in rw (getD-take (2 * g) xs k 0 (omega arith)) (wk .1 k (omega arith))
 
-    pub walk-done : (i < s .count → ⊥) → (j < s′ .count → ⊥) → Differences (all s) (all s′) (take (2 * g) xs)
-    walk-done a b =
-        let v = moved (take (2 * g) xs) (λ k l. getD-take (2 * g) xs k 0 l) in
-        let ei : i ≡ s .count = (let z = wk .0 .old .low in omega arith) in
-        let ej : j ≡ s′ .count = (let z = wk .0 .new .low in omega arith) in
-        let z = length-take-le (2 * g) xs long in
-        let q : length (take (2 * g) xs) / 2 ≡ g = omega arith in
-        record { old = rw q (half-done s _ g _ _ (rw ei at (v .old .listed))); new = rw q (half-done s′ _ g _ _ (rw ej at (v .new .listed))) }
+  pub walk-done : (i < s .count → ⊥) → (j < s′ .count → ⊥) → Unpaired (all s) (all s′) g xs
+  walk-done a b =
+      let w = wk .0 in
+      let ei : i ≡ s .count = (let z = w .old .low in omega arith) in
+      let ej : j ≡ s′ .count = (let z = w .new .low in omega arith) in
+      record { old = half-done s _ g _ (rw ei at (w .old .listed)); new = half-done s′ _ g _ (rw ej at (w .new .listed)); one = w .one; ascends = w .ascends }
 
 -- ---- the two tables
 

@@ -7,7 +7,7 @@ use Rattle.graph.specs.Edge.{Edge, edge}
 use Rattle.graph.specs.Table.{insert}
 use Rattle.graph.proofs.Tests.{both}
 use Rattle.graph.proofs.Order.{edge-facts}
-use Rattle.dimacs.proofs.Network.{opens-facts, takes-facts}
+use Rattle.dimacs.proofs.Network.{opens-when, takes-when}
 use Rattle.dimacs.specs.Decimal.{isDigit, scan}
 use Rattle.dimacs.specs.Network as net
 use Rattle.dimacs.specs.Sources as src
@@ -38,8 +38,8 @@ module _ (c : ℕ) where
   pub problem-capped : maxEdges < c → (n m : ℕ) → net.act net.start (net.problem (min n c) (min m c)) ≡ net.act net.start (net.problem n m)
   unfolding net.act
   problem-capped l n m = taken-same (λ (h : ℕ × ℕ). net.opens (h .0) (h .1)) (λ h. net.within (h .0) (h .1) []) (min n c, min m c) (n, m)
-      (λ p. let (x, y, z, w) = opens-facts (min n c) (min m c) p in same (omega arith) (omega arith))
-      (λ q. let (x, y, z, w) = opens-facts n m q in same (omega arith) (omega arith))
+      (λ p. let (x, y, z, w) = opens-when (min n c) (min m c) .0 p in same (omega arith) (omega arith))
+      (λ q. let (x, y, z, w) = opens-when n m .0 q in same (omega arith) (omega arith))
     where
       same : min n c ≡ n → min m c ≡ m → _≡_ {A = ℕ × ℕ} (min n c, min m c) (n, m)
       same p q = rw (p, q)
@@ -49,8 +49,8 @@ module _ (c : ℕ) where
       → net.act (net.within n m es) (net.arc (edge (min t (c - 1)) (min h (c - 1)) (min w c))) ≡ net.act (net.within n m es) (net.arc (edge t h w))
   unfolding net.act
   arc-capped l n m es t h w k = taken-same (net.takes n m es) (λ e. net.within n m (insert e es)) (edge (min t (c - 1)) (min h (c - 1)) (min w c)) (edge t h w)
-      (λ p. let s = edge-facts n (edge (min t (c - 1)) (min h (c - 1)) (min w c)) (takes-facts n m es (edge (min t (c - 1)) (min h (c - 1)) (min w c)) p .1) in same (s .tail-below) (s .head-below) (s .weight-most))
-      (λ q. let s = edge-facts n (edge t h w) (takes-facts n m es (edge t h w) q .1) in same (omega (arith, s .tail-below)) (omega (arith, s .head-below)) (omega (arith, s .weight-most)))
+      (λ p. let s = edge-facts n (edge (min t (c - 1)) (min h (c - 1)) (min w c)) (takes-when n m es (edge (min t (c - 1)) (min h (c - 1)) (min w c)) .0 p .1) in same (s .tail-below) (s .head-below) (s .weight-most))
+      (λ q. let s = edge-facts n (edge t h w) (takes-when n m es (edge t h w) .0 q .1) in same (omega (arith, s .tail-below)) (omega (arith, s .head-below)) (omega (arith, s .weight-most)))
     where
       same : min t (c - 1) < n → min h (c - 1) < n → min w c ≤ maxWeight → edge (min t (c - 1)) (min h (c - 1)) (min w c) ≡ edge t h w
       same p q r =

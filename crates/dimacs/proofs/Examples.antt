@@ -1,7 +1,7 @@
--- Small texts, computed: document 01, "Text" and number 14. Each line says which sentence it shows and which nearby reading it shuts out.
+-- Small texts, computed: document 01, "Text" and number 14; document 02, Five. Each line says which sentence it shows and which nearby reading it shuts out.
 -- Assumes nothing.
 --
--- A table of examples lists texts with what document 01 says of them: what is read, or the line of the refusal. One equation holds for all of its rows.
+-- A table of examples lists texts with what the documents say of them: what is read, or the line of the refusal. One equation holds for all of its rows.
 --
 --   bytes s      == the bytes of a quoted text; `\n` is the line feed, byte 10
 --   Rows S       == rows of texts that are read alike: what they begin with, how each of them goes on, and what is read
@@ -80,10 +80,20 @@ networks =
     -- M2 is at most 2,048: with 2,048 the text only ends too soon, with 2,049 none can go on
     ∷ ("", "p sp 256 2048\n" ∷ [], bad 2)
     ∷ ("", "p sp 256 2049\n" ∷ [], bad 1)
-    -- .. and at most N × (N − 1), for no pair stands twice and tail and head differ: the p line is the place, not a later `a` line
-    ∷ ("p sp ", "1 1\n" ∷ "2 3\na 1 2 5\na 2 1 5\n" ∷ "45 1981\n" ∷ [], bad 1)
-    ∷ ("", "p sp 2 2\na 2 1 1\na 1 2 65535\n" ∷ [], good (within 2 2 (edge 0 1 65535 ∷ edge 1 0 1 ∷ [])))
-    ∷ ("", "p sp 45 1980\n" ∷ [], bad 2)
+    -- .. and 0 where N is 1, for tail and head differ: the p line is the place, not a later `a` line
+    ∷ ("", "p sp 1 1\n" ∷ [], bad 1)
+    -- document 02, "Text accepts twins": M2 may be above N × (N − 1)
+    ∷ ("", "p sp 2 3\n" ∷ "p sp 45 1981\n" ∷ [], bad 2)
+    ∷ ("", "p sp 2 3\na 1 2 5\na 2 1 5\n" ∷ [], bad 4)
+    ∷ ("", "p sp 2 3\na 1 2 5\na 2 1 5\na 1 2 6\n" ∷ [], good (within 2 3 (edge 0 1 5 ∷ edge 0 1 6 ∷ edge 1 0 5 ∷ [])))
+    -- .. "in any order", and "the table ascends by tail, head, figure"
+    ∷ (
+      "p sp 3 4\n",
+      "a 1 2 10\na 2 3 7\na 1 2 9\na 1 2 65535\n" ∷ "a 1 2 9\na 1 2 10\na 1 2 65535\na 2 3 7\n" ∷ "a 2 3 7\na 1 2 65535\na 1 2 10\na 1 2 9\n" ∷ [],
+      good (within 3 4 (edge 0 1 9 ∷ edge 0 1 10 ∷ edge 0 1 65535 ∷ edge 1 2 7 ∷ [])),
+    )
+    -- .. and "refuses equal lines": the line of the second
+    ∷ ("", "p sp 3 3\na 1 2 5\na 2 3 7\na 1 2 5\n" ∷ "p sp 2 4\na 1 2 5\na 1 2 6\na 1 2 5\na 1 2 7\n" ∷ [], bad 4)
     -- a figure is 1 to 65,535; out of range it is the line's refusal, not number 4 or 9
     ∷ ("p sp 2 1\n", "a 1 2 1\n" ∷ [], good (within 2 1 (edge 0 1 1 ∷ [])))
     ∷ ("p sp 2 1\n", "a 1 2 0\n" ∷ "a 1 2 65536\n" ∷ [], bad 2)
@@ -93,8 +103,6 @@ networks =
     ∷ ("", "p sp 256 1\na 257 1 5\n" ∷ [], bad 2)
     -- tail equals head
     ∷ ("p sp 2 1\n", "a 2 2 5\n" ∷ [], bad 2)
-    -- "no pair twice", with another figure too: the line of the second
-    ∷ ("", "p sp 3 3\na 1 2 5\na 2 3 7\na 1 2 6\n" ∷ [], bad 4)
     -- "as many as M2": one too many is refused at its line, one too few at complete lines + 1
     ∷ ("p sp ", "3 1\na 1 2 5\na 2 3 7\n" ∷ "3 2\na 1 2 5\n" ∷ [], bad 3)
     ∷ ("", "p sp 2 0\na 1 2 5\n" ∷ [], bad 2)
@@ -149,12 +157,17 @@ readings =
       accepts (record { vertices = 3; count = 2 }) (record { tails = 0 ∷ 1 ∷ replicate 2047 7; heads = 1 ∷ 2 ∷ replicate 2046 7; weights = 5 ∷ 7 ∷ replicate 2046 7 }),
     )
     ∷ (readCall (bytes "p sp 2 0\n") wide, accepts (record { vertices = 2; count = 0 }) wide)
+    -- twins stand by weight
+    ∷ (
+      readCall (bytes "p sp 2 2\na 1 2 6\na 1 2 5\n") wide,
+      accepts (record { vertices = 2; count = 2 }) (record { tails = 0 ∷ 0 ∷ replicate 2046 7; heads = 1 ∷ 1 ∷ replicate 2046 7; weights = 5 ∷ 6 ∷ replicate 2046 7 }),
+    )
     -- 2 before 14: each list has 2,048 words however small the network, and the text is not looked at
     ∷ (readCall (bytes "x\n") (lists 2047 2048 2048), refuses 2 0 (lists 2047 2048 2048))
     ∷ (readCall (bytes "p sp 2 0\n") (lists 2048 2047 2048), refuses 2 0 (lists 2048 2047 2048))
     ∷ (readCall (bytes "p sp 2 0\n") (lists 2048 2048 2047), refuses 2 0 (lists 2048 2048 2047))
     -- a refused text leaves the lists, though records stood before the bad line
-    ∷ (readCall (bytes "p sp 3 2\na 1 2 5\na 1 2 6\n") wide, refuses 14 3 wide)
+    ∷ (readCall (bytes "p sp 3 2\na 1 2 5\na 1 2 5\n") wide, refuses 14 3 wide)
     ∷ (readCall [] wide, refuses 14 1 wide)
     ∷ []
 
@@ -175,6 +188,10 @@ graphA = record {
 abbrev textA : List ℕ
 textA = bytes "p sp 4 5\na 1 2 4\na 1 4 9\na 2 3 4\na 3 2 4\na 4 3 2\n"
 
+-- two edges from 0 to 1, of these weights
+abbrev pair : ℕ → ℕ → Columns
+pair v w = record { tails = 0 ∷ 0 ∷ replicate 2046 7; heads = 1 ∷ 1 ∷ replicate 2046 7; weights = v ∷ w ∷ replicate 2046 7 }
+
 abbrev writings : List (Outcome ℕ (List ℕ) × Outcome ℕ (List ℕ))
 writings =
     -- "the writer's reply is its length, and bytes past it stay"
@@ -190,6 +207,10 @@ writings =
       writeCall 256 (record { tails = 255 ∷ replicate 2047 7; heads = 9 ∷ replicate 2047 7; weights = 65535 ∷ replicate 2047 7 }) 1 (replicate 26 7),
       accepts 26 (bytes "p sp 256 1\na 256 10 65535\n"),
     )
+    -- twins ascend by figure; an edge that stands twice breaks the rules, as do twins that descend
+    ∷ (writeCall 2 (pair 5 6) 2 (replicate 25 7), accepts 25 (bytes "p sp 2 2\na 1 2 5\na 1 2 6\n"))
+    ∷ (writeCall 2 (pair 5 5) 2 (replicate 25 7), refuses 4 1 (replicate 25 7))
+    ∷ (writeCall 2 (pair 6 5) 2 (replicate 25 7), refuses 4 1 (replicate 25 7))
     -- "Only a text's output buffer is judged too short last": 1, 2 for a table list, 4, and then 2 for the buffer
     ∷ (writeCall 0 (lists 2047 2048 2048) 2049 [], refuses 1 0 [])
     ∷ (writeCall 257 graphA 5 [], refuses 1 0 [])

@@ -15,3 +15,4 @@ pub mod Theorems
 pub mod Examples
 pub mod Widths
 pub mod Calls
+pub mod Upgrade

@@ -1,17 +1,18 @@
 -- Network text is an instance of Reading: its items are spelled as lines, no state is a dead end, and the items that lead to a complete state are those of a good
 -- text. Assumes nothing.
-use Rattle.property.proofs.Basics.{_≡_, refl, sym, ap, subst, _∙_, _⊎_, inl, inr, ⊎-elim, true, false, not, false≢true, List, [], _∷_, _++_, map, some, bind, ℕ, zero, suc, _+_, _-_, _*_, _≤_, _<_, arith, leb, ltb, length, lt-ltb, le-leb, ltb-true, leb-true, eqb-true, eq-eqb, not-true}
+use Rattle.property.proofs.Basics.{_≡_, refl, sym, ap, subst, _∙_, _⊎_, inl, inr, ⊎-elim, _↔_, true, false, not, _||_, false≢true, List, [], _∷_, _++_, map, some, bind, ℕ, zero, suc, _+_, _-_, _≤_, _<_, arith, leb, ltb, eqb, length, lt-ltb, le-leb, ltb-true, ltb-false, leb-true, eqb-true, eqb-false, eq-eqb, not-true}
+use Rattle.property.proofs.Tests.{by-test}
 use Rattle.graph.specs.Limits.{maxVertices, maxEdges}
-use Rattle.graph.specs.Edge.{Edge, edge, present}
+use Rattle.graph.specs.Edge.{Edge, edge, among}
 use Rattle.graph.specs.Table.{isEdge, tableOrder, insert}
-use Rattle.graph.proofs.Tests.{both, and-true}
+use Rattle.graph.proofs.Tests.{both, and-true, or-right}
 use Rattle.graph.proofs.Sorted.{length-insert}
-use Rattle.graph.proofs.Gather.{into, length-sorted, Fresh, fresh-insert, insert-fresh, fresh-none, into-sorted}
-use Rattle.graph.proofs.Order.{table-ordered}
+use Rattle.graph.proofs.Gather.{into, length-sorted, Fresh, fresh-insert, insert-fresh, fresh-none}
+use Rattle.graph.proofs.Order.{table-ordered, edge-facts}
 use Rattle.dimacs.proofs.Options.{none-some, some-same, bind-cond}
 use Rattle.dimacs.proofs.Fields.{plain-fields, marked-fields, either-spells}
 use Rattle.dimacs.proofs.Reading.{acts, acts-some, speaks, Ends, ends-more, Spelling, NoDeadEnd, accepts, accepted}
-use Rattle.dimacs.proofs.Count.{sound-length, unused}
+use Rattle.dimacs.proofs.Count.{unused}
 use Rattle.dimacs.specs.Lines.{plain, fieldsOf, Spelled}
 use Rattle.dimacs.specs.Read.{after, good}
 use Rattle.dimacs.specs.Network.{Item, problem, arc, problemMark, arcMark, itemOf, Distinct, Edges, sorted, problemFrom, arcOf, arcFrom, orElse, itemIn, State, start, within, opens, takes, act, complete, Good, IsGood, readNetwork}
@@ -63,32 +64,46 @@ network-spelling = record { reads-spelled = item-reads; spells-read = item-spell
 
 -- ---- what a state takes
 
-pub opens-facts : (n m : ℕ) → opens n m ≡ true → (0 < n) × (n ≤ maxVertices) × (m ≤ maxEdges) × (m ≤ n * (n - 1))
+pub opens-when : (n m : ℕ) → (opens n m ≡ true) ↔ ((0 < n) × (n ≤ maxVertices) × (m ≤ maxEdges) × (0 < m → 1 < n))
 unfolding opens
-opens-facts n m h =
-    let (p, h₁) = both (ltb 0 n) _ h in
-    let (q, h₂) = both (leb n maxVertices) _ h₁ in
-    let (r, s) = both (leb m maxEdges) _ h₂ in
-    (ltb-true _ _ p, leb-true _ _ q, leb-true _ _ r, leb-true _ _ s)
+opens-when n m = (forth, back)
+  where
+    forth : opens n m ≡ true → (0 < n) × (n ≤ maxVertices) × (m ≤ maxEdges) × (0 < m → 1 < n)
+    forth h =
+        let (p, h₁) = both (ltb 0 n) _ h in
+        let (q, h₂) = both (leb n maxVertices) _ h₁ in
+        let (r, s) = both (leb m maxEdges) _ h₂ in (
+          ltb-true _ _ p,
+          leb-true _ _ q,
+          leb-true _ _ r,
+          λ l. by-test (ltb 1 n) (ltb-true 1 n) (λ z. absurd (
+              let one : n ≡ 1 = omega (arith, ltb-true 0 n p, ltb-false 1 n z) in
+              let none : m ≡ 0 = eqb-true m 0 (rw one at s) in
+              omega arith)),
+        )
 
-act-opens : (n m : ℕ) → 0 < n → n ≤ maxVertices → m ≤ maxEdges → m ≤ n * (n - 1) → act start (problem n m) ≡ some (within n m [])
-unfolding act opens
-act-opens n m p q r s = rw (lt-ltb 0 n p, le-leb n maxVertices q, le-leb m maxEdges r, le-leb m (n * (n - 1)) s)
+    back : (0 < n) × (n ≤ maxVertices) × (m ≤ maxEdges) × (0 < m → 1 < n) → opens n m ≡ true
+    back (p, q, r, s) =
+        and-true (lt-ltb 0 n p) (and-true (le-leb n maxVertices q) (and-true (le-leb m maxEdges r)
+        (by-test (eqb m 0) (or-right (ltb 1 n)) (λ z. let d = eqb-false m 0 z in ap (λ b. b || eqb m 0) (lt-ltb 1 n (s (omega arith)))))))
 
-pub takes-facts : (n m : ℕ) (es : List Edge) (e : Edge) → takes n m es e ≡ true → (length es < m) × (isEdge n e ≡ true) × (present es e ≡ false)
+pub takes-when : (n m : ℕ) (es : List Edge) (e : Edge) → (takes n m es e ≡ true) ↔ ((length es < m) × (isEdge n e ≡ true) × (among es e ≡ false))
 unfolding takes
-takes-facts n m es e h =
-    let (p, q) = both (ltb (length es) m) _ h in
-    let (r, s) = both (isEdge n e) _ q in
-    (ltb-true _ _ p, r, not-true _ s)
+takes-when n m es e = (forth, λ (p, q, r). and-true (lt-ltb (length es) m p) (and-true q (ap not r)))
+  where
+    forth : takes n m es e ≡ true → (length es < m) × (isEdge n e ≡ true) × (among es e ≡ false)
+    forth h =
+        let (p, q) = both (ltb (length es) m) _ h in
+        let (r, s) = both (isEdge n e) _ q in
+        (ltb-true _ _ p, r, not-true _ s)
 
-pub takes-true : (n m : ℕ) (es : List Edge) (e : Edge) → length es < m → isEdge n e ≡ true → present es e ≡ false → takes n m es e ≡ true
-unfolding takes
-takes-true n m es e p q r = and-true (lt-ltb (length es) m p) (and-true q (ap not r))
-
-act-takes : (n m : ℕ) (es : List Edge) (e : Edge) → length es < m → isEdge n e ≡ true → present es e ≡ false → act (within n m es) (arc e) ≡ some (within n m (insert e es))
+act-opens : (n m : ℕ) → 0 < n → n ≤ maxVertices → m ≤ maxEdges → (0 < m → 1 < n) → act start (problem n m) ≡ some (within n m [])
 unfolding act
-act-takes n m es e p q r = rw (takes-true n m es e p q r)
+act-opens n m p q r s = rw (opens-when n m .1 (p, q, r, s))
+
+act-takes : (n m : ℕ) (es : List Edge) (e : Edge) → length es < m → isEdge n e ≡ true → among es e ≡ false → act (within n m es) (arc e) ≡ some (within n m (insert e es))
+unfolding act
+act-takes n m es e p q r = rw (takes-when n m es e .1 (p, q, r))
 
 -- ---- items after the p line
 
@@ -110,7 +125,7 @@ taken [] n m es s h = ([], refl, tt, tt, tt, λ z. omega arith, sym (some-same h
 taken (problem v k ∷ xs) n m es s h = absurd (none-some h)
 taken (arc e ∷ xs) n m es s h =
     let (b, q) = bind-cond (takes n m es e) (within n m (insert e es)) _ s h in
-    let (l, x, y) = takes-facts n m es e b in
+    let (l, x, y) = takes-when n m es e .0 b in
     let (fs, i, a, f, d, k, v) = taken xs n m (insert e es) s q in
     let (u, r) = insert-fresh table-ordered e es fs f in
     let g = length-insert tableOrder e es in
@@ -131,13 +146,13 @@ opened (problem n m ∷ xs) s h =
 
 -- ---- each state that is reached can be completed
 
--- M2 is at most n × (n − 1), so that while edges are to come a pair is unused: `a` lines of unused pairs follow
+-- M2 is far below 65,535, so that while edges are to come one from vertex 0 to 1 is unused: `a` lines of unused edges follow
 fill : (k n m : ℕ) (es : List Edge) → opens n m ≡ true → length es + k ≡ m → Ends act complete (within n m es)
 unfolding acts complete
 fill zero n m es o h = record { items = []; end = within n m es; reached = refl; completed = eq-eqb (length es) m (omega arith) }
 fill (suc k) n m es o h =
-    let (a, b, c, d) = opens-facts n m o in
-    let (e, p, q) = unused n es (omega arith) in
+    let (a, b, c, d) = opens-when n m .0 o in
+    let (e, p, q) = unused n es (d (omega arith)) (omega arith) in
     ends-more act (within n m es) (arc e) (within n m (insert e es)) (act-takes n m es e (omega arith) p q) (fill k n m (insert e es) o (omega (arith, length-insert tableOrder e es)))
 
 -- before the p line, `p sp 1 0` completes the text
@@ -153,11 +168,19 @@ network-goes-on xs s h = ⊎-elim
 
 -- ---- the items of a good text, and no others, lead to a complete state
 
+-- an edge has two ends
+two-ends : (n : ℕ) (fs : List Edge) → Edges n fs → 0 < length fs → 1 < n
+two-ends n [] a l = absurd (omega arith)
+two-ends n (e ∷ fs) a l =
+    let s = edge-facts n e (a .0) in
+    let d : e .tail ≡ e .head → ⊥ = s .no-loop in
+    omega (arith, s .tail-below, s .head-below)
+
 good-acts : (n : ℕ) (fs : List Edge) → 0 < n → n ≤ maxVertices → length fs ≤ maxEdges → Edges n fs → Distinct fs
     → acts act start (problem n (length fs) ∷ map arc fs) ≡ some (within n (length fs) (sorted fs))
 good-acts n fs p q r a d =
-    let l : length fs ≤ n * (n - 1) = omega (arith, length-sorted tableOrder fs, sound-length n (sorted fs) (into-sorted table-ordered (isEdge n) [] fs tt a (fresh-none tableOrder fs) d)) in
-    acts-some act start (problem n (length fs)) (within n (length fs) []) (act-opens n (length fs) p q r l) (map arc fs) ∙ arcs-taken n (length fs) [] fs a (fresh-none tableOrder fs) d (omega arith)
+    acts-some act start (problem n (length fs)) (within n (length fs) []) (act-opens n (length fs) p q r (two-ends n fs a)) (map arc fs)
+    ∙ arcs-taken n (length fs) [] fs a (fresh-none tableOrder fs) d (omega arith)
 
 pub good-read : (text : List ℕ) (n : ℕ) (es : List Edge) → Good text n es → readNetwork text ≡ good (within n (length es) es)
 unfolding readNetwork complete
@@ -172,7 +195,7 @@ good-read text n es g =
 opened-good : (text : List ℕ) (xs : List Item) (s : State) → Spelled itemOf text xs → Opened xs s → complete s ≡ true → (n : ℕ) × (es : List Edge) × (s ≡ within n (length es) es) × Good text n es
 unfolding complete
 opened-good text xs s d (n, m, ys, i, b, (fs, j, a, f, e, k, v)) c =
-    let (x, y, z, w) = opens-facts n m b in
+    let (x, y, z, w) = opens-when n m .0 b in
     let l : length (sorted fs) ≡ m = eqb-true _ _ (rw v at c) in
     let q : m ≡ length fs = sym l ∙ length-sorted tableOrder fs in (
       n,

@@ -1,5 +1,5 @@
 -- The place of a refusal, for any notion of a good text. Assumes nothing.
-use Rattle.property.proofs.Basics.{_≡_, List, _++_, append-assoc, ℕ, _-_, _≤_, _<_, arith, ltb, ltb-true, ltb-false, take, drop}
+use Rattle.property.proofs.Basics.{_≡_, List, _++_, append-assoc, ℕ, _-_, _≤_, arith, ltb, ltb-true, ltb-false, take, drop}
 use Rattle.property.proofs.Tests.{by-test}
 use Rattle.dimacs.proofs.Split.{joined-take}
 use Rattle.dimacs.specs.Lines.{joined, split, Begins, Place}
@@ -14,19 +14,22 @@ place-agrees f g text k p = record {
   not-good = λ z. p .not-good (g text z);
 }
 
-module _ (Good : List ℕ → Type 0) (text : List ℕ) where
-  -- where more lines begin a good text, fewer do
-  begins-fewer : (i j : ℕ) → i ≤ j → Begins Good (joined (take j (split text .lines))) → Begins Good (joined (take i (split text .lines)))
-  begins-fewer i j h (more, g) = (
-    joined (take (j - i) (drop i (split text .lines))) ++ more,
-    rw (joined-take i j (split text .lines) h, append-assoc) at g,
-  )
+-- where more lines begin a good text, fewer do
+begins-fewer : (F : List ℕ → Type 0) (text : List ℕ) (i j : ℕ) → i ≤ j → Begins F (joined (take j (split text .lines))) → Begins F (joined (take i (split text .lines)))
+begins-fewer F text i j h (more, g) = (
+  joined (take (j - i) (drop i (split text .lines))) ++ more,
+  rw (joined-take i j (split text .lines) h, append-assoc) at g,
+)
 
-  place-first : (j k : ℕ) → Place Good text j → Place Good text k → j < k → ⊥
-  place-first j k p q h = p .dead (omega (arith, q .inside)) (begins-fewer j (k - 1) (omega arith) (q .alive))
+-- of two notions, one of which holds where the other does, the wider one has the later place: up to the line before it some good text goes on
+pub place-later : {F G : List ℕ → Type 0} → ((text : List ℕ) → F text → G text) → (text : List ℕ) (j k : ℕ) → Place F text j → Place G text k → j ≤ k
+place-later {F = F} f text j k p q = by-test (ltb k j)
+    (λ e.
+    let l = ltb-true k j e in
+    let (more, g) = begins-fewer F text k (j - 1) (omega arith) (p .alive) in
+    absurd (q .dead (omega (arith, p .inside)) (more, f (joined (take k (split text .lines)) ++ more) g)))
+    (ltb-false k j)
 
-  -- a text has one place at most: before it some good text goes on, and with it none does
-  pub place-one : (j k : ℕ) → Place Good text j → Place Good text k → j ≡ k
-  place-one j k p q = by-test (ltb j k)
-      (λ e. absurd (place-first j k p q (ltb-true j k e)))
-      (λ e. by-test (ltb k j) (λ f. absurd (place-first k j q p (ltb-true k j f))) (λ f. omega (arith, ltb-false j k e, ltb-false k j f)))
+-- a text has one place at most: before it some good text goes on, and with it none does
+pub place-one : (Good : List ℕ → Type 0) (text : List ℕ) (j k : ℕ) → Place Good text j → Place Good text k → j ≡ k
+place-one Good text j k p q = omega (arith, place-later (λ t z. z) text j k p q, place-later (λ t z. z) text k j q p)

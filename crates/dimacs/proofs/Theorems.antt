@@ -21,9 +21,9 @@ use Rattle.dimacs.specs.Claims.{NetworkReads, NetworkWhole, NetworkTable
 
 -- ---- network text
 
--- The items of a good text lead to a complete state: the p line is taken, for its edges are different pairs and so at most
--- n × (n − 1), and each `a` line is taken, for its pair is new. Items that lead to a complete state are a p line and as many
--- edges of new pairs as it says: a good text's. A network's state tells its n and edges, so that no other network fits.
+-- The items of a good text lead to a complete state: the p line is taken, for where there is an edge its two ends are two vertices,
+-- and each `a` line is taken, for its edge is new. Items that lead to a complete state are a p line and as many new edges as it
+-- says: a good text's. A network's state tells its n and edges, so that no other network fits.
 pub network-reads : NetworkReads
 network-reads text n es = (forth, network.good-read text n es)
   where
@@ -58,7 +58,7 @@ place-only Good text k (good s) f g p = absurd (p .not-good (f s refl))
 place-only Good text k (bad j) f g p = ap bad (place-one Good text j k (g j refl) p)
 
 -- Where the reader refuses is the place (Reading, `refused`), for no state is a dead end: before the p line `p sp 1 0` completes
--- the text; after it fewer than n × (n − 1) edges are there while one is to come, so that a pair is unused.
+-- the text; after it, while an edge is to come, n is above 1 and fewer than 2,048 edges are there, so that one from 0 to 1 is unused.
 network-placed : (text : List ℕ) (k : ℕ) → net.readNetwork text ≡ bad k → Place net.IsGood text k
 unfolding net.readNetwork
 network-placed text k h =

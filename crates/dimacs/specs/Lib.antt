@@ -6,3 +6,4 @@ pub mod Sources
 pub mod Call
 pub mod Claims
 pub mod Calls
+pub mod Upgrade

@@ -1,15 +1,15 @@
--- Network text: the 9th DIMACS Challenge's shortest-path layout: document 01, "Text". First what a good text is, by its lines,
+-- Network text: the 9th DIMACS Challenge's shortest-path layout: document 01, "Text"; document 02, Five. First what a good text is, by its lines,
 -- with no reader in it; then the reader; then the writer. Assumes nothing.
 --
 --   Item                                    == a line that is no comment: `p sp N M2` or `a TAIL HEAD FIGURE`; vertices of an edge count from 0
 --   itemOf x                                == its bytes; in the text vertices count from 1
---   Distinct es                             == no pair of tail and head stands twice in es
+--   Distinct es                             == no edge stands twice in es: of twins, which have one tail and head, the weights differ
 --   sorted es                               == es in table order
 --   Good text n es                          == text is a good text, of a network with n vertices and the edges es
 --   IsGood text                             == text is a good text
 --   itemIn l                                == the item that a line says
 --   State                                   == where the reader stands: before the p line, or after it with n, M2 and the edges so far
---   opens n m                               == a p line with which some good text goes on: n 1 to 256, M2 at most 2,048 and at most n × (n − 1)
+--   opens n m                               == a p line with which some good text goes on: n 1 to 256, M2 at most 2,048, and 0 where n is 1
 --   takes n m es e                          == an a line with which some good text goes on
 --   readNetwork text                        == the state at the end, or the line of the refusal
 --   written n es                            == the text that is written for a network: no comment, ascending
@@ -20,14 +20,14 @@
 --   act st x                                == the state after an item; none where no good text can go on with it
 --   complete st                             == the state may be the last
 use mathlib.Core.Path.{_≡_}
-use mathlib.Core.Bool.{Bool, false, _&&_, not, cond}
+use mathlib.Core.Bool.{Bool, false, _&&_, _||_, not, cond}
 use mathlib.Core.List.{List, [], _∷_, _++_, map, foldl}
 use mathlib.Core.Option.{Option, none, some, bind}
-use Prim.Native.Nat.{ℕ, zero, suc, _-_, _*_, _≤_, _<_}
+use Prim.Native.Nat.{ℕ, zero, suc, _≤_, _<_}
 use lib.Dec.{ltb, leb, eqb}
 use lib.ListN.{length}
 use Rattle.graph.specs.Limits.{maxVertices, maxEdges}
-use Rattle.graph.specs.Edge.{Edge, edge, present}
+use Rattle.graph.specs.Edge.{Edge, edge, among}
 use Rattle.graph.specs.Table.{isEdge, tableOrder, insert}
 use Rattle.graph.specs.Sorted.{All}
 use Rattle.graph.specs.Sorted as order
@@ -106,10 +106,10 @@ pub data State : Type 0 where
   within : ℕ → ℕ → List Edge → State
 
 unfoldable pub opens : ℕ → ℕ → Bool
-opens n m = ltb 0 n && (leb n maxVertices && (leb m maxEdges && leb m (n * (n - 1))))
+opens n m = ltb 0 n && (leb n maxVertices && (leb m maxEdges && (ltb 1 n || eqb m 0)))
 
 unfoldable pub takes : ℕ → ℕ → List Edge → Edge → Bool
-takes n m es e = ltb (length es) m && (isEdge n e && not (present es e))
+takes n m es e = ltb (length es) m && (isEdge n e && not (among es e))
 
 unfoldable pub act : State → Item → Option State
 act start (problem n m) = cond (opens n m) (some (within n m [])) none

@@ -55,6 +55,12 @@ same-eq e f h =
     let r = eqb-true _ _ (b .1) in
     λ i. record { tail = p i; head = q i; weight = r i }
 
+pub same-own : (e : Edge) → same e e ≡ true
+same-own e = and-true (eq-eqb (e .tail) _ refl) (and-true (eq-eqb (e .head) _ refl) (eq-eqb (e .weight) _ refl))
+
+pub mem-among : {es : List Edge} {e : Edge} → List·Memᴰ e es → among es e ≡ true
+mem-among {e = e} m = true-exists (same e) m (same-own e)
+
 pub among-mem : (es : List Edge) (e : Edge) → among es e ≡ true → List·Memᴰ e es
 among-mem es e h = let (x, m, q) = exists-true (same e) es h in rw (same-eq e x q) m
 

@@ -5,9 +5,9 @@
 use Rattle.property.proofs.Basics.{_≡_, refl, true, false, List, [], _∷_, map, List·Memᴰ·head, List·Memᴰ·tail, ℕ, _+_, _/_, _%_, replicate}
 use Rattle.property.specs.Property.{M, Property, sssp, bfs, sswp, ssnp, ssr}
 use Rattle.graph.specs.Refusal.{Verdict, accept, refuse, _▷_, refuseIf, accepted, refused, replied, choose, outcome, over}
-use Rattle.graph.specs.Edge.{Edge, edge, reverse, keepIf, keep, exists, among, present, leaving, zip, edges, range}
+use Rattle.graph.specs.Edge.{Edge, edge, reverse, keepIf, keep, exists, among, leaving, zip, edges, range}
 use Rattle.graph.specs.Route.{Route, here, step}
-use Rattle.graph.specs.Table.{Columns, rules, size, shortTable, table, insert, delete}
+use Rattle.graph.specs.Table.{Columns, rules, size, shortTable, table, insert, delete, update}
 use Rattle.graph.specs.Sorted as order
 
 -- ---- the table's rules: number 4 and its place, for 4 vertices
@@ -16,15 +16,17 @@ abbrev judgedTables : List (List Edge × Verdict)
 judgedTables =
     -- an empty table breaks no rule
     ([], accept)
-    -- "Records ascend by tail, then head": heads need not ascend from tail to tail
+    -- "the table ascends by tail, head, figure": heads need not ascend from tail to tail, nor figures from pair to pair
     ∷ (edge 0 1 1 ∷ edge 0 3 9 ∷ edge 1 0 1 ∷ edge 3 2 5 ∷ [], accept)
     -- out of order by tail: the place is the later record's, not that of the one before it
     ∷ (edge 1 0 1 ∷ edge 0 1 1 ∷ [], refuse 4 1)
     -- out of order by head: a table ordered by tail alone is refused
     ∷ (edge 0 1 1 ∷ edge 0 3 1 ∷ edge 0 2 1 ∷ edge 1 0 1 ∷ [], refuse 4 2)
-    -- "no pair stands twice": the pair counts, not the three words; the place is the later one's
-    ∷ (edge 0 1 4 ∷ edge 0 1 5 ∷ [], refuse 4 1)
-    -- the same record twice, too: order is strict
+    -- twins: one pair with two figures, the lower one first; the place is the later one's
+    ∷ (edge 0 1 4 ∷ edge 0 1 5 ∷ edge 0 1 65535 ∷ edge 0 2 4 ∷ [], accept)
+    ∷ (edge 0 1 5 ∷ edge 0 1 4 ∷ [], refuse 4 1)
+    -- the same record twice: order is strict
+    ∷ (edge 0 1 4 ∷ edge 0 1 4 ∷ [], refuse 4 1)
     ∷ (edge 0 1 4 ∷ edge 0 2 4 ∷ edge 0 2 4 ∷ [], refuse 4 2)
     -- a pair that comes again further on
     ∷ (edge 0 1 4 ∷ edge 0 2 4 ∷ edge 0 1 4 ∷ [], refuse 4 2)
@@ -115,6 +117,9 @@ insertions =
     -- at the end, by its head and by its tail
     ∷ (edge 1 3 5, pair, edge 1 0 7 ∷ edge 1 2 7 ∷ edge 1 3 5 ∷ [])
     ∷ (edge 2 0 5, pair, edge 1 0 7 ∷ edge 1 2 7 ∷ edge 2 0 5 ∷ [])
+    -- before and after its twin, by its figure
+    ∷ (edge 1 0 5, pair, edge 1 0 5 ∷ edge 1 0 7 ∷ edge 1 2 7 ∷ [])
+    ∷ (edge 1 0 9, pair, edge 1 0 7 ∷ edge 1 0 9 ∷ edge 1 2 7 ∷ [])
     ∷ []
 
 insertions-said : map (λ c. insert (c .0) (c .1)) insertions ≡ map (λ c. c .2) insertions
@@ -124,9 +129,11 @@ insertions-said = refl
 -- "a take strikes the one it names": an edge, and what is left of the two
 abbrev deletions : List (Edge × List Edge)
 deletions =
-    -- by tail and head, whatever the figure: a take's is 0
-    (edge 1 0 0, edge 1 2 7 ∷ [])
-    ∷ (edge 1 2 9, edge 1 0 7 ∷ [])
+    -- by tail, head and figure
+    (edge 1 0 7, edge 1 2 7 ∷ [])
+    ∷ (edge 1 2 7, edge 1 0 7 ∷ [])
+    -- with another figure nothing is struck
+    ∷ (edge 1 2 9, pair)
     -- the reversed pair is another, and one that is absent strikes nothing
     ∷ (edge 0 1 7, pair)
     ∷ []
@@ -135,17 +142,26 @@ deletions-said : map (λ c. delete (c .0) pair) deletions ≡ map (λ c. c .1) d
 unfolding order.delete
 deletions-said = refl
 
+-- "sets the figure of the record that it names", "the list stays in table order": the edge that has it, the edge that comes, and what two twins and
+-- another edge become
+abbrev updates : List (Edge × Edge × List Edge)
+updates =
+    (edge 1 0 2, edge 1 0 9, edge 1 0 7 ∷ edge 1 0 9 ∷ edge 1 2 7 ∷ [])
+    ∷ (edge 1 0 7, edge 1 0 1, edge 1 0 1 ∷ edge 1 0 2 ∷ edge 1 2 7 ∷ [])
+    ∷ (edge 1 0 7, edge 1 0 3, edge 1 0 2 ∷ edge 1 0 3 ∷ edge 1 2 7 ∷ [])
+    ∷ (edge 1 0 7, edge 1 0 7, edge 1 0 2 ∷ edge 1 0 7 ∷ edge 1 2 7 ∷ [])
+    ∷ []
+
+updates-said : map (λ c. update (c .0) (c .1) (edge 1 0 2 ∷ pair)) updates ≡ map (λ c. c .2) updates
+unfolding order.insert order.delete
+updates-said = refl
+
 -- ---- tests and views of edges
 
--- an edge is among others by its three words: with another weight it is not ..
+-- an edge is among others by its three words: with another weight it is not
 among-pair : map (among pair) (edge 1 0 7 ∷ edge 1 0 8 ∷ edge 0 1 7 ∷ []) ≡ true ∷ false ∷ false ∷ []
 unfolding exists
 among-pair = refl
-
--- .. while number 10 and 11 go by the pair, which is there
-present-pair : map (present pair) (edge 1 0 7 ∷ edge 1 0 8 ∷ edge 0 1 7 ∷ []) ≡ true ∷ true ∷ false ∷ []
-unfolding exists
-present-pair = refl
 
 -- a vertex's edges are those of which it is the tail, in table order
 leaving-one : map (λ i. leaving i (edge 0 1 4 ∷ edge 1 0 7 ∷ edge 1 2 6 ∷ [])) (1 ∷ 2 ∷ []) ≡ (edge 1 0 7 ∷ edge 1 2 6 ∷ []) ∷ [] ∷ []

@@ -6,6 +6,7 @@ pub mod Sorted
 pub mod Seek
 pub mod Gather
 pub mod Order
+pub mod Simple
 pub mod Keeps
 pub mod Examples
 pub mod Flags
@@ -18,5 +19,5 @@ pub mod Counts
 pub mod Places
 pub mod Own
 pub mod Arcs
-pub mod Leading
 pub mod Parted
+pub mod Ranks

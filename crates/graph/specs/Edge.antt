@@ -1,16 +1,14 @@
--- Edges, and the lists of words that hold them: document 01, "Network". Assumes nothing.
+-- Edges, and the lists of words that hold them: document 01, "Network"; document 02, Five ("A segment is now its three words"). Assumes nothing.
 --
 --   Edge             == a "segment": tail, head and weight ("figure")
 --   edge t h w       == the edge from t to h of weight w
 --   reverse e        == e the other way round; backward rows go by reversed edges
 --   same e f         == the same three words
---   samePair e f     == the same tail and head
---   alike e f        == both can't stand in one table: they are of one pair
---   precedes e f     == table order: "by tail, then head"
+--   samePair e f     == the same tail and head ("pair"); two edges of one pair are twins
+--   precedes e f     == table order: "by tail, head, figure"
 --   keep f es        == the edges of es that pass the test f, in order
 --   exists f xs      == some element of xs passes the test f
 --   among es e       == e is in es, by its three words
---   present es e     == an edge alike e is in es
 --   leaving i es     == the edges of tail i, in table order
 --   edges ts hs ws m == the "records" below the count m of three lists of words
 --   range i k        == the k numbers from i on
@@ -36,14 +34,12 @@ reverse e = edge (e .head) (e .tail) (e .weight)
 abbrev pub samePair : Edge → Edge → Bool
 samePair e f = eqb (e .tail) (f .tail) && eqb (e .head) (f .head)
 
-abbrev pub alike : Edge → Edge → Bool
-alike e f = samePair e f
-
 abbrev pub same : Edge → Edge → Bool
 same e f = eqb (e .tail) (f .tail) && (eqb (e .head) (f .head) && eqb (e .weight) (f .weight))
 
 abbrev pub precedes : Edge → Edge → Bool
-precedes e f = ltb (e .tail) (f .tail) || (eqb (e .tail) (f .tail) && ltb (e .head) (f .head))
+precedes e f =
+    ltb (e .tail) (f .tail) || (eqb (e .tail) (f .tail) && (ltb (e .head) (f .head) || (eqb (e .head) (f .head) && ltb (e .weight) (f .weight))))
 
 unfoldable pub keepIf : Bool → Edge → List Edge → List Edge
 keepIf true e es = e ∷ es
@@ -59,9 +55,6 @@ exists f (x ∷ xs) = f x || exists f xs
 
 abbrev pub among : List Edge → Edge → Bool
 among es e = exists (same e) es
-
-abbrev pub present : List Edge → Edge → Bool
-present es e = exists (alike e) es
 
 abbrev pub leaving : ℕ → List Edge → List Edge
 leaving i es = keep (λ e. eqb (e .tail) i) es

@@ -3,6 +3,7 @@ pub mod Refusal
 pub mod Edge
 pub mod Within
 pub mod Sorted
+pub mod Simple
 pub mod Table
 pub mod Route
 pub mod Code

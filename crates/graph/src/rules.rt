@@ -5,13 +5,13 @@ use super::MAX_VERTICES;
 use super::MAX_WEIGHT;
 ghost use mathlib.Core.Path.{_≡_};
 ghost use mathlib.Core.Bool.{true, not, _&&_};
-ghost use Prim.Native.Nat.{_+_, _<_};
+ghost use Prim.Native.Nat.{_+_, _<_, _≤_};
 ghost use lib.Dec.{eqb, ltb};
-ghost use Rattle.graph.specs.Limits.{maxEdges};
+ghost use Rattle.graph.specs.Limits.{maxVertices, maxEdges, maxWeight};
 ghost use Rattle.graph.specs.Refusal.{accept, refuseIf};
 ghost use Rattle.graph.specs.Edge.{edge, edges, precedes};
 ghost use Rattle.graph.specs.Table.{isWeight, isEdge, rules, size, shortTable, table, bareFaults};
-ghost use Rattle.graph.specs.Code.{told, Room, columns, keeps};
+ghost use Rattle.graph.specs.Code.{told, Room, columns, keeps, rankOf};
 
 // Number `k` at place `i` where the test holds.
 pub fn refuse_if(test: bool, k: u32, i: usize) -> Judged
@@ -38,11 +38,17 @@ pub fn is_edge(n: u32, t: u32, h: u32, w: u32) -> bool
     (t < n) & ((h < n) & ((t != h) & is_weight(w)))
 }
 
-// Table order: by tail, then head.
+// Table order: by tail, head, weight.
 pub fn in_order(t: u32, h: u32, w: u32, u: u32, g: u32, x: u32) -> bool
     ensures { λ r. ⌜ r ≡ precedes (edge t h w) (edge u g x) ⌝ }
 {
-    (t < u) | ((t == u) & (h < g))
+    if t != u {
+        return t < u;
+    }
+    if h != g {
+        return h < g;
+    }
+    w < x
 }
 
 // Number 1: n is 0 or over `MAX_VERTICES`.
@@ -71,7 +77,8 @@ fn follows(n: u32, tails: &[u32], heads: &[u32], weights: &[u32], k: usize) -> b
     let j = k - 1;
     let u = tails[k];
     let g = heads[k];
-    in_order(tails[j], heads[j], 0, u, g, 0) & is_edge(n, u, g, weights[k])
+    let x = weights[k];
+    in_order(tails[j], heads[j], weights[j], u, g, x) & is_edge(n, u, g, x)
 }
 
 // The table's rules: number 4 at the first record below the count that breaks them.
@@ -95,26 +102,44 @@ fn judge_rules(n: u32, tails: &[u32], heads: &[u32], weights: &[u32], count: usi
     Judged::Fine
 }
 
-// Whether an edge keeps the rules after the pair before it, but for the bound of its tail. There is no branch, so that `are_sound` goes by vectors.
-fn is_next(n: u32, t: u32, h: u32, u: u32, g: u32, w: u32) -> bool
-    ensures { λ r. ⌜ r ≡ ((ltb g n && (not (eqb u g) && isWeight w)) && precedes (edge t h 0) (edge u g w)) ⌝ }
+// The order of edges as one word: of edges with tails and heads below `MAX_VERTICES` and weights to `MAX_WEIGHT` the one that comes before has the lesser.
+fn rank_of(t: u32, h: u32, w: u32) -> u32
+    ensures { λ r. ⌜ (t < maxVertices → h < maxVertices → w ≤ maxWeight → r ≡ rankOf (edge t h w)) ⌝ }
 {
-    ((g < n) & ((u != g) & is_weight(w))) & in_order(t, h, 0, u, g, w)
+    (t << 24) | (h << 16) | w
 }
 
-// Whether all records keep the rules. It goes over all of them and never stops early. Tails never fall, so the bound of the last is that of all.
+// Whether an edge after one of the rank `last` keeps the rules, but for the bound of its tail and the greatest weight, where its rank is `next`. There is
+// no branch, so that `are_sound` goes by vectors.
+fn is_next(n: u32, t: u32, h: u32, w: u32, last: u32, next: u32) -> bool
+    ensures { λ r. ⌜ r ≡ (ltb h n && (not (eqb t h) && (ltb 0 w && ltb last next))) ⌝ }
+{
+    (h < n) & ((t != h) & ((0 < w) & (last < next)))
+}
+
+// Whether all records keep the rules. It goes over all of them and never stops early. Tails never fall, so the bound of the last is that of all; no tail
+// is above the bits of all of them put together, and no weight above those of all weights.
 fn are_sound(n: u32, tails: &[u32], heads: &[u32], weights: &[u32], count: usize) -> bool
     requires { ⌜ (0 < count) × Room count (now tails) (now heads) (now weights) ⌝ }
     ensures { λ r. ⌜ (r ≡ true → accept ≡ rules n (edges (now (tails .entry)) (now (heads .entry)) (now (weights .entry)) count)) ⌝ }
 {
-    let mut all = is_edge(n, tails[0], heads[0], weights[0]);
+    let mut tall = tails[0];
+    let mut wide = weights[0];
+    let mut all = (n <= MAX_VERTICES) & is_edge(n, tall, heads[0], wide);
+    let mut last = rank_of(tall, heads[0], wide);
     let mut k = 1;
     while k < count {
-        let j = k - 1;
-        all = all & is_next(n, tails[j], heads[j], tails[k], heads[k], weights[k]);
+        let t = tails[k];
+        let h = heads[k];
+        let w = weights[k];
+        let next = rank_of(t, h, w);
+        all = all & is_next(n, t, h, w, last, next);
+        tall = tall | t;
+        wide = wide | w;
+        last = next;
         k += 1;
     }
-    all & (tails[count - 1] < n)
+    all & ((tall < MAX_VERTICES) & ((wide <= MAX_WEIGHT) & (tails[count - 1] < n)))
 }
 
 // Number 4: a count over `MAX_EDGES`, or the first record that breaks the rules. No function that goes by vectors is called, so that none saves

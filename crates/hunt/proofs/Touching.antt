@@ -62,7 +62,7 @@ late ms h false = by-test (marked ms h) (λ q. rw q) (λ q. rw q)
 module _ {P : Property} {n s : ℕ} {vs is os : List ℕ} {u : ℕ} {on : Bool} {bs gs : List ℕ} where
   pub touched-none : Hunting n vs is os bs gs → (j k : ℕ) → k ≡ 0 → Touched P n s vs is os u on j k bs gs bs gs
   unfolding sweep partIn
-  touched-none h j k e = rw e record { marks = h .marks; todo = h .todo; grown = grown-none n (waitingOf bs) (waitingOf gs); swept = λ fs f o. refl }
+  touched-none h j k e = rw e record { marks = h .marks; todo = h .todo; grown = grown-none n (waitingOf bs) (waitingOf gs); swept = λ es fs f o. refl }
 
   -- One edge more, at place j. No arc of u leads to u, so that u is marked or not as it was at first.
   module _ {cs ks : List ℕ} (i : ℕ) (at : Touched P n s vs is os u on i (getD is (u + 1) 0 - i) bs gs cs ks) (hunting : Hunting n vs is os bs gs) (vertex : u < n)
@@ -79,17 +79,17 @@ module _ {P : Property} {n s : ℕ} {vs is os : List ℕ} {u : ℕ} {on : Bool} 
     inside : h < n
     inside = fit-arc (hunting .index) u j vertex (omega arith) (omega arith) .1
 
-    stays : (fs : List Edge) → Counterparts n fs is os → marked (sweep P fs s vs (part is u i (getD is (u + 1) 0 - i)) (waitingOf bs)) u ≡ marked (waitingOf bs) u
-    stays fs f = sweep-elsewhere P fs s vs u (part is u i (getD is (u + 1) 0 - i)) (λ e m. let z = mem-part is u i (getD is (u + 1) 0 - i) e m in
+    stays : (es fs : List Edge) → Counterparts n es fs is os → marked (sweep P es fs s vs (part is u i (getD is (u + 1) 0 - i)) (waitingOf bs)) u ≡ marked (waitingOf bs) u
+    stays es fs f = sweep-elsewhere P es fs s vs u (part is u i (getD is (u + 1) 0 - i)) (λ e m. let z = mem-part is u i (getD is (u + 1) 0 - i) e m in
         let a = z .1 in let b = z .2 in rw (sym (z .3)) (f .loopless u (z .0) vertex (omega arith) (omega arith))) (waitingOf bs)
 
     module _ (cs′ ks′ : List ℕ) (p : waitingOf cs′ ≡ cond marking (set (waitingOf cs) h true) (waitingOf cs)) (q : waitingOf ks′ ≡ cond marking (set (waitingOf ks) (fromEnd n h) true) (waitingOf ks)) where
-      one : (fs : List Edge) → Counterparts n fs is os → on ≡ marked (waitingOf cs) u → waitingOf cs′ ≡ mark P fs s vs (waitingOf cs) (edgeOf is u j)
+      one : (es fs : List Edge) → Counterparts n es fs is os → on ≡ marked (waitingOf cs) u → waitingOf cs′ ≡ mark P es fs s vs (waitingOf cs) (edgeOf is u j)
       unfolding mark
-      one fs f o =
+      one es fs f o =
           let e = edgeOf is u j in
           let a = same-held P s u h (e .weight) vs (omega (arith, hunting .words)) (omega (arith, inside, hunting .words)) in
-          p ∙ rw (a, o, sym (f .other u j vertex (omega arith) (omega arith)), or-comm (marked (waitingOf cs) u) (removed P fs e)) (late (waitingOf cs) h (touches P fs s vs (waitingOf cs) e))
+          p ∙ rw (a, o, sym (f .other u j vertex (omega arith) (omega arith)), or-comm (marked (waitingOf cs) u) (removed P es fs e)) (late (waitingOf cs) h (touches P es fs s vs (waitingOf cs) e))
 
       pub touched-turn : Touched P n s vs is os u on (i - 1) (getD is (u + 1) 0 - (i - 1)) bs gs cs′ ks′
       unfolding sweep partIn
@@ -101,6 +101,6 @@ module _ {P : Property} {n s : ℕ} {vs is os : List ℕ} {u : ℕ} {on : Bool} 
             todo = marks-if n ks ks′ (fromEnd n h) marking (omega (arith, inside)) q (at .todo);
             grown = grown-then (at .grown) (rw (p, q) (grown-if n h marking (waitingOf cs) (waitingOf ks) inside (omega (arith, inside, at .marks .bits, at .marks .few))
                 (omega (arith, inside, at .todo .bits, at .todo .few)) (λ y. not-true _ (both (not (marked (waitingOf cs) h)) _ y .0))));
-            swept = λ fs f o. let z = at .swept fs f o in
-                rw (e, g) (one fs f (o ∙ sym (stays fs f) ∙ ap (λ l. marked l u) (sym z)) ∙ ap (λ l. mark P fs s vs l (edgeOf is u j)) z);
+            swept = λ es fs f o. let z = at .swept es fs f o in
+                rw (e, g) (one es fs f (o ∙ sym (stays es fs f) ∙ ap (λ l. marked l u) (sym z)) ∙ ap (λ l. mark P es fs s vs l (edgeOf is u j)) z);
           }

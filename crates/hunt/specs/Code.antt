@@ -6,12 +6,12 @@
 --                                   or the edge is lost where the weight of o stands in its place
 --   fromEnd n t                  == the number of vertex t of n from the far end, and the vertex of number t
 --   Hunting n vs is os bs gs     == what a hunt goes over lies in range: a row vs, an index is, arcs os beside it, marks bs and vertices to do, gs
---   Counterparts n fs is os      == os has beside each arc what its pair has in fs, and no arc leads to the vertex that it leaves
+--   Counterparts n es fs is os   == os has beside each arc of an index of es what stands in its place in fs, and no arc leads to the vertex that it leaves
 --   Fresh n ms ms′ k             == number k stands for a vertex that is marked in ms′ and was not in ms
 --   Grown n ms gs ms′ gs′        == marks ms with gs to do became ms′ and gs′: none was taken away, each new mark is to do, and nothing else is to do anew
 --   Touched P n s vs is os u on j k bs gs bs′ gs′ == the k edges of u at places from j on were taken: marks and who is to do grew, and where os has the
 --                                   counterparts and on says whether u is marked, the marks are those of the pass over these edges from last to first
---   Shut P n fs s vs is ms gs    == an edge of a vertex that is not to do has its head marked if it would mark it
+--   Shut P n es fs s vs is ms gs == an edge of a vertex that is not to do has its head marked if it would mark it
 --   SweepDone P n s vs is os bs gs bs′ gs′ == a pass was made: no mark was taken away, and what is to do then was marked in it; where os has the
 --                                   counterparts, from marks that are shut its marks are those of the pass over every edge of the index from last to
 --                                   first, and they are shut again
@@ -59,8 +59,8 @@ pub record Hunting (n : ℕ) (vs is os bs gs : List ℕ) : Type 0 where
   pub marks : Marks n bs
   pub todo : Marks n gs
 
-pub record Counterparts (n : ℕ) (fs : List Edge) (is os : List ℕ) : Type 0 where
-  pub other : Faces n fs is os
+pub record Counterparts (n : ℕ) (es fs : List Edge) (is os : List ℕ) : Type 0 where
+  pub other : Faces n es fs is os
   pub loopless : (u j : ℕ) → u < n → getD is u 0 ≤ j → j < getD is (u + 1) 0 → arcHead (getD is j 0) ≢ u
 
 abbrev pub Fresh : ℕ → List Bool → List Bool → ℕ → Type 0
@@ -76,22 +76,22 @@ pub record Touched (P : Property) (n s : ℕ) (vs is os : List ℕ) (u : ℕ) (o
   pub marks : Marks n bs′
   pub todo : Marks n gs′
   pub grown : Grown n (waitingOf bs) (waitingOf gs) (waitingOf bs′) (waitingOf gs′)
-  pub swept : (fs : List Edge) → Counterparts n fs is os → on ≡ marked (waitingOf bs) u → waitingOf bs′ ≡ sweep P fs s vs (part is u j k) (waitingOf bs)
+  pub swept : (es fs : List Edge) → Counterparts n es fs is os → on ≡ marked (waitingOf bs) u → waitingOf bs′ ≡ sweep P es fs s vs (part is u j k) (waitingOf bs)
 
-abbrev pub Shut : Property → ℕ → List Edge → ℕ → List ℕ → List ℕ → List Bool → List Bool → Type 0
-Shut P n fs s vs is ms gs = (u : ℕ) → u < n → marked gs (fromEnd n u) ≡ false → Closed P (own is u) fs s vs ms
+abbrev pub Shut : Property → ℕ → List Edge → List Edge → ℕ → List ℕ → List ℕ → List Bool → List Bool → Type 0
+Shut P n es fs s vs is ms gs = (u : ℕ) → u < n → marked gs (fromEnd n u) ≡ false → Closed P es fs s vs (own is u) ms
 
 pub record SweepDone (P : Property) (n s : ℕ) (vs is os bs gs bs′ gs′ : List ℕ) : Type 0 where
   pub marks : Marks n bs′
   pub todo : Marks n gs′
   pub keeps : (t : ℕ) → marked (waitingOf bs) t ≡ true → marked (waitingOf bs′) t ≡ true
   pub only : (k : ℕ) → marked (waitingOf gs′) k ≡ true → Fresh n (waitingOf bs) (waitingOf bs′) k
-  pub swept : (fs : List Edge) → Counterparts n fs is os → Shut P n fs s vs is (waitingOf bs) (waitingOf gs)
-      → (waitingOf bs′ ≡ sweep P fs s vs (inOrder is 0 n) (waitingOf bs)) × Shut P n fs s vs is (waitingOf bs′) (waitingOf gs′)
+  pub swept : (es fs : List Edge) → Counterparts n es fs is os → Shut P n es fs s vs is (waitingOf bs) (waitingOf gs)
+      → (waitingOf bs′ ≡ sweep P es fs s vs (inOrder is 0 n) (waitingOf bs)) × Shut P n es fs s vs is (waitingOf bs′) (waitingOf gs′)
 
 -- ---- the first pass
 
 abbrev pub FirstSweep : Type 0
-FirstSweep = (P : Property) (n s : ℕ) (vs is os bs gs bs′ gs′ : List ℕ) (es fs : List Edge) → rules n es ≡ accept → Own n is es → Counterparts n fs is os
-    → waitingOf bs ≡ replicate capacity false → Shut P n fs s vs is (waitingOf bs) (waitingOf gs) → Descends P s vs es
+FirstSweep = (P : Property) (n s : ℕ) (vs is os bs gs bs′ gs′ : List ℕ) (es fs : List Edge) → rules n es ≡ accept → Own n is es → Counterparts n es fs is os
+    → waitingOf bs ≡ replicate capacity false → Shut P n es fs s vs is (waitingOf bs) (waitingOf gs) → Descends P s vs es
     → SweepDone P n s vs is os bs gs bs′ gs′ → bits n bs′ ≡ affected P es fs s vs n

@@ -28,7 +28,7 @@ pub fn is_held(p: u32, s: u32, v: u32, w: u32, h: u32, x: u32) -> bool
     (property::along(p, v, w) == x) & ((h != s) & (x != property::none(p)))
 }
 
-// Whether the weight `w` is lost to the property where its pair has the weight `other`, 0 for none: nothing or a worse weight is in its place.
+// Whether the weight `w` is lost to the property where `other` stands in its place, 0 for none: nothing, or a worse weight.
 pub fn is_lost(p: u32, w: u32, other: u32) -> bool
     ensures { λ r. ⌜ r ≡ lost (property p) w other ⌝ }
 {
@@ -161,7 +161,7 @@ pub fn hunt(
 )
     requires { ⌜ Hunting n (now words) (now old) (now other) (now marks) (now todo) ⌝ }
     ensures { λ _. ⌜ Marks n (now (marks .exit)) ⌝ }
-    ensures { λ _. ⌜ ((es fs : List Edge) → ((e : Edge) → List·Memᴰ e es → (e .tail < n) × (e .head < n)) → Own n (now (old .entry)) es → Counterparts n fs (now (old .entry)) (now (other .entry)) → Named (property p) es fs s (now (words .entry)) (waitingOf (now (marks .entry))) → Shut (property p) n fs s (now (words .entry)) (now (old .entry)) (waitingOf (now (marks .entry))) (waitingOf (now (todo .entry))) → bits n (now (marks .exit)) ≡ affected (property p) es fs s (now (words .entry)) n) ⌝ }
+    ensures { λ _. ⌜ ((es fs : List Edge) → ((e : Edge) → List·Memᴰ e es → (e .tail < n) × (e .head < n)) → Own n (now (old .entry)) es → Counterparts n es fs (now (old .entry)) (now (other .entry)) → Named (property p) es fs s (now (words .entry)) (waitingOf (now (marks .entry))) → Shut (property p) n es fs s (now (words .entry)) (now (old .entry)) (waitingOf (now (marks .entry))) (waitingOf (now (todo .entry))) → bits n (now (marks .exit)) ≡ affected (property p) es fs s (now (words .entry)) n) ⌝ }
 {
     while frontier::any(todo) {
         sweep(p, n, s, old, other, words, marks, todo);

@@ -1,118 +1,108 @@
--- The changes of a batch, judged and applied one by one: four lists read side by side, one change's refusals, what is left of a chain of
--- changes after one. Assumes nothing.
-use Rattle.property.proofs.Basics.{_≡_, refl, sym, ap, _∙_, _⊎_, inl, inr, true, false, not, _&&_, _||_, cond, List, [], _∷_, ℕ, zero, suc, _+_, _<_, _≤_, min, add-one, arith, length, getD, drop, ltb, eqb, lt-ltb, le-ltb, eq-eqb, ne-eqb, eqb-true, not-false}
+-- The changes of a batch, judged and applied one by one: one change's refusals, what is left of a chain of changes after one. Assumes nothing.
+use Rattle.property.proofs.Basics.{_≡_, sym, ap, _∙_, _⊎_, inl, inr, true, false, not, _&&_, _||_, cond, List, [], _∷_, ℕ, _+_, _<_, _≤_, add-one, arith, length, ltb, eqb, lt-ltb, le-ltb, eq-eqb, ne-eqb, eqb-true, not-false}
 use mathlib.Core.Bool.{and-false, or-false}
 use Rattle.graph.specs.declared.Found.the-variants.{At, Absent}
 use Rattle.graph.specs.declared.Judged.{Judged}
 use Rattle.graph.specs.declared.Judged.the-variants as judged
 use Rattle.graph.specs.Limits.{maxEdges}
 use Rattle.graph.specs.Refusal.{Verdict, accept, refuse, _▷_, refuseIf}
-use Rattle.graph.specs.Edge.{Edge, edge, edges}
-use Rattle.graph.specs.Table.{isWeight}
-use Rattle.graph.specs.Code.{Room, find, told}
+use Rattle.graph.specs.Edge.{Edge, edge, edges, among}
+use Rattle.graph.specs.Table.{isWeight, tableOrder}
+use Rattle.graph.specs.Code.{Room, edgeAt, find, told}
 use Rattle.graph.proofs.Verdicts.{then-accept, if-accept}
 use Rattle.graph.proofs.Order.{rules-accept, accept-rules}
-use Rattle.graph.proofs.Records.{room-less, edges-length}
-use Rattle.graph.proofs.Seek.{find-below}
-use Rattle.graph.proofs.Lookup.{found-present, absent-present}
+use Rattle.graph.proofs.Records.{room-less, edges-length, edges-at}
+use Rattle.graph.proofs.Tests.{both}
+use Rattle.graph.proofs.Edges.{same-eq}
+use Rattle.graph.proofs.Seek.{find-below, found-has, found-same, absent-has}
 use Rattle.items.specs.declared.Edited.{Edited}
 use Rattle.items.specs.declared.Edited.the-variants.{Count, Refused}
-use Rattle.network.specs.Change.{Change, edit, edits, item, items, words, against}
-use Rattle.items.specs.Code.{change, changes, verdict, Leaves}
+use Rattle.network.specs.Change.{Change, named, struck, inserts, comes, edit, edits, item, items, words, against}
+use Rattle.items.specs.Code.{change, verdict, Leaves}
 use Rattle.calls.specs.Code.{Tabled}
 use Rattle.network.proofs.Items.{item-good}
 
--- ---- four lists side by side
-
--- how many changes there are
-pub changes-length : (ks ts hs ws : List ℕ) → min (min (length ks) (length ts)) (min (length hs) (length ws)) ≡ length (changes ks ts hs ws)
-unfolding changes
-changes-length [] ts hs ws = omega arith
-changes-length (k ∷ ks) [] hs ws = omega arith
-changes-length (k ∷ ks) (t ∷ ts) [] ws = omega arith
-changes-length (k ∷ ks) (t ∷ ts) (h ∷ hs) [] = omega arith
-changes-length (k ∷ ks) (t ∷ ts) (h ∷ hs) (w ∷ ws) = let z = changes-length ks ts hs ws in omega arith
-
-changes-next : (ks ts hs ws : List ℕ) (k : ℕ) → k < length (changes ks ts hs ws)
-    → drop k (changes ks ts hs ws) ≡ change (getD ks k 0) (getD ts k 0) (getD hs k 0) (getD ws k 0) ∷ drop (suc k) (changes ks ts hs ws)
-unfolding changes
-changes-next [] ts hs ws k l = absurd (omega arith)
-changes-next (a ∷ ks) [] hs ws k l = absurd (omega arith)
-changes-next (a ∷ ks) (t ∷ ts) [] ws k l = absurd (omega arith)
-changes-next (a ∷ ks) (t ∷ ts) (h ∷ hs) [] k l = absurd (omega arith)
-changes-next (a ∷ ks) (t ∷ ts) (h ∷ hs) (w ∷ ws) zero l = refl
-changes-next (a ∷ ks) (t ∷ ts) (h ∷ hs) (w ∷ ws) (suc k) l = changes-next ks ts hs ws k (omega arith)
-
-pub changes-more : (ks ts hs ws : List ℕ) (k : ℕ) → k < length (changes ks ts hs ws)
-    → drop k (changes ks ts hs ws) ≡ change (getD ks k 0) (getD ts k 0) (getD hs k 0) (getD ws k 0) ∷ drop (k + 1) (changes ks ts hs ws)
-changes-more ks ts hs ws k l = rw (add-one) (changes-next ks ts hs ws k l)
-
 -- ---- a change's own words
 
-module _ (n i k t h w : ℕ) where
-  pub words-outside : (n ≤ t) ⊎ (n ≤ h) → refuse 6 i ≡ words n i (change k t h w)
+module _ (n i k t h w o : ℕ) where
+  pub words-outside : (n ≤ t) ⊎ (n ≤ h) → refuse 6 i ≡ words n i (change k t h w o)
   unfolding words refuseIf _▷_
   words-outside (inl a) = rw (le-ltb t n a)
   words-outside (inr a) = rw (le-ltb h n a, and-false)
 
   module _ (a : t < n) (b : h < n) where
-    pub words-unkind : (k ≡ 1 → ⊥) → (k ≡ 2 → ⊥) → (k ≡ 3 → ⊥) → refuse 7 i ≡ words n i (change k t h w)
+    pub words-unkind : (k ≡ 1 → ⊥) → (k ≡ 2 → ⊥) → (k ≡ 3 → ⊥) → refuse 7 i ≡ words n i (change k t h w o)
     unfolding words refuseIf _▷_
     words-unkind c d e = rw (lt-ltb t n a, lt-ltb h n b, ne-eqb k 1 c, ne-eqb k 2 d, ne-eqb k 3 e)
 
     module _ (c : (eqb k 1 || (eqb k 2 || eqb k 3)) ≡ true) where
-      pub words-loop : t ≡ h → refuse 8 i ≡ words n i (change k t h w)
+      pub words-loop : t ≡ h → refuse 8 i ≡ words n i (change k t h w o)
       unfolding words refuseIf _▷_
       words-loop d = rw (lt-ltb t n a, lt-ltb h n b, c, eq-eqb t h d)
 
-      pub words-rest : (t ≡ h → ⊥) → refuseIf (not (cond (eqb k 2) (eqb w 0) (isWeight w))) 9 i ≡ words n i (change k t h w)
+      pub words-rest : (t ≡ h → ⊥) → refuseIf (not (isWeight w && cond (eqb k 3) (isWeight o) (eqb o 0))) 9 i ≡ words n i (change k t h w o)
       unfolding words refuseIf _▷_
       words-rest d = rw (lt-ltb t n a, lt-ltb h n b, c, ne-eqb t h d)
 
--- where its words are good, a change that is neither an insert nor an update is a delete: of kind 2 and weight 0
-pub words-delete : (n i k t h w : ℕ) → (k ≡ 1 → ⊥) → (k ≡ 3 → ⊥) → words n i (change k t h w) ≡ accept → change k t h w ≡ change 2 t h 0
-unfolding words
-words-delete n i k t h w p q e =
-    let a = then-accept (refuseIf (not (ltb t n && ltb h n)) 6 i) _ e in
-    let b = then-accept (refuseIf (not (eqb k 1 || (eqb k 2 || eqb k 3))) 7 i) _ (a .1) in
-    let d = then-accept (refuseIf (eqb t h) 8 i) _ (b .1) in
-    let x : (eqb k 1 || (eqb k 2 || eqb k 3)) ≡ true = not-false _ (if-accept _ _ _ (b .0)) in
-    let y : cond (eqb k 2) (eqb w 0) (isWeight w) ≡ true = not-false _ (if-accept _ _ _ (d .1)) in
-    let u : eqb k 2 ≡ true = sym (or-false (eqb k 2)) ∙ (rw (ne-eqb k 1 p, ne-eqb k 3 q) at x) in
-    let v : w ≡ 0 = eqb-true _ _ (rw u at y) in
-    rw (eqb-true k 2 u, v)
+  -- where its words are good, a change that is not an update has the old weight 0; where it is no insert either, it is a delete
+  module _ (q : k ≡ 3 → ⊥) (e : words n i (change k t h w o) ≡ accept) where
+    plain : ((eqb k 1 || (eqb k 2 || false)) ≡ true) × (o ≡ 0)
+    unfolding words
+    plain =
+        let a = then-accept (refuseIf (not (ltb t n && ltb h n)) 6 i) _ e in
+        let b = then-accept (refuseIf (not (eqb k 1 || (eqb k 2 || eqb k 3))) 7 i) _ (a .1) in
+        let d = then-accept (refuseIf (eqb t h) 8 i) _ (b .1) in
+        let x : (eqb k 1 || (eqb k 2 || eqb k 3)) ≡ true = not-false _ (if-accept _ _ _ (b .0)) in
+        let y = both (isWeight w) (cond (eqb k 3) (isWeight o) (eqb o 0)) (not-false _ (if-accept _ _ _ (d .1))) in
+        (rw (ne-eqb k 3 q) at x, eqb-true o 0 (rw (ne-eqb k 3 q) at (y .1)))
+
+    pub words-insert : k ≡ 1 → change k t h w o ≡ change 1 t h w 0
+    words-insert p = rw (p, plain .1)
+
+    pub words-delete : (k ≡ 1 → ⊥) → change k t h w o ≡ change 2 t h w 0
+    words-delete p = let u : eqb k 2 ≡ true = sym (or-false (eqb k 2)) ∙ (rw (ne-eqb k 1 p) at (plain .0)) in rw (eqb-true k 2 u, plain .1)
 
 -- ---- a change against the edges
 
 module _ (es : List Edge) (t h w i : ℕ) where
-  pub insert-present : (j : ℕ) → find (edge t h 0) es ≡ At j → refuse 10 i ≡ against i es (change 1 t h w)
+  pub insert-present : (j : ℕ) → find (edge t h w) es ≡ At j → refuse 10 i ≡ against i es (change 1 t h w 0)
   unfolding against refuseIf _▷_
-  insert-present j e = rw (found-present t h w es j e)
+  insert-present j e = rw (found-has tableOrder (edge t h w) es j e)
 
-  pub insert-full : find (edge t h 0) es ≡ Absent → maxEdges ≤ length es → refuse 12 i ≡ against i es (change 1 t h w)
+  pub insert-full : find (edge t h w) es ≡ Absent → maxEdges ≤ length es → refuse 12 i ≡ against i es (change 1 t h w 0)
   unfolding against refuseIf _▷_
-  insert-full e l = rw (absent-present t h w es e, le-ltb (length es) maxEdges l)
+  insert-full e l = rw (absent-has tableOrder (edge t h w) es e, le-ltb (length es) maxEdges l)
 
-  pub insert-fine : find (edge t h 0) es ≡ Absent → length es < maxEdges → accept ≡ against i es (change 1 t h w)
+  pub insert-fine : find (edge t h w) es ≡ Absent → length es < maxEdges → accept ≡ against i es (change 1 t h w 0)
   unfolding against refuseIf _▷_
-  insert-fine e l = rw (absent-present t h w es e, lt-ltb (length es) maxEdges l)
+  insert-fine e l = rw (absent-has tableOrder (edge t h w) es e, lt-ltb (length es) maxEdges l)
 
--- a delete or an update asks for its pair alone
-module _ (es : List Edge) (k t h w i : ℕ) (z : eqb k 1 ≡ false) where
-  pub against-absent : find (edge t h 0) es ≡ Absent → refuse 11 i ≡ against i es (change k t h w)
+  pub update-taken : (o : ℕ) → (not (eqb w o) && among es (edge t h w)) ≡ true → refuse 10 i ≡ against i es (change 3 t h w o)
   unfolding against refuseIf _▷_
-  against-absent e = rw (z, absent-present t h w es e)
+  update-taken o e = rw e
 
-  pub against-found : (j : ℕ) → find (edge t h 0) es ≡ At j → accept ≡ against i es (change k t h w)
+-- a delete, and an update that brings no edge that is there, ask for the edge that they strike
+module _ (es : List Edge) (c : Change) (i : ℕ) (z : inserts c ≡ false) (y : (comes c && among es (named c)) ≡ false) where
+  pub against-absent : find (struck c) es ≡ Absent → refuse 11 i ≡ against i es c
   unfolding against refuseIf _▷_
-  against-found j e = rw (z, found-present t h w es j e)
+  against-absent e = rw (y, z, absent-has tableOrder (struck c) es e)
 
--- a pair that is found stands below the count
+  pub against-found : (j : ℕ) → find (struck c) es ≡ At j → accept ≡ against i es c
+  unfolding against refuseIf _▷_
+  against-found j e = rw (y, z, found-has tableOrder (struck c) es j e)
+
+-- an edge that is found stands below the count
 pub found-below : (n m : ℕ) (ts hs ws : List ℕ) → Tabled n m ts hs ws → (e : Edge) (i : ℕ) → find e (edges ts hs ws m) ≡ At i → i < m
 found-below n m ts hs ws t e i f =
     let q = edges-length ts hs ws m (room-less (t .few) (t .room)) in
     let l = find-below _ e (edges ts hs ws m) i f in
     omega arith
+
+-- .. and has the words that were looked for
+pub found-words : (n m : ℕ) (ts hs ws : List ℕ) → Tabled n m ts hs ws → (t h o i : ℕ) → find (edge t h o) (edges ts hs ws m) ≡ At i → edgeAt ts hs ws i ≡ edge t h o
+found-words n m ts hs ws u t h o i f =
+    let r = room-less (u .few) (u .room) in
+    sym (edges-at ts hs ws m r i (found-below n m ts hs ws u (edge t h o) i f)) ∙ sym (same-eq _ _ (found-same tableOrder (edge t h o) (edges ts hs ws m) i f (edge 0 0 0)))
 
 -- ---- what an answer tells of the lists
 
@@ -142,13 +132,13 @@ pub item-words : (n i : ℕ) (es : List Edge) (c : Change) (r : Judged) (k j : �
 unfolding item _▷_ told
 item-words n i es c r k j e q = ap (λ v. v ▷ against i es c) (sym (ap told q) ∙ e)
 
-item-against : (n i : ℕ) (es : List Edge) (c : Change) {v : Verdict} → words n i c ≡ accept → v ≡ against i es c → v ≡ item n i es c
+pub item-against : (n i : ℕ) (es : List Edge) (c : Change) {v : Verdict} → words n i c ≡ accept → v ≡ against i es c → v ≡ item n i es c
 unfolding item _▷_
 item-against n i es c a e = rw a e
 
 -- a change that is another by its words, as by the kind that a branch takes it for
-pub change-kind : {k j : ℕ} (t h w : ℕ) → k ≡ j → change k t h w ≡ change j t h w
-change-kind t h w e = rw e
+pub change-kind : {k j : ℕ} (t h w o : ℕ) → k ≡ j → change k t h w o ≡ change j t h w o
+change-kind t h w o e = rw e
 
 pub words-as : (n i : ℕ) (c d : Change) → c ≡ d → words n i c ≡ accept → words n i d ≡ accept
 words-as n i c d q a = rw q at a

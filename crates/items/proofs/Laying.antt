@@ -1,40 +1,90 @@
--- The changes of a batch whose words stand in four lists of 1,024, one after the other: the parts of that list side by side are these changes. Assumes nothing.
-use Rattle.property.proofs.Basics.{_≡_, sym, ap, subst, _∙_, List, ℕ, _+_, _-_, _*_, _<_, _≤_, add-zero, arith, length, getD, take, drop, length-drop, getD-take, getD-drop, length-take-le}
-use lib.Seq.{ext-getD}
-use native.Mathlib.Nat.{add-sub-cancel-left}
+-- The changes of a batch whose words stand in five lists of 1,024, one after the other in one: what is put there is read there. Assumes nothing.
+--
+--   wordOf c j       == word j of a change: kind, tail, head, weight, old weight
+--   stored xs i c k  == the five lists in xs after words 0 to k - 1 of c went to place i of the first k
+use Rattle.property.proofs.Basics.{_≡_, refl, sym, ap, _∙_, List, [], _∷_, ℕ, zero, suc, _+_, _*_, _<_, _≤_, min, zero-add, add-one, arith, length, getD, set, take, drop, length-map, length-drop, length-set, length-take-le, List·getD-map, getD-set-same, getD-set-other, getD-take, getD-drop, drop-cons, take-all, ltb, eqb, ltb-true, ltb-false, eqb-true, eqb-false}
+use Rattle.property.proofs.Tests.{by-test}
 use Rattle.graph.specs.Limits.{maxBatch}
 use Rattle.network.specs.Change.{Change}
-use Rattle.items.specs.Code.{change, changes, Laid}
-use Rattle.items.proofs.Editing.{changes-length, changes-more}
+use Rattle.items.specs.Code.{change, changeOf, changesOf, changeAt, Laid, putChange, filled}
 
 -- what is read past the last of them
 abbrev none : Change
-none = change 0 0 0 0
+none = change 0 0 0 0 0
 
--- lists that are as long as the changes, and hold their words place by place, are these changes
-changes-are : (ks ts hs ws : List ℕ) (cs : List Change) → length ks ≡ length cs → length ts ≡ length cs → length hs ≡ length cs → length ws ≡ length cs
-    → ((i : ℕ) → i < length cs → change (getD ks i 0) (getD ts i 0) (getD hs i 0) (getD ws i 0) ≡ getD cs i none) → changes ks ts hs ws ≡ cs
-changes-are ks ts hs ws cs a b d e f =
-    let xs = changes ks ts hs ws in
-    let m : length xs ≡ length cs = omega (arith, changes-length ks ts hs ws) in
-    ext-getD none xs cs m
-    (λ i l. sym (ap (λ k. getD xs k none) (add-zero i)) ∙ sym (getD-drop i xs 0 none) ∙ ap (λ zs. getD zs 0 none) (changes-more ks ts hs ws i l) ∙ f i (omega arith))
+-- ---- the words of one change, list after list
 
--- a list of the four, from place m of xs on
-abbrev listAt : ℕ → ℕ → List ℕ → List ℕ
-listAt k m xs = take k (drop m xs)
+abbrev wordOf : Change → ℕ → ℕ
+wordOf c j = getD (c .kind ∷ c .tail ∷ c .head ∷ c .weight ∷ c .old ∷ []) j 0
 
-list-length : (k m : ℕ) (xs : List ℕ) → m + k ≤ length xs → length (listAt k m xs) ≡ k
-list-length k m xs h = length-take-le k (drop m xs) (let z = length-drop m xs in omega arith)
+abbrev stored : List ℕ → ℕ → Change → ℕ → List ℕ
+stored xs i c zero = xs
+stored xs i c (suc k) = set (stored xs i c k) (k * maxBatch + i) (wordOf c k)
 
-list-word : (k m : ℕ) (xs : List ℕ) (i : ℕ) → i < k → getD (listAt k m xs) i 0 ≡ getD xs (m + i) 0
-list-word k m xs i h = getD-take k (drop m xs) i 0 h ∙ getD-drop m xs i 0
+module _ (xs : List ℕ) (i : ℕ) (c : Change) (f : i < maxBatch) where
+  stored-length : (k : ℕ) → length (stored xs i c k) ≡ length xs
+  stored-length zero = refl
+  stored-length (suc k) = simp (length-set, stored-length k)
 
--- the parts that go from place m to place m + k hold the changes
-pub laid-parts : (k : ℕ) (cs : List Change) (xs : List ℕ) → Laid k cs xs → k ≤ maxBatch → length xs ≡ 4 * maxBatch
-    → changes (take k xs) (listAt (maxBatch + k - maxBatch) maxBatch xs) (listAt (2 * maxBatch + k - 2 * maxBatch) (2 * maxBatch) xs) (listAt (3 * maxBatch + k - 3 * maxBatch) (3 * maxBatch) xs) ≡ cs
-laid-parts k cs xs l f e = rw (add-sub-cancel-left maxBatch k, add-sub-cancel-left (2 * maxBatch) k, add-sub-cancel-left (3 * maxBatch) k)
-    (changes-are (take k xs) (listAt k maxBatch xs) (listAt k (2 * maxBatch) xs) (listAt k (3 * maxBatch) xs) cs
-    (length-take-le k xs (omega arith) ∙ sym (l .size)) (list-length k maxBatch xs (omega arith) ∙ sym (l .size)) (list-length k (2 * maxBatch) xs (omega arith) ∙ sym (l .size)) (list-length k (3 * maxBatch) xs (omega arith) ∙ sym (l .size))
-    (λ i h. let j : i < k = subst (λ (m : ℕ). i < m) (l .size) h in
-    rw (getD-take k xs i 0 j, list-word k maxBatch xs i j, list-word k (2 * maxBatch) xs i j, list-word k (3 * maxBatch) xs i j) (l .words i j (omega arith))))
+  -- at its place each list holds its word, and no other place of any list changes
+  stored-there : (k j : ℕ) → j < k → k * maxBatch ≤ length xs → getD (stored xs i c k) (j * maxBatch + i) 0 ≡ wordOf c j
+  stored-there zero j l e = absurd (omega arith)
+  stored-there (suc k) j l e = by-test (eqb j k)
+      (λ q. rw (eqb-true j k q) (getD-set-same (stored xs i c k) (k * maxBatch + i) (wordOf c k) 0 (omega (arith, stored-length k))))
+      (λ q. let n = eqb-false j k q in getD-set-other (stored xs i c k) (k * maxBatch + i) (j * maxBatch + i) (wordOf c k) 0 (λ h. omega arith) ∙ stored-there k j (omega arith) (omega arith))
+
+  stored-elsewhere : (k j m : ℕ) → m < maxBatch → (m ≡ i → ⊥) → getD (stored xs i c k) (j * maxBatch + m) 0 ≡ getD xs (j * maxBatch + m) 0
+  stored-elsewhere zero j m a n = refl
+  stored-elsewhere (suc k) j m a n = getD-set-other (stored xs i c k) (k * maxBatch + i) (j * maxBatch + m) (wordOf c k) 0 (λ h. n (omega arith)) ∙ stored-elsewhere k j m a n
+
+  stored-all : putChange xs i c ≡ stored xs i c 5
+  stored-all = rw (zero-add i)
+
+-- ---- all changes
+
+pub filled-length : (c : ℕ → Change) (xs : List ℕ) (k : ℕ) → length (filled c xs k) ≡ length xs
+filled-length c xs zero = refl
+filled-length c xs (suc k) = simp (length-set, filled-length c xs k)
+
+pub filled-more : (c : ℕ → Change) (xs : List ℕ) (k : ℕ) → putChange (filled c xs k) k (c k) ≡ filled c xs (k + 1)
+filled-more c xs k = sym (ap (filled c xs) (add-one k))
+
+module _ (c : ℕ → Change) (xs : List ℕ) (e : length xs ≡ 5 * maxBatch) where
+  -- the words of change i, below k, are read at place i: the last is put there now, an earlier one is left there
+  filled-words : (k : ℕ) → k ≤ maxBatch → (j i : ℕ) → j < 5 → i < k → getD (filled c xs k) (j * maxBatch + i) 0 ≡ wordOf (c i) j
+  filled-words zero f j i a b = absurd (omega arith)
+  filled-words (suc k) f j i a b =
+      let ys = filled c xs k in
+      let y = filled-length c xs k in
+      rw (stored-all ys k (c k) (omega arith))
+      (by-test (ltb i k)
+      (λ q. let h = ltb-true i k q in stored-elsewhere ys k (c k) (omega arith) 5 j i (omega arith) (λ z. omega arith) ∙ filled-words k (omega arith) j i a h)
+      (λ q. let h = ltb-false i k q in let z : i ≡ k = omega arith in rw z (stored-there ys k (c k) (omega arith) 5 j a (omega arith))))
+
+  pub filled-laid : (cs : List Change) (m k : ℕ) → length cs ≡ m → k ≡ min m maxBatch → ((i : ℕ) → i < m → c i ≡ getD cs i none) → {us : List ℕ} → us ≡ filled c xs k → Laid m cs us
+  filled-laid cs m k l s h q = record {
+    size = l;
+    words = λ i a b.
+        let w : (j : ℕ) → j < 5 → getD (filled c xs k) (j * maxBatch + i) 0 ≡ wordOf (c i) j = λ j n. filled-words k (omega arith) j i n (omega arith) in
+        rw (q, ap (λ (p : ℕ). getD (filled c xs k) p 0) (sym (zero-add i)) ∙ w 0 (omega arith), w 1 (omega arith), w 2 (omega arith), w 3 (omega arith), w 4 (omega arith)) (h i a);
+  }
+
+-- the size changes from index from on
+module _ (cs : List (List ℕ)) (from size : ℕ) (fits : from + size ≤ length cs) where
+  pub part-length : length (take size (drop from (changesOf cs))) ≡ size
+  part-length = length-take-le size (drop from (changesOf cs)) (omega (arith, length-drop from (changesOf cs), length-map cs changeOf))
+
+  pub part-at : (i : ℕ) → i < size → changeOf (getD cs (from + i) []) ≡ getD (take size (drop from (changesOf cs))) i none
+  part-at i l = sym (getD-take size (drop from (changesOf cs)) i none l ∙ getD-drop from (changesOf cs) i none ∙ List·getD-map changeOf cs (from + i) [])
+
+-- all of them
+pub part-all : (cs : List (List ℕ)) (k : ℕ) → length cs ≤ k → take k (drop 0 (changesOf cs)) ≡ changesOf cs
+part-all cs k h = take-all k (changesOf cs) (omega (arith, length-map cs changeOf))
+
+-- ---- change after change
+
+-- what is left of the changes from index i on is the one at i and the rest
+pub laid-more : (k : ℕ) (cs : List Change) (xs : List ℕ) → Laid k cs xs → (i : ℕ) → i < k → i < maxBatch → drop i cs ≡ changeAt xs i ∷ drop (i + 1) cs
+laid-more k cs xs l i h b =
+    let z = l .size in
+    drop-cons cs i none (omega arith) ∙ rw (← (l .words i h b), add-one)

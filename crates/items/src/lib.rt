@@ -1,28 +1,36 @@
 // The changes of a batch, item by item, on a scratch table: each is judged against the edges as earlier ones left them.
+pub mod lay;
+pub mod retune;
+
 use graph::Found;
 use graph::Judged;
 use graph::edit;
 use graph::rules;
 ghost use mathlib.Core.Path.{_≡_};
-ghost use mathlib.Core.Bool.{cond};
+ghost use mathlib.Core.Bool.{not, _&&_, cond};
+ghost use mathlib.Core.List.{List};
+ghost use Prim.Native.Nat.{_*_, _≤_};
 ghost use lib.ListN.{length};
 ghost use lib.Dec.{eqb};
+ghost use Rattle.graph.specs.Limits.{maxBatch};
 ghost use Rattle.graph.specs.Refusal.{accept};
-ghost use Rattle.graph.specs.Edge.{edges};
+ghost use Rattle.graph.specs.Edge.{edge, edges, among};
 ghost use Rattle.graph.specs.Table.{isWeight};
 ghost use Rattle.graph.specs.Code.{told};
-ghost use Rattle.network.specs.Change.{edit, edits, item, items, words, against};
-ghost use Rattle.items.specs.Code.{change, changes, verdict, Leaves};
+ghost use Rattle.network.specs.Change.{Change, edit, edits, item, items, words, against};
+ghost use Rattle.items.specs.Code.{change, verdict, Laid, Leaves};
 ghost use Rattle.calls.specs.Code.{Tabled};
 
-// A batch in one list: the kinds of the longest batch, and where its tails, heads and weights start.
+// A batch in one list: the kinds of the longest batch, and where its tails, heads, weights and old weights start.
 pub const TAILS: usize = graph::MAX_BATCH;
 
 pub const HEADS: usize = 2 * graph::MAX_BATCH;
 
 pub const WEIGHTS: usize = 3 * graph::MAX_BATCH;
 
-pub const BATCH_WORDS: usize = 4 * graph::MAX_BATCH;
+pub const OLDS: usize = 4 * graph::MAX_BATCH;
+
+pub const BATCH_WORDS: usize = 5 * graph::MAX_BATCH;
 
 // The count of the table after changes, or the number and place of the one that is refused.
 pub enum Edited {
@@ -30,20 +38,20 @@ pub enum Edited {
     Refused(u32, usize),
 }
 
-// Whether a weight suits its change: a delete's is 0, any other's 1 to `MAX_WEIGHT`.
-fn is_suited(kind: u32, w: u32) -> bool
-    ensures { λ r. ⌜ r ≡ cond (eqb kind 2) (eqb w 0) (isWeight w) ⌝ }
+// Whether an old weight suits its change: an update's is 1 to `MAX_WEIGHT`, any other's 0.
+fn is_suited(kind: u32, old: u32) -> bool
+    ensures { λ r. ⌜ r ≡ cond (eqb kind 3) (isWeight old) (eqb old 0) ⌝ }
 {
-    if kind == 2 {
-        w == 0
+    if kind == 3 {
+        rules::is_weight(old)
     } else {
-        rules::is_weight(w)
+        old == 0
     }
 }
 
 // Numbers 6 to 9 of a change: those of its own words.
-fn judge_words(n: u32, kind: u32, t: u32, h: u32, w: u32, place: usize) -> Judged
-    ensures { λ r. ⌜ told r ≡ words n place (change kind t h w) ⌝ }
+fn judge_words(n: u32, kind: u32, t: u32, h: u32, w: u32, old: u32, place: usize) -> Judged
+    ensures { λ r. ⌜ told r ≡ words n place (change kind t h w old) ⌝ }
 {
     if t >= n || h >= n {
         return Judged::Refused(6, place);
@@ -54,7 +62,7 @@ fn judge_words(n: u32, kind: u32, t: u32, h: u32, w: u32, place: usize) -> Judge
     if t == h {
         return Judged::Refused(8, place);
     }
-    rules::refuse_if(!is_suited(kind, w), 9, place)
+    rules::refuse_if(!(rules::is_weight(w) & is_suited(kind, old)), 9, place)
 }
 
 // An insert whose own words are good: numbers 10 and 12, or one edge more.
@@ -70,11 +78,11 @@ fn insert_item(
     place: usize,
 ) -> Edited
     requires { ⌜ Tabled n count (now tails) (now heads) (now weights) ⌝ }
-    requires { ⌜ words n place (change 1 t h w) ≡ accept ⌝ }
-    ensures { λ r. ⌜ verdict r ≡ against place (edges (now (tails .entry)) (now (heads .entry)) (now (weights .entry)) count) (change 1 t h w) ⌝ }
-    ensures { λ r. ⌜ Leaves n r (now (tails .exit)) (now (heads .exit)) (now (weights .exit)) (edit (edges (now (tails .entry)) (now (heads .entry)) (now (weights .entry)) count) (change 1 t h w)) ⌝ }
+    requires { ⌜ words n place (change 1 t h w 0) ≡ accept ⌝ }
+    ensures { λ r. ⌜ verdict r ≡ against place (edges (now (tails .entry)) (now (heads .entry)) (now (weights .entry)) count) (change 1 t h w 0) ⌝ }
+    ensures { λ r. ⌜ Leaves n r (now (tails .exit)) (now (heads .exit)) (now (weights .exit)) (edit (edges (now (tails .entry)) (now (heads .entry)) (now (weights .entry)) count) (change 1 t h w 0)) ⌝ }
 {
-    if let Found::At(_) = edit::find(n, t, h, tails, heads, weights, count) {
+    if let Found::At(_) = edit::find(n, t, h, w, tails, heads, weights, count) {
         return Edited::Refused(10, place);
     }
     if count >= graph::MAX_EDGES {
@@ -89,30 +97,6 @@ fn delete_item(
     n: u32,
     t: u32,
     h: u32,
-    tails: &mut [u32],
-    heads: &mut [u32],
-    weights: &mut [u32],
-    count: usize,
-    place: usize,
-) -> Edited
-    requires { ⌜ Tabled n count (now tails) (now heads) (now weights) ⌝ }
-    requires { ⌜ words n place (change 2 t h 0) ≡ accept ⌝ }
-    ensures { λ r. ⌜ verdict r ≡ against place (edges (now (tails .entry)) (now (heads .entry)) (now (weights .entry)) count) (change 2 t h 0) ⌝ }
-    ensures { λ r. ⌜ Leaves n r (now (tails .exit)) (now (heads .exit)) (now (weights .exit)) (edit (edges (now (tails .entry)) (now (heads .entry)) (now (weights .entry)) count) (change 2 t h 0)) ⌝ }
-{
-    let Found::At(i) = edit::find(n, t, h, tails, heads, weights, count) else {
-        return Edited::Refused(11, place);
-    };
-    edit::delete_at(i, tails, heads, weights, count);
-    Edited::Count(count - 1)
-}
-
-// An update whose own words are good looks for the edge of its pair, and goes no further unless it is found: number 11, or the edge with the weight
-// `w`.
-fn update_item(
-    n: u32,
-    t: u32,
-    h: u32,
     w: u32,
     tails: &mut [u32],
     heads: &mut [u32],
@@ -121,14 +105,67 @@ fn update_item(
     place: usize,
 ) -> Edited
     requires { ⌜ Tabled n count (now tails) (now heads) (now weights) ⌝ }
-    requires { ⌜ words n place (change 3 t h w) ≡ accept ⌝ }
-    ensures { λ r. ⌜ verdict r ≡ against place (edges (now (tails .entry)) (now (heads .entry)) (now (weights .entry)) count) (change 3 t h w) ⌝ }
-    ensures { λ r. ⌜ Leaves n r (now (tails .exit)) (now (heads .exit)) (now (weights .exit)) (edit (edges (now (tails .entry)) (now (heads .entry)) (now (weights .entry)) count) (change 3 t h w)) ⌝ }
+    requires { ⌜ words n place (change 2 t h w 0) ≡ accept ⌝ }
+    ensures { λ r. ⌜ verdict r ≡ against place (edges (now (tails .entry)) (now (heads .entry)) (now (weights .entry)) count) (change 2 t h w 0) ⌝ }
+    ensures { λ r. ⌜ Leaves n r (now (tails .exit)) (now (heads .exit)) (now (weights .exit)) (edit (edges (now (tails .entry)) (now (heads .entry)) (now (weights .entry)) count) (change 2 t h w 0)) ⌝ }
 {
-    let Found::At(i) = edit::find(n, t, h, tails, heads, weights, count) else {
+    let Found::At(i) = edit::find(n, t, h, w, tails, heads, weights, count) else {
         return Edited::Refused(11, place);
     };
-    weights[i] = w;
+    edit::delete_at(i, tails, heads, weights, count);
+    Edited::Count(count - 1)
+}
+
+// Whether an update to the weight `w` from another one finds an edge of that weight: number 10.
+fn is_taken(
+    n: u32,
+    t: u32,
+    h: u32,
+    w: u32,
+    old: u32,
+    tails: &[u32],
+    heads: &[u32],
+    weights: &[u32],
+    count: usize,
+) -> bool
+    requires { ⌜ Tabled n count (now tails) (now heads) (now weights) ⌝ }
+    ensures { λ r. ⌜ r ≡ (not (eqb w old) && among (edges (now (tails .entry)) (now (heads .entry)) (now (weights .entry)) count) (edge t h w)) ⌝ }
+{
+    if w == old {
+        return false;
+    }
+    match edit::find(n, t, h, w, tails, heads, weights, count) {
+        Found::At(_) => true,
+        Found::Absent => false,
+    }
+}
+
+// An update whose own words are good: number 10; then it looks for the edge of its old weight, and goes no further unless it is found: number 11, or that
+// edge has the weight `w`.
+fn update_item(
+    n: u32,
+    t: u32,
+    h: u32,
+    w: u32,
+    old: u32,
+    tails: &mut [u32],
+    heads: &mut [u32],
+    weights: &mut [u32],
+    count: usize,
+    place: usize,
+) -> Edited
+    requires { ⌜ Tabled n count (now tails) (now heads) (now weights) ⌝ }
+    requires { ⌜ words n place (change 3 t h w old) ≡ accept ⌝ }
+    ensures { λ r. ⌜ verdict r ≡ against place (edges (now (tails .entry)) (now (heads .entry)) (now (weights .entry)) count) (change 3 t h w old) ⌝ }
+    ensures { λ r. ⌜ Leaves n r (now (tails .exit)) (now (heads .exit)) (now (weights .exit)) (edit (edges (now (tails .entry)) (now (heads .entry)) (now (weights .entry)) count) (change 3 t h w old)) ⌝ }
+{
+    if is_taken(n, t, h, w, old, tails, heads, weights, count) {
+        return Edited::Refused(10, place);
+    }
+    let Found::At(i) = edit::find(n, t, h, old, tails, heads, weights, count) else {
+        return Edited::Refused(11, place);
+    };
+    retune::set_weight(n, i, w, tails, heads, weights, count);
     Edited::Count(count)
 }
 
@@ -139,6 +176,7 @@ fn apply_item(
     t: u32,
     h: u32,
     w: u32,
+    old: u32,
     tails: &mut [u32],
     heads: &mut [u32],
     weights: &mut [u32],
@@ -146,10 +184,10 @@ fn apply_item(
     place: usize,
 ) -> Edited
     requires { ⌜ Tabled n count (now tails) (now heads) (now weights) ⌝ }
-    ensures { λ r. ⌜ verdict r ≡ item n place (edges (now (tails .entry)) (now (heads .entry)) (now (weights .entry)) count) (change kind t h w) ⌝ }
-    ensures { λ r. ⌜ Leaves n r (now (tails .exit)) (now (heads .exit)) (now (weights .exit)) (edit (edges (now (tails .entry)) (now (heads .entry)) (now (weights .entry)) count) (change kind t h w)) ⌝ }
+    ensures { λ r. ⌜ verdict r ≡ item n place (edges (now (tails .entry)) (now (heads .entry)) (now (weights .entry)) count) (change kind t h w old) ⌝ }
+    ensures { λ r. ⌜ Leaves n r (now (tails .exit)) (now (heads .exit)) (now (weights .exit)) (edit (edges (now (tails .entry)) (now (heads .entry)) (now (weights .entry)) count) (change kind t h w old)) ⌝ }
 {
-    let own = judge_words(n, kind, t, h, w, place);
+    let own = judge_words(n, kind, t, h, w, old, place);
     if let Judged::Refused(k, i) = own {
         return Edited::Refused(k, i);
     }
@@ -157,47 +195,34 @@ fn apply_item(
         return insert_item(n, t, h, w, tails, heads, weights, count, place);
     }
     if kind == 3 {
-        return update_item(n, t, h, w, tails, heads, weights, count, place);
+        return update_item(n, t, h, w, old, tails, heads, weights, count, place);
     }
-    delete_item(n, t, h, tails, heads, weights, count, place)
+    delete_item(n, t, h, w, tails, heads, weights, count, place)
 }
 
-// How many changes four lists hold side by side: as many as the shortest has words.
-pub fn count_changes(kinds: &[u32], froms: &[u32], tos: &[u32], values: &[u32]) -> usize
-    ensures { λ r. ⌜ r ≡ length (changes (now (kinds .entry)) (now (froms .entry)) (now (tos .entry)) (now (values .entry))) ⌝ }
-{
-    graph::lesser(
-        graph::lesser(kinds.len(), froms.len()),
-        graph::lesser(tos.len(), values.len()),
-    )
-}
-
-// The changes of a batch, in order, on a scratch table: the new count, or the first that is refused.
+// The changes of a batch of `size`, laid in one list, in order, on a scratch table: the new count, or the first that is refused.
 pub fn apply_items(
     n: u32,
-    kinds: &[u32],
-    froms: &[u32],
-    tos: &[u32],
-    values: &[u32],
+    lists: &[u32],
+    size: usize,
     tails: &mut [u32],
     heads: &mut [u32],
     weights: &mut [u32],
     count: usize,
 ) -> Edited
-    requires { ⌜ Tabled n count (now tails) (now heads) (now weights) ⌝ }
-    ensures { λ r. ⌜ verdict r ≡ items n 0 (edges (now (tails .entry)) (now (heads .entry)) (now (weights .entry)) count) (changes (now (kinds .entry)) (now (froms .entry)) (now (tos .entry)) (now (values .entry))) ⌝ }
-    ensures { λ r. ⌜ Leaves n r (now (tails .exit)) (now (heads .exit)) (now (weights .exit)) (edits (edges (now (tails .entry)) (now (heads .entry)) (now (weights .entry)) count) (changes (now (kinds .entry)) (now (froms .entry)) (now (tos .entry)) (now (values .entry)))) ⌝ }
+    requires { ⌜ Tabled n count (now tails) (now heads) (now weights) × (size ≤ maxBatch) × (length (now lists) ≡ 5 * maxBatch) ⌝ }
+    ensures { λ r. ⌜ ((cs : List Change) → Laid size cs (now (lists .entry)) → (verdict r ≡ items n 0 (edges (now (tails .entry)) (now (heads .entry)) (now (weights .entry)) count) cs) × Leaves n r (now (tails .exit)) (now (heads .exit)) (now (weights .exit)) (edits (edges (now (tails .entry)) (now (heads .entry)) (now (weights .entry)) count) cs)) ⌝ }
 {
-    let size = count_changes(kinds, froms, tos, values);
     let mut m = count;
     let mut k = 0;
     while k < size {
         let edited = apply_item(
             n,
-            kinds[k],
-            froms[k],
-            tos[k],
-            values[k],
+            lists[k],
+            lists[TAILS + k],
+            lists[HEADS + k],
+            lists[WEIGHTS + k],
+            lists[OLDS + k],
             tails,
             heads,
             weights,

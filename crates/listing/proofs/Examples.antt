@@ -1,4 +1,4 @@
--- What the values program prints for small files, computed: document 01, "Text". Each line says which sentence it shows and which nearby
+-- What the values program prints for small files, computed: document 01, "Text"; document 02, Five. Each line says which sentence it shows and which nearby
 -- reading it shuts out. Assumes nothing.
 --
 -- The table lists deck.gr, deck.ss and the whole output; one equation holds for all of its lines. `\n` is the line feed.
@@ -44,6 +44,15 @@ runs =
       bytes "p aux sp ss 2\ns 1\ns 4\n",
       "source station time handovers headroom worst reach\n1 1 0 0 4294967295 0 1\n1 2 4 1 4 4 1\n1 3 8 2 4 4 1\n1 4 9 1 9 9 1\n4 1 4294967295 4294967295 0 4294967295 0\n4 2 6 2 2 4 1\n4 3 2 1 2 2 1\n4 4 0 0 4294967295 0 1\n",
     )
+    -- document 02, Five: "The best over all routes now ranges over twins too"; of two tracks from 1 to 2, "a fast low one and a slow tall one", time takes
+    -- the one and headroom the other
+    ∷ (
+      bytes "p sp 3 3\na 1 2 9\na 1 2 2\na 2 3 5\n",
+      bytes "p aux sp ss 1\ns 1\n",
+      "source station time handovers headroom worst reach\n1 1 0 0 4294967295 0 1\n1 2 2 1 9 2 1\n1 3 7 2 5 5 1\n",
+    )
+    -- .. and "Text accepts twins, refuses equal lines"
+    ∷ (bytes "p sp 3 3\na 1 2 9\na 2 3 5\na 1 2 9\n", bytes "p aux sp ss 1\ns 1\n", "refused 14 4\n")
     -- COUNT 0: the header alone
     ∷ (bytes "p sp 1 0\n", bytes "p aux sp ss 0\n", "source station time handovers headroom worst reach\n")
     -- "A refusal in either file, deck.gr first": both are bad, and deck.gr's line is told though it is the later one

@@ -14,3 +14,5 @@ pub mod Steady
 pub mod Routed
 pub mod Drift
 pub mod Alike
+pub mod Edited
+pub mod Upgrade

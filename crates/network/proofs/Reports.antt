@@ -52,20 +52,20 @@ module _ (P : Property) (es fs : List Edge) (s : ℕ) (ws : List ℕ) (n : ℕ) 
 
   -- the edges by which a vertex t waits
   abbrev Woken : ℕ → Type 0
-  Woken t = (e : Edge) × List·Memᴰ e fs × (e .tail ≡ t) × (Affected P es fs s ws (e .head) ⊎ (added P es e ≡ true))
+  Woken t = (e : Edge) × List·Memᴰ e fs × (e .tail ≡ t) × (Affected P es fs s ws (e .head) ⊎ (added P es fs e ≡ true))
 
   -- the word of a vertex t as its run starts
   abbrev wiped : ℕ → ℕ
   wiped t = cond (marked marks t) (P .none) (word P ws t)
 
   abbrev wakes : ℕ → Edge → Bool
-  wakes t e = eqb (e .tail) t && (marked marks (e .head) || added P es e)
+  wakes t e = eqb (e .tail) t && (marked marks (e .head) || added P es fs e)
 
   -- an edge of the test is one into an affected vertex, or an added one
   woken : (t : ℕ) → exists (wakes t) fs ≡ true → Woken t
   woken t h =
       let (e, m, q) = exists-true (wakes t) fs h in
-      let z = both (eqb (e .tail) t) (marked marks (e .head) || added P es e) q in
+      let z = both (eqb (e .tail) t) (marked marks (e .head) || added P es fs e) q in
       (e, m, eqb-true _ _ (z .0), by-test (marked marks (e .head)) (λ p. inl (affected-exact P es fs s ws n heads (e .head) .0 p)) (λ p. inr (rw p at (z .1))))
 
   waking : (t : ℕ) → Woken t → exists (wakes t) fs ≡ true

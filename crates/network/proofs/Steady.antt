@@ -1,5 +1,5 @@
 -- The claims of specs/Steady.antt. Assumes nothing.
-use Rattle.property.proofs.Basics.{_≡_, refl, sym, ap, _∙_, Bool, true, false, _&&_, _||_, cond, true≢false, false≢true, List, [], _∷_, _++_, map, List·Memᴰ, List·Memᴰ·head, List·Memᴰ·tail, ℕ, zero, suc, _+_, _*_, _%_, _≤_, _<_, zero-mul, suc-mul, mul-le-mul-right, arith, length, getD, take, drop, length-drop, List·getD-map, take-append-drop, length-take-le, take-add, drop-drop, ext-getD, eqb, lt-ltb, le-leb, eqb-true, ne-eqb}
+use Rattle.property.proofs.Basics.{_≡_, refl, sym, ap, _∙_, Bool, true, false, _&&_, _||_, cond, true≢false, false≢true, List, [], _∷_, _++_, map, List·Memᴰ, List·Memᴰ·head, List·Memᴰ·tail, ℕ, zero, suc, _+_, _*_, _%_, _≤_, _<_, zero-mul, suc-mul, mul-le-mul-right, arith, length, getD, take, drop, length-drop, List·getD-map, take-append-drop, length-take-le, take-add, drop-drop, ext-getD, eqb, lt-ltb, le-leb, eqb-true, eq-eqb, ne-eqb}
 use Rattle.property.specs.Property.{Property, properties}
 use Rattle.property.specs.Laws.{Laws}
 use Rattle.property.proofs.Tests.{is-false}
@@ -8,15 +8,15 @@ use Rattle.frontier.specs.Waiting.{anyOf, countOf}
 use Rattle.frontier.proofs.Laws.{count-none, none-any}
 use Rattle.graph.specs.Refusal.{accept, _▷_, refuseIf, accepted, replied, over}
 use Rattle.graph.specs.Limits.{maxWeight}
-use Rattle.graph.specs.Edge.{Edge, reverse, alike, range, exists}
-use Rattle.graph.specs.Table.{isEdge, rules, size, shortTable, table}
+use Rattle.graph.specs.Edge.{Edge, reverse, range, exists}
+use Rattle.graph.specs.Table.{rules, size, shortTable, table, update}
 use Rattle.graph.proofs.Tests.{both, or-false}
 use Rattle.graph.proofs.Lists.{length-table, table-at, range-below}
-use Rattle.graph.proofs.Edges.{exists-true, true-exists}
+use Rattle.graph.proofs.Edges.{exists-true, mem-among}
 use Rattle.graph.proofs.Verdicts.{accept-if, outcome-accepted}
 use Rattle.graph.proofs.Judging.{table-accept}
-use Rattle.graph.proofs.Sorted.{sorted-distinct}
-use Rattle.graph.proofs.Order.{Within, table-ordered, pair-alike, rules-accept, sound-fit, update-own}
+use Rattle.graph.proofs.Order.{Within, rules-accept, sound-fit}
+use Rattle.graph.proofs.Keeps.{update-own}
 use Rattle.run.specs.Run.{State, word, settle}
 use Rattle.theory.proofs.Settle.{Settled, settle-idle}
 use Rattle.theory.proofs.Value.{best-settled}
@@ -24,7 +24,7 @@ use Rattle.theory.proofs.Reverse.{within-reverse}
 use Rattle.affected.specs.Net.{added}
 use Rattle.affected.specs.Affected.{Affected, at-removed, onward, marked, affected}
 use Rattle.affected.specs.Prepared.{cleared, reopened, prepared}
-use Rattle.affected.proofs.Net.{Single, rules-single, single-reverse, kept-stays}
+use Rattle.affected.proofs.Net.{Weighs, rules-weigh, weighs-reverse, kept-stays}
 use Rattle.affected.proofs.Hunt.{unaffected-unmarked}
 use Rattle.network.specs.Network.{Network, edgesIn, rowCount, shortRows, landmarks, faults, row, propertyOf, landmarkOf, rowsOf, flat, unsettled, storesOf}
 use Rattle.network.specs.Change.{Change, named, updates, edit, words, against, item, items}
@@ -33,7 +33,7 @@ use Rattle.network.specs.Settled.{settled, Check, inRecords, inRows, che
 use Rattle.network.specs.Caller.{reported, handOn}
 use Rattle.network.specs.History.{moment}
 use Rattle.network.specs.Steady.{EmptyBatch, OwnWeight, SettledAfter}
-use Rattle.network.proofs.Items.{table-sound, table-count, rewritten-edges}
+use Rattle.network.proofs.Items.{edit-update, same-struck, table-sound, table-count, rewritten-edges}
 use Rattle.network.proofs.Rows.{RowsBest, long-rows, unsettled-map}
 use Rattle.network.proofs.Moment.{good-within, faults-parts, good-faults}
 use Rattle.network.proofs.Never.{begun}
@@ -41,28 +41,28 @@ use Rattle.network.proofs.Never.{begun}
 -- ---- nothing is removed, and nothing added
 
 -- where no edge is removed, no vertex is affected: a chain of held edges would have to begin at a removed one
-none-affected : {P : Property} → Laws P → (es : List Edge) → Single es → (s : ℕ) (ws : List ℕ) {t : ℕ} → Affected P es es s ws t → ⊥
-none-affected {P} L es z s ws (at-removed {e = e} m r h) = true≢false (sym r ∙ kept-stays es z P L e m)
+none-affected : {P : Property} → Laws P → (es : List Edge) → Weighs es → (s : ℕ) (ws : List ℕ) {t : ℕ} → Affected P es es s ws t → ⊥
+none-affected {P} L es z s ws (at-removed {e = e} m r h) = true≢false (sym r ∙ kept-stays L es es z e m)
 none-affected L es z s ws (onward a m r h) = none-affected L es z s ws a
 
 -- ---- one row whose words are ws
 
-module _ {P : Property} (L : Laws P) (es : List Edge) (single : Single es) (s : ℕ) (ws : List ℕ) (n : ℕ) where
+module _ {P : Property} (L : Laws P) (es : List Edge) (weights : Weighs es) (s : ℕ) (ws : List ℕ) (n : ℕ) where
   unmarked : (t : ℕ) → marked (affected P es es s ws n) t ≡ false
-  unmarked t = unaffected-unmarked P es es s ws n t (none-affected L es single s ws)
+  unmarked t = unaffected-unmarked P es es s ws n t (none-affected L es weights s ws)
 
   none-counted : countOf (affected P es es s ws n) ≡ 0
   none-counted = count-none (affected P es es s ws n) unmarked
 
   -- the test by which a vertex t waits
   abbrev wakes : ℕ → Bool
-  wakes t = exists (λ e. eqb (e .tail) t && (marked (affected P es es s ws n) (e .head) || added P es e)) es
+  wakes t = exists (λ e. eqb (e .tail) t && (marked (affected P es es s ws n) (e .head) || added P es es e)) es
 
   asleep : (t : ℕ) → wakes t ≡ false
   asleep t = is-false (wakes t) (λ h.
-      let (e, m, q) = exists-true (λ e. eqb (e .tail) t && (marked (affected P es es s ws n) (e .head) || added P es e)) es h in
-      let z = (both (eqb (e .tail) t) (marked (affected P es es s ws n) (e .head) || added P es e) q) .1 in
-      false≢true (sym (or-false (unmarked (e .head)) (kept-stays es single P L e m)) ∙ z))
+      let (e, m, q) = exists-true (λ e. eqb (e .tail) t && (marked (affected P es es s ws n) (e .head) || added P es es e)) es h in
+      let z = (both (eqb (e .tail) t) (marked (affected P es es s ws n) (e .head) || added P es es e) q) .1 in
+      false≢true (sym (or-false (unmarked (e .head)) (kept-stays L es es weights e m)) ∙ z))
 
   asleep-at : (t : ℕ) → getD (map wakes (range 0 n)) t false ≡ false
   asleep-at t = ap (getD (map wakes (range 0 n)) t) (sym (asleep 0)) ∙ List·getD-map wakes (range 0 n) t 0 ∙ asleep _
@@ -109,7 +109,7 @@ record Still (n : ℕ) (ls : List ℕ) (es : List Edge) (xs : List ℕ) : Type 0
   stores : storesOf (batchRows n ls es es xs) ≡ 0
 
 -- nothing is removed and nothing added, so the runs start, and end, with the words that are there
-module _ (n : ℕ) (ls : List ℕ) (es : List Edge) (single : Single es) (xs : List ℕ) (long : rowCount ls * n ≤ length xs) where
+module _ (n : ℕ) (ls : List ℕ) (es : List Edge) (weights : Weighs es) (xs : List ℕ) (long : rowCount ls * n ≤ length xs) where
   laws : (r : ℕ) → Laws (propertyOf r)
   laws r = property-laws (suc (r % properties))
 
@@ -117,10 +117,10 @@ module _ (n : ℕ) (ls : List ℕ) (es : List Edge) (single : Single es) (xs : L
   ready r = prepared (propertyOf r) es es (landmarkOf ls r) (row n r xs) n
 
   row-still : (r : ℕ) → batchRow n ls es es xs r ≡ ready r
-  row-still r = still (laws r) es single (landmarkOf ls r) (row n r xs) n n
+  row-still r = still (laws r) es weights (landmarkOf ls r) (row n r xs) n n
 
   row-words : (r : ℕ) → r < 0 + rowCount ls → (batchRow n ls es es xs r) .words ≡ row n r xs
-  row-words r h = ap (λ st. st .words) (row-still r) ∙ none-cleared (laws r) es single (landmarkOf ls r) (row n r xs) n (row-long n (rowCount ls) r xs long (omega arith))
+  row-words r h = ap (λ st. st .words) (row-still r) ∙ none-cleared (laws r) es weights (landmarkOf ls r) (row n r xs) n (row-long n (rowCount ls) r xs long (omega arith))
 
   no-stores : (rs : List ℕ) → storesOf (map (batchRow n ls es es xs) rs) ≡ 0
   unfolding storesOf prepared
@@ -130,12 +130,12 @@ module _ (n : ℕ) (ls : List ℕ) (es : List Edge) (single : Single es) (xs : L
   no-affected : (rs : List ℕ) → affectedOver n ls es es xs rs ≡ 0
   unfolding affectedOver
   no-affected [] = refl
-  no-affected (r ∷ rs) = let a = none-counted (laws r) es single (landmarkOf ls r) (row n r xs) n in let b = no-affected rs in omega arith
+  no-affected (r ∷ rs) = let a = none-counted (laws r) es weights (landmarkOf ls r) (row n r xs) n in let b = no-affected rs in omega arith
 
   rows-still : Still n ls es xs
   rows-still = record {
     rests = unsettled-map (batchRow n ls es es xs) (rowsOf ls)
-        (λ r m. ap (λ st. anyOf (st .waiting)) (row-still r) ∙ none-waits (laws r) es single (landmarkOf ls r) (row n r xs) n);
+        (λ r m. ap (λ st. anyOf (st .waiting)) (row-still r) ∙ none-waits (laws r) es weights (landmarkOf ls r) (row n r xs) n);
     kept = ap (λ l. over l xs) (flat-rows n (batchRow n ls es es xs) xs 0 (rowCount ls) row-words)
         ∙ ap (λ j. over (take (rowCount ls * n) (drop j xs)) xs) (zero-mul n) ∙ front-over (rowCount ls * n) xs long;
     affected = no-affected (rowsOf ls);
@@ -152,14 +152,14 @@ module _ (n : ℕ) (ls : List ℕ) (w : Network) (h : faults n ls w ≡ accept) 
       × (table n (w .memory .table) (w .count) ≡ accept)
   parts = faults-parts n ls w h
 
-  single : Single es
-  single = rules-single n es (table-accept n (w .memory .table) (w .count) (parts .4) .1)
+  weights : Weighs es
+  weights = rules-weigh n es (table-accept n (w .memory .table) (w .count) (parts .4) .1)
 
   ahead : Still n ls es (w .memory .rows .forward)
-  ahead = rows-still n ls es single (w .memory .rows .forward) (long-rows n ls (w .memory .rows) (parts .2) .0)
+  ahead = rows-still n ls es weights (w .memory .rows .forward) (long-rows n ls (w .memory .rows) (parts .2) .0)
 
   back : Still n ls (map reverse es) (w .memory .rows .backward)
-  back = rows-still n ls (map reverse es) (single-reverse es single) (w .memory .rows .backward) (long-rows n ls (w .memory .rows) (parts .2) .1)
+  back = rows-still n ls (map reverse es) (weighs-reverse es weights) (w .memory .rows .backward) (long-rows n ls (w .memory .rows) (parts .2) .1)
 
   count : length es ≡ w .count
   count = table-count (w .memory .table) (w .count) (parts .1) ((table-sound n (w .memory .table) (w .count) (parts .4)) .0)
@@ -196,25 +196,22 @@ empty-batch n ls w h = (
 
 -- ---- an update by the weight that is there
 
-own-item : (n : ℕ) (es : List Edge) → rules n es ≡ accept → (c : Change) → updates c ≡ true → List·Memᴰ (named c) es → item n 0 es c ≡ accept
+own-item : (n : ℕ) (es : List Edge) → rules n es ≡ accept → (c : Change) → updates c ≡ true → c .old ≡ c .weight → List·Memᴰ (named c) es → item n 0 es c ≡ accept
 unfolding item words against _▷_ refuseIf
-own-item n es h c u m =
+own-item n es h c u o m =
     let f = sound-fit n es (rules-accept n es h) (named c) m in
     let k : c .kind ≡ 3 = eqb-true _ _ u in
-    rw (k, lt-ltb (c .tail) n (f .tail-below), lt-ltb (c .head) n (f .head-below), ne-eqb (c .tail) (c .head) (f .no-loop), lt-ltb 0 (c .weight) (f .some-weight), le-leb (c .weight) maxWeight (f .weight-most), true-exists (alike (named c)) m (pair-alike (named c) (named c) refl refl))
+    rw (k, o, lt-ltb (c .tail) n (f .tail-below), lt-ltb (c .head) n (f .head-below), ne-eqb (c .tail) (c .head) (f .no-loop), lt-ltb 0 (c .weight) (f .some-weight), le-leb (c .weight) maxWeight (f .weight-most), eq-eqb (c .weight) (c .weight) refl, mem-among m)
 
-own-edit : (n : ℕ) (es : List Edge) → rules n es ≡ accept → (c : Change) → updates c ≡ true → List·Memᴰ (named c) es → edit es c ≡ es
-unfolding edit
-own-edit n es h c u m =
-    let k : c .kind ≡ 3 = eqb-true _ _ u in
-    rw k (update-own es (sorted-distinct table-ordered (isEdge n) es (rules-accept n es h)) (named c) m)
+own-edit : (n : ℕ) (es : List Edge) → rules n es ≡ accept → (c : Change) → updates c ≡ true → c .old ≡ c .weight → List·Memᴰ (named c) es → edit es c ≡ es
+own-edit n es h c u o m = edit-update es c u ∙ ap (λ e. update e (named c) es) (same-struck c u o) ∙ update-own n es (rules-accept n es h) (named c) m
 
 -- The update is accepted and leaves the edges as they are, as no change does; and nothing else of a batch goes into its outcome.
 pub own-weight : OwnWeight
 unfolding batchCall batchFaults items _▷_ refuseIf
-own-weight n ls w h c u m =
+own-weight n ls w h c u o m =
     let r : rules n (edgesIn w) ≡ accept = table-accept n (w .memory .table) (w .count) (faults-parts n ls w h .4) .1 in
-    rw (own-item n (edgesIn w) r c u m, own-edit n (edgesIn w) r c u m)
+    rw (own-item n (edgesIn w) r c u o m, own-edit n (edgesIn w) r c u o m)
 
 -- ---- the settled check
 

@@ -1,12 +1,14 @@
--- The changes of a batch: document 01, "Batch" and numbers 6 to 12; document 02, One. Assumes nothing.
+-- The changes of a batch: document 01, "Batch" and numbers 6 to 12; document 02, One and Five. Assumes nothing.
 --
---   Change              == a change record: kind (1 add, 2 take, 3 update), tail, head, weight; an add inserts, a take deletes
---   named c             == the edge that a change names
+--   Change              == a change record: kind (1 add, 2 take, 3 update), tail, head, weight, old weight; an add inserts, a take deletes
+--   named c             == the edge of a change's tail, head and weight: the one that an insert puts in, and that an update leaves
+--   struck c            == the edge that a delete or an update names: an update by its old weight, a delete by its weight
 --   inserts c           == c is of kind 1
 --   deletes c           == c is of kind 2
 --   updates c           == c is of kind 3
 --   edit es c           == the edges after a change: an insert puts in its edge, an update sets the weight of the one it names, a delete strikes
---                          that one
+--                          that one; the list stays in table order
+--   comes c             == c brings an edge that may not be there: an insert, or an update to another weight
 --   edits es cs         == the edges after changes, in order
 --   words n i c         == numbers 6 to 9 of the change c, at place i: those of its own words
 --   against i es c      == numbers 10 to 12: those against the edges es
@@ -19,7 +21,7 @@ use lib.ListN.{length}
 use lib.Dec.{ltb, eqb}
 use Rattle.graph.specs.Limits.{maxEdges}
 use Rattle.graph.specs.Refusal.{Verdict, accept, _▷_, refuseIf}
-use Rattle.graph.specs.Edge.{Edge, edge, present}
+use Rattle.graph.specs.Edge.{Edge, edge, among}
 use Rattle.graph.specs.Table.{isWeight, insert, delete, update}
 
 pub record Change : Type 0 where
@@ -27,6 +29,7 @@ pub record Change : Type 0 where
   pub tail : ℕ
   pub head : ℕ
   pub weight : ℕ
+  pub old : ℕ
 
 abbrev pub named : Change → Edge
 named c = edge (c .tail) (c .head) (c .weight)
@@ -40,8 +43,11 @@ deletes c = eqb (c .kind) 2
 abbrev pub updates : Change → Bool
 updates c = eqb (c .kind) 3
 
+abbrev pub struck : Change → Edge
+struck c = edge (c .tail) (c .head) (cond (updates c) (c .old) (c .weight))
+
 unfoldable pub edit : List Edge → Change → List Edge
-edit es c = cond (inserts c) (insert (named c) es) (cond (updates c) (update (named c) es) (delete (named c) es))
+edit es c = cond (inserts c) (insert (named c) es) (cond (updates c) (update (struck c) (named c) es) (delete (struck c) es))
 
 abbrev pub edits : List Edge → List Change → List Edge
 edits es cs = foldl edit es cs
@@ -51,12 +57,16 @@ words n i c =
     refuseIf (not (ltb (c .tail) n && ltb (c .head) n)) 6 i
     ▷ refuseIf (not (inserts c || (deletes c || updates c))) 7 i
     ▷ refuseIf (eqb (c .tail) (c .head)) 8 i
-    ▷ refuseIf (not (cond (deletes c) (eqb (c .weight) 0) (isWeight (c .weight)))) 9 i
+    ▷ refuseIf (not (isWeight (c .weight) && cond (updates c) (isWeight (c .old)) (eqb (c .old) 0))) 9 i
+
+-- "a new figure that the pair already has is 10, even with the old one absent, unless the two are equal"
+abbrev pub comes : Change → Bool
+comes c = inserts c || (updates c && not (eqb (c .weight) (c .old)))
 
 unfoldable pub against : ℕ → List Edge → Change → Verdict
 against i es c =
-    refuseIf (inserts c && present es (named c)) 10 i
-    ▷ refuseIf (not (inserts c) && not (present es (named c))) 11 i
+    refuseIf (comes c && among es (named c)) 10 i
+    ▷ refuseIf (not (inserts c) && not (among es (struck c))) 11 i
     ▷ refuseIf (inserts c && not (ltb (length es) maxEdges)) 12 i
 
 unfoldable pub item : ℕ → ℕ → List Edge → Change → Verdict

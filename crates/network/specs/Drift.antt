@@ -28,10 +28,9 @@ use Rattle.graph.specs.Table.{rules}
 use Rattle.graph.specs.Route.{Route, Best}
 use Rattle.graph.specs.Moved.{Moved, Zone}
 use Rattle.run.specs.Run.{Tally, word}
-use Rattle.affected.specs.Net.{counterpart}
 use Rattle.network.specs.Network.{Network, faults, rowCount, row, propertyOf}
 use Rattle.network.specs.Query.{Query, Words, queryCall}
-use Rattle.network.specs.Change.{Change, named, updates}
+use Rattle.network.specs.Change.{Change, updates}
 use Rattle.network.specs.Current.{turnedBack}
 use Rattle.network.specs.History.{moment, edgesNow}
 
@@ -62,7 +61,7 @@ NearAnswers d n ls w x = (q : Query) (out : Words) (i j : Tally) → (queryCall 
 
 abbrev pub RetuneLimit : Type 0
 RetuneLimit = (d n : ℕ) (ls : List ℕ) (w : Network) → faults n ls w ≡ accept → (bs : List (List Change)) (c : Change) → updates c ≡ true
-    → turnedBack n (edgesNow n w bs) (c ∷ []) ≡ accept → Near d (counterpart (edgesNow n w bs) (named c)) (c .weight)
+    → turnedBack n (edgesNow n w bs) (c ∷ []) ≡ accept → Near d (c .old) (c .weight)
     → NearRows d n ls (moment n ls w bs) (moment n ls w (bs ++ (c ∷ []) ∷ [])) × NearAnswers d n ls (moment n ls w bs) (moment n ls w (bs ++ (c ∷ []) ∷ []))
 
 -- ---- many weights

@@ -110,7 +110,7 @@ pub record RowStart (P : Property) (es fs : List Edge) (s : ℕ) (ws : List ℕ)
   pub cleared : (t : ℕ) → t < n → Affected P es fs s ws t → word P (st .words) t ≡ P .none
   pub kept : (t : ℕ) → t < n → (Affected P es fs s ws t → ⊥) → word P (st .words) t ≡ word P ws t
   pub wakes : (t : ℕ) → t < n
-      → (waits st t ≡ true) ↔ ((e : Edge) × List·Memᴰ e fs × (e .tail ≡ t) × (Affected P es fs s ws (e .head) ⊎ (added P es e ≡ true)))
+      → (waits st t ≡ true) ↔ ((e : Edge) × List·Memᴰ e fs × (e .tail ≡ t) × (Affected P es fs s ws (e .head) ⊎ (added P es fs e ≡ true)))
   pub untallied : st .tally ≡ noTally
 
 pub data TotalStores (n : ℕ) (ls : List ℕ) (es fs : List Edge) (xs : List ℕ) : List ℕ → ℕ → Type 0 where

@@ -13,3 +13,5 @@ pub mod Steady
 pub mod Routed
 pub mod Never
 pub mod Drift
+pub mod Edited
+pub mod Upgrade

@@ -63,7 +63,7 @@ EmptyBatch = (n : ℕ) (ls : List ℕ) (w : Network) → faults n ls w ≡ accep
 
 -- "its own present figure changes nothing"
 abbrev pub OwnWeight : Type 0
-OwnWeight = (n : ℕ) (ls : List ℕ) (w : Network) → faults n ls w ≡ accept → (c : Change) → updates c ≡ true → List·Memᴰ (named c) (edgesIn w)
+OwnWeight = (n : ℕ) (ls : List ℕ) (w : Network) → faults n ls w ≡ accept → (c : Change) → updates c ≡ true → c .old ≡ c .weight → List·Memᴰ (named c) (edgesIn w)
     → batchCall n ls w (c ∷ []) ≡ batchCall n ls w []
 
 -- ---- the settled check

@@ -1,19 +1,19 @@
 -- A batch as a call: numbers 1 to 4, then its changes, then number 13, and what is lent. Assumes nothing.
-use Rattle.property.proofs.Basics.{_≡_, refl, sym, ap, _∙_, List, [], _∷_, ℕ, zero, suc, _+_, _≤_, _<_, length, take, drop, drop-of-length-le, min, arith, paste, take-at, length-take-le, lt-ltb, le-ltb}
+use Rattle.property.proofs.Basics.{_≡_, sym, _∙_, List, ℕ, _+_, _-_, _≤_, _<_, min, arith, decLt, length, take, drop, length-drop, drop-of-length-le, take-all, take-nil, take-at, length-take-le, paste, lt-ltb, le-ltb, ltb-false, map}
 use Rattle.graph.specs.Limits.{maxBatch}
 use Rattle.graph.specs.Refusal.{Verdict, accept, refuse, _▷_, refuseIf, replied, choose}
-use Rattle.graph.specs.Edge.{Edge, edges}
+use Rattle.graph.specs.Edge.{Edge, edges, range}
 use Rattle.graph.specs.Code.{Room, columns}
-use Rattle.graph.proofs.Verdicts.{then-accept, accept-then, accept-if, refuse-then}
+use Rattle.graph.proofs.Verdicts.{then-accept, if-accept, accept-then, accept-if, refuse-then}
 use Rattle.apply.specs.declared.Applied.the-variants as applied
 use Rattle.network.specs.Network.{Network, edgesIn, faults}
 use Rattle.network.specs.Change.{Change, edits, items}
 use Rattle.network.specs.Batch.{batchVerdict, newEdges, stillWaiting, longBatch, batchCall, batchFaults}
 use Rattle.sides.specs.Code.{Fair}
 use Rattle.apply.specs.Code.{applying, applyCall, batchOutcome}
-use Rattle.items.specs.Code.{changes}
-use Rattle.items.proofs.Editing.{changes-length}
+use Rattle.items.specs.Code.{change, changeAt, Laid}
 use Rattle.calls.specs.Code.{network}
+use Rattle.graph.proofs.Lists.{length-table, table-at}
 use Rattle.network.proofs.Rows.{landmark-below}
 use Rattle.network.proofs.Moment.{faults-parts}
 use Rattle.graph.proofs.Judging.{size-accept, lengths-accept, table-accept}
@@ -21,32 +21,32 @@ use Rattle.calls.proofs.Judging.{rows-accept, landmarks-accept}
 
 -- ---- a part of the changes
 
--- where one list is empty, there are no changes
-changes-none : (ks ts hs ws : List ℕ) → min (min (length ks) (length ts)) (min (length hs) (length ws)) ≡ 0 → changes ks ts hs ws ≡ []
-changes-none ks ts hs ws e = drop-of-length-le (changes ks ts hs ws) {i = 0} (omega (arith, changes-length ks ts hs ws))
+-- a part whose bounds are cut to what is there is the part
+pub part-cut : {A : Type 0} (xs : List A) (from to end start : ℕ) → end ≡ min to (length xs) → start ≡ min from end
+    → take (end - start) (drop start xs) ≡ take (to - from) (drop from xs)
+part-cut {A} xs from to end start e s = pick (decLt end from) (decLt (length xs) to)
+  where
+    pick : Dec (end < from) → Dec (length xs < to) → take (end - start) (drop start xs) ≡ take (to - from) (drop from xs)
+    pick (yes p) (yes q) =
+        let z : end - start ≡ 0 = omega arith in
+        let d = drop-of-length-le xs {i = from} (omega arith) in
+        rw (z, d, take-nil {A = A} (to - from))
+    pick (yes p) (no q) =
+        let z : end - start ≡ 0 = omega arith in
+        let y : to - from ≡ 0 = omega arith in
+        rw (z, y)
+    pick (no p) (yes q) =
+        let z : start ≡ from = omega arith in
+        let l = length-drop from xs in
+        rw z (take-all (end - from) (drop from xs) (omega arith) ∙ sym (take-all (to - from) (drop from xs) (omega arith)))
+    pick (no p) (no q) =
+        let z : start ≡ from = omega arith in
+        let y : end ≡ to = omega arith in
+        rw (z, y)
 
-changes-drop : (a : ℕ) (ks ts hs ws : List ℕ) → changes (drop a ks) (drop a ts) (drop a hs) (drop a ws) ≡ drop a (changes ks ts hs ws)
-unfolding changes
-changes-drop zero ks ts hs ws = refl
-changes-drop (suc a) [] ts hs ws = refl
-changes-drop (suc a) (k ∷ ks) [] hs ws = changes-none (drop a ks) [] (drop (suc a) hs) (drop (suc a) ws) (omega arith)
-changes-drop (suc a) (k ∷ ks) (t ∷ ts) [] ws = changes-none (drop a ks) (drop a ts) [] (drop (suc a) ws) (omega arith)
-changes-drop (suc a) (k ∷ ks) (t ∷ ts) (h ∷ hs) [] = changes-none (drop a ks) (drop a ts) (drop a hs) [] (omega arith)
-changes-drop (suc a) (k ∷ ks) (t ∷ ts) (h ∷ hs) (w ∷ ws) = changes-drop a ks ts hs ws
-
-changes-take : (j : ℕ) (ks ts hs ws : List ℕ) → changes (take j ks) (take j ts) (take j hs) (take j ws) ≡ take j (changes ks ts hs ws)
-unfolding changes
-changes-take zero ks ts hs ws = refl
-changes-take (suc j) [] ts hs ws = refl
-changes-take (suc j) (k ∷ ks) [] hs ws = refl
-changes-take (suc j) (k ∷ ks) (t ∷ ts) [] ws = refl
-changes-take (suc j) (k ∷ ks) (t ∷ ts) (h ∷ hs) [] = refl
-changes-take (suc j) (k ∷ ks) (t ∷ ts) (h ∷ hs) (w ∷ ws) = rw (changes-take j ks ts hs ws)
-
--- the changes of parts of the four lists are that part of the changes
-pub changes-part : (j a : ℕ) (ks ts hs ws : List ℕ)
-    → changes (take j (drop a ks)) (take j (drop a ts)) (take j (drop a hs)) (take j (drop a ws)) ≡ take j (drop a (changes ks ts hs ws))
-changes-part j a ks ts hs ws = changes-take j (drop a ks) (drop a ts) (drop a hs) (drop a ws) ∙ ap (λ (cs : List Change). take j cs) (changes-drop a ks ts hs ws)
+-- some changes are laid in any list: those that are read there
+pub laid-some : (k : ℕ) (xs : List ℕ) → Laid k (map (changeAt xs) (range 0 k)) xs
+laid-some k xs = record { size = length-table (changeAt xs) 0 k; words = λ i h b. sym (table-at (changeAt xs) k i (change 0 0 0 0 0) h) }
 
 -- ---- numbers 1 to 4
 
@@ -62,6 +62,10 @@ pub faults-as : (n : ℕ) (ls : List ℕ) (w : Network) {j k : ℕ} → j ≡ k 
 faults-as n ls w q e = rw q at e
 
 -- ---- what they tell where they let a batch pass
+
+pub faults-short : (n : ℕ) (ls : List ℕ) (w : Network) (j : ℕ) → batchFaults n ls w j ≡ accept → j ≤ maxBatch
+unfolding batchFaults
+faults-short n ls w j e = ltb-false maxBatch j (if-accept _ _ _ (then-accept (longBatch j) (faults n ls w) e .0))
 
 pub faults-fair : (n : ℕ) (ls : List ℕ) (ts hs ws f b : List ℕ) (m j : ℕ) → batchFaults n ls (network ts hs ws f b m) j ≡ accept → Fair n ls (network ts hs ws f b m)
 unfolding batchFaults

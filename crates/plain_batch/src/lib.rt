@@ -1,20 +1,21 @@
-// A batch on plain numbers, its changes side by side in four lists: numbers 1 to 4, its changes on a scratch table, then every row of the
-// network.
+// A batch on plain numbers, its changes laid in one list: numbers 1 to 4, its changes on a scratch table, then every row of the network.
 use apply::Applied;
 use graph::Judged;
 use graph::words;
 use items::Edited;
+use items::lay;
 ghost use mathlib.Core.Path.{_≡_};
 ghost use mathlib.Core.List.{List};
-ghost use Prim.Native.Nat.{_*_};
-ghost use lib.ListN.{length};
+ghost use Prim.Native.Nat.{_-_, _*_};
+ghost use lib.ListN.{length, take, drop};
 ghost use Rattle.graph.specs.Limits.{maxBatch};
+ghost use Rattle.graph.specs.Refusal.{accept};
 ghost use Rattle.graph.specs.Edge.{edges};
 ghost use Rattle.graph.specs.Code.{told, Room};
 ghost use Rattle.network.specs.Batch.{batchCall, batchFaults};
+ghost use Rattle.network.specs.Change.{Change};
 ghost use Rattle.calls.specs.Code.{network};
-ghost use Rattle.network.specs.Change as spec;
-ghost use Rattle.items.specs.Code.{changes, Laid};
+ghost use Rattle.items.specs.Code.{changesOf, Laid};
 ghost use Rattle.apply.specs.Code.{batchOutcome};
 
 // Numbers 1 to 4 of a batch of `size` changes.
@@ -64,43 +65,25 @@ pub fn copy_table(
     words::copy(count, weights, weights2, 0);
 }
 
-// A batch whose changes are four lists side by side, for callers that can lend no slice of records. They are tried on a scratch table, of
-// lists 2.
-pub fn batch_lists(
+// A batch of `size` changes, laid in one list, that numbers 1 to 4 let pass. They are tried on a scratch table, of lists 2.
+fn try_changes(
     n: u32,
     landmarks: &[u32],
     tails: &mut [u32],
     heads: &mut [u32],
     weights: &mut [u32],
-    count: u32,
+    records: usize,
     forward: &mut [u32],
     backward: &mut [u32],
-    kinds: &[u32],
-    froms: &[u32],
-    tos: &[u32],
-    values: &[u32],
+    lists: &[u32],
+    size: usize,
 ) -> Applied
-    ensures { λ r. ⌜ batchOutcome r (now (tails .exit)) (now (heads .exit)) (now (weights .exit)) (now (forward .exit)) (now (backward .exit)) ≡ batchCall n (now (landmarks .entry)) (network (now (tails .entry)) (now (heads .entry)) (now (weights .entry)) (now (forward .entry)) (now (backward .entry)) count) (changes (now (kinds .entry)) (now (froms .entry)) (now (tos .entry)) (now (values .entry))) ⌝ }
+    requires { ⌜ (length (now lists) ≡ 5 * maxBatch) × (batchFaults n (now landmarks) (network (now tails) (now heads) (now weights) (now forward) (now backward) records) size ≡ accept) ⌝ }
+    ensures { λ r. ⌜ ((cs : List Change) → Laid size cs (now (lists .entry)) → batchOutcome r (now (tails .exit)) (now (heads .exit)) (now (weights .exit)) (now (forward .exit)) (now (backward .exit)) ≡ batchCall n (now (landmarks .entry)) (network (now (tails .entry)) (now (heads .entry)) (now (weights .entry)) (now (forward .entry)) (now (backward .entry)) records) cs) ⌝ }
 {
-    let size = items::count_changes(kinds, froms, tos, values);
-    let judged = judge_batch(
-        n,
-        landmarks,
-        tails,
-        heads,
-        weights,
-        count,
-        forward,
-        backward,
-        size,
-    );
-    if let Judged::Refused(number, place) = judged {
-        return Applied::Refused(number, place);
-    }
     let mut tails2 = [0u32; graph::MAX_EDGES];
     let mut heads2 = [0u32; graph::MAX_EDGES];
     let mut weights2 = [0u32; graph::MAX_EDGES];
-    let records = count as usize;
     copy_table(
         records,
         tails,
@@ -112,10 +95,8 @@ pub fn batch_lists(
     );
     let edited = items::apply_items(
         n,
-        kinds,
-        froms,
-        tos,
-        values,
+        lists,
+        size,
         &mut tails2,
         &mut heads2,
         &mut weights2,
@@ -140,7 +121,7 @@ pub fn batch_lists(
     }
 }
 
-// A batch of `size` changes, of which the four lists hold as many as they have room for: more are refused by number 1.
+// A batch of `size` changes, of which the list holds as many as it has room for: more are refused by number 1.
 pub fn batch_laid(
     n: u32,
     landmarks: &[u32],
@@ -153,13 +134,10 @@ pub fn batch_laid(
     lists: &[u32],
     size: usize,
 ) -> Applied
-    requires { ⌜ length (now lists) ≡ 4 * maxBatch ⌝ }
-    ensures { λ r. ⌜ ((cs : List spec.Change) → Laid size cs (now (lists .entry)) → batchOutcome r (now (tails .exit)) (now (heads .exit)) (now (weights .exit)) (now (forward .exit)) (now (backward .exit)) ≡ batchCall n (now (landmarks .entry)) (network (now (tails .entry)) (now (heads .entry)) (now (weights .entry)) (now (forward .entry)) (now (backward .entry)) count) cs) ⌝ }
+    requires { ⌜ length (now lists) ≡ 5 * maxBatch ⌝ }
+    ensures { λ r. ⌜ ((cs : List Change) → Laid size cs (now (lists .entry)) → batchOutcome r (now (tails .exit)) (now (heads .exit)) (now (weights .exit)) (now (forward .exit)) (now (backward .exit)) ≡ batchCall n (now (landmarks .entry)) (network (now (tails .entry)) (now (heads .entry)) (now (weights .entry)) (now (forward .entry)) (now (backward .entry)) count) cs) ⌝ }
 {
-    if size > graph::MAX_BATCH {
-        return Applied::Refused(1, 0);
-    }
-    batch_lists(
+    let judged = judge_batch(
         n,
         landmarks,
         tails,
@@ -168,9 +146,56 @@ pub fn batch_laid(
         count,
         forward,
         backward,
-        &lists[..size],
-        &lists[items::TAILS..items::TAILS + size],
-        &lists[items::HEADS..items::HEADS + size],
-        &lists[items::WEIGHTS..items::WEIGHTS + size],
+        size,
+    );
+    if let Judged::Refused(number, place) = judged {
+        return Applied::Refused(number, place);
+    }
+    try_changes(
+        n,
+        landmarks,
+        tails,
+        heads,
+        weights,
+        count as usize,
+        forward,
+        backward,
+        lists,
+        size,
+    )
+}
+
+// The batch of the changes from index `from` to index `to`, of those that are there, of five words each: for callers that can lend no slice of records.
+pub fn batch_part(
+    n: u32,
+    landmarks: &[u32],
+    tails: &mut [u32],
+    heads: &mut [u32],
+    weights: &mut [u32],
+    count: u32,
+    forward: &mut [u32],
+    backward: &mut [u32],
+    changes: &[[u32; 5]],
+    from: usize,
+    to: usize,
+) -> Applied
+    ensures { λ r. ⌜ batchOutcome r (now (tails .exit)) (now (heads .exit)) (now (weights .exit)) (now (forward .exit)) (now (backward .exit)) ≡ batchCall n (now (landmarks .entry)) (network (now (tails .entry)) (now (heads .entry)) (now (weights .entry)) (now (forward .entry)) (now (backward .entry)) count) (take (to - from) (drop from (changesOf (now (changes .entry))))) ⌝ }
+{
+    let end = graph::lesser(to, changes.len());
+    let start = graph::lesser(from, end);
+    let size = end - start;
+    let mut lists = [0u32; items::BATCH_WORDS];
+    lay::lay(changes, start, size, &mut lists);
+    batch_laid(
+        n,
+        landmarks,
+        tails,
+        heads,
+        weights,
+        count,
+        forward,
+        backward,
+        &lists,
+        size,
     )
 }

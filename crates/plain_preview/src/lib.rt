@@ -3,6 +3,7 @@ use apply::Applied;
 use graph::Judged;
 use graph::rules;
 use graph::words;
+use items::lay;
 use query::Answered;
 ghost use mathlib.Core.Path.{_≡_};
 ghost use mathlib.Core.List.{List};
@@ -18,7 +19,7 @@ ghost use Rattle.network.specs.Batch.{longBatch};
 ghost use Rattle.network.specs.Change.{Change};
 ghost use Rattle.answers.specs.Preview.{previewCall};
 ghost use Rattle.calls.specs.Code.{network};
-ghost use Rattle.items.specs.Code.{Laid};
+ghost use Rattle.items.specs.Code.{changesOf, Laid};
 ghost use Rattle.effects.specs.Code.{shownOf};
 ghost use Rattle.plain_preview.specs.Code.{previewOutcome, AskDone, AskAfterDone};
 
@@ -92,7 +93,7 @@ fn ask_after(
     source: u32,
     settled: &mut [u32],
 ) -> Judged
-    requires { ⌜ (length (now lists) ≡ 4 * maxBatch) × (now settled ≡ replicate n 0) ⌝ }
+    requires { ⌜ (length (now lists) ≡ 5 * maxBatch) × (now settled ≡ replicate n 0) ⌝ }
     requires { ⌜ faults n (now landmarks) (network (now tails) (now heads) (now weights) (now forward) (now backward) count) ≡ accept ⌝ }
     ensures { λ r. ⌜ ((cs : List Change) → Laid size cs (now (lists .entry)) → AskAfterDone n (now (landmarks .entry)) (network (now (tails .entry)) (now (heads .entry)) (now (weights .entry)) (now (forward .entry)) (now (backward .entry)) count) property source cs r (now (settled .exit))) ⌝ }
 {
@@ -162,7 +163,7 @@ pub fn preview_laid(
     effects: &mut [u32],
     moves: &mut [i64],
 ) -> Judged
-    requires { ⌜ length (now lists) ≡ 4 * maxBatch ⌝ }
+    requires { ⌜ length (now lists) ≡ 5 * maxBatch ⌝ }
     ensures { λ r. ⌜ ((cs : List Change) → Laid size cs (now (lists .entry)) → previewOutcome r (now (effects .exit)) (now (moves .exit)) ≡ previewCall n (now (landmarks .entry)) (network (now (tails .entry)) (now (heads .entry)) (now (weights .entry)) (now (forward .entry)) (now (backward .entry)) count) cs property source (shownOf (now (effects .entry)) (now (moves .entry)))) ⌝ }
 {
     let judged = judge_preview(n, size, effects.len(), moves.len());
@@ -214,4 +215,43 @@ pub fn preview_laid(
         moves,
     );
     Judged::Fine
+}
+
+// The same of changes of five words each, for callers that can lend no slice of records.
+pub fn preview_words(
+    n: u32,
+    landmarks: &[u32],
+    tails: &[u32],
+    heads: &[u32],
+    weights: &[u32],
+    count: u32,
+    forward: &[u32],
+    backward: &[u32],
+    changes: &[[u32; 5]],
+    property: u32,
+    source: u32,
+    effects: &mut [u32],
+    moves: &mut [i64],
+) -> Judged
+    ensures { λ r. ⌜ previewOutcome r (now (effects .exit)) (now (moves .exit)) ≡ previewCall n (now (landmarks .entry)) (network (now (tails .entry)) (now (heads .entry)) (now (weights .entry)) (now (forward .entry)) (now (backward .entry)) count) (changesOf (now (changes .entry))) property source (shownOf (now (effects .entry)) (now (moves .entry))) ⌝ }
+{
+    let m = changes.len();
+    let mut lists = [0u32; items::BATCH_WORDS];
+    lay::lay(changes, 0, m, &mut lists);
+    preview_laid(
+        n,
+        landmarks,
+        tails,
+        heads,
+        weights,
+        count,
+        forward,
+        backward,
+        &lists,
+        m,
+        property,
+        source,
+        effects,
+        moves,
+    )
 }

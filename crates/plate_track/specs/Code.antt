@@ -36,4 +36,4 @@ lookupStart n ls xs side l p = replied (lookupVerdict n ls xs side l p) (rowAt (
 
 -- `PLATE_TRACK_VERSION` of the header
 abbrev pub version : ℕ
-version = 1
+version = 2

@@ -3,7 +3,6 @@
 use graph::Judged;
 use spelling::REPLY_WORDS;
 use spelling::spell;
-use spelling::unpack;
 ghost use mathlib.Core.Path.{_≡_};
 ghost use Rattle.network.specs.Open.{openCall};
 ghost use Rattle.network.specs.Query.{queryCall};
@@ -16,13 +15,14 @@ ghost use Rattle.answers.specs.Digest.{digestCall};
 ghost use Rattle.dimacs.specs.Call.{readCall, writeCall, sourcesCall};
 ghost use Rattle.graph.specs.Code.{columns};
 ghost use Rattle.calls.specs.Code.{rowLists, lists, network};
+ghost use Rattle.items.specs.Code.{changesOf};
 ghost use Rattle.query.specs.Code.{asking, wordsOf};
 ghost use Rattle.routing.specs.Code.{requesting, answerOf};
 ghost use Rattle.effects.specs.Code.{shownOf};
-ghost use Rattle.spelling.specs.Code.{openWords, tallyWords, reportWords, checkWords, choiceWords, sizeWords, oneWord, digestWords, changesOf};
+ghost use Rattle.spelling.specs.Code.{openWords, tallyWords, reportWords, checkWords, choiceWords, sizeWords, oneWord, digestWords};
 ghost use Rattle.plate_track.specs.Code.{spelled, alone, lookupStart, version};
 
-const VERSION: u32 = 1;
+const VERSION: u32 = 2;
 
 // The version of these calls: no reply list, and nothing to refuse.
 #[no_mangle]
@@ -104,9 +104,9 @@ pub extern "C" fn plate_track_query(
     spell::spell_query(r, reply)
 }
 
-// Batch: a change is four words, kind, tail, head and weight.
+// Batch: a change is five words, kind, tail, head, weight and old weight.
 #[no_mangle]
-pub extern "C" fn plate_track_batch(
+pub extern "C" fn plate_track_batch_v2(
     n: u32,
     landmarks: &[u32],
     tails: &mut [u32],
@@ -115,7 +115,7 @@ pub extern "C" fn plate_track_batch(
     count: u32,
     forward: &mut [u32],
     backward: &mut [u32],
-    changes: &[[u32; 4]],
+    changes: &[[u32; 5]],
     reply: &mut [u64],
 ) -> u32
     ensures { λ k. ⌜ record { number = k; reply = now (reply .exit); memory = lists (now (tails .exit)) (now (heads .exit)) (now (weights .exit)) (now (forward .exit)) (now (backward .exit)) } ≡ spelled reportWords (batchCall n (now (landmarks .entry)) (network (now (tails .entry)) (now (heads .entry)) (now (weights .entry)) (now (forward .entry)) (now (backward .entry)) count) (changesOf (now (changes .entry)))) (lists (now (tails .entry)) (now (heads .entry)) (now (weights .entry)) (now (forward .entry)) (now (backward .entry))) (now (reply .entry)) ⌝ }
@@ -123,7 +123,7 @@ pub extern "C" fn plate_track_batch(
     if reply.len() < REPLY_WORDS {
         return 2;
     }
-    let r = unpack::batch(
+    let r = plain_batch::batch_part(
         n,
         landmarks,
         tails,
@@ -133,6 +133,8 @@ pub extern "C" fn plate_track_batch(
         forward,
         backward,
         changes,
+        0,
+        changes.len(),
     );
     spell::spell_batch(r, reply)
 }
@@ -272,7 +274,7 @@ pub extern "C" fn plate_track_read_sources(
 
 // Route.
 #[no_mangle]
-pub extern "C" fn plate_track_route(
+pub extern "C" fn plate_track_route_v2(
     n: u32,
     tails: &[u32],
     heads: &[u32],
@@ -283,9 +285,10 @@ pub extern "C" fn plate_track_route(
     target: u32,
     vertices: &mut [u32],
     marks: &mut [u32],
+    figures: &mut [u32],
     reply: &mut [u64],
 ) -> u32
-    ensures { λ k. ⌜ record { number = k; reply = now (reply .exit); memory = answerOf (now (vertices .exit)) (now (marks .exit)) } ≡ spelled oneWord (routeCall n (columns (now (tails .entry)) (now (heads .entry)) (now (weights .entry))) count (requesting property source target) (answerOf (now (vertices .entry)) (now (marks .entry)))) (answerOf (now (vertices .entry)) (now (marks .entry))) (now (reply .entry)) ⌝ }
+    ensures { λ k. ⌜ record { number = k; reply = now (reply .exit); memory = answerOf (now (vertices .exit)) (now (marks .exit)) (now (figures .exit)) } ≡ spelled oneWord (routeCall n (columns (now (tails .entry)) (now (heads .entry)) (now (weights .entry))) count (requesting property source target) (answerOf (now (vertices .entry)) (now (marks .entry)) (now (figures .entry)))) (answerOf (now (vertices .entry)) (now (marks .entry)) (now (figures .entry))) (now (reply .entry)) ⌝ }
 {
     if reply.len() < REPLY_WORDS {
         return 2;
@@ -301,13 +304,14 @@ pub extern "C" fn plate_track_route(
         target,
         vertices,
         marks,
+        figures,
     );
     spell::spell_route(r, reply)
 }
 
 // Preview: what a batch would do.
 #[no_mangle]
-pub extern "C" fn plate_track_preview(
+pub extern "C" fn plate_track_preview_v2(
     n: u32,
     landmarks: &[u32],
     tails: &[u32],
@@ -316,7 +320,7 @@ pub extern "C" fn plate_track_preview(
     count: u32,
     forward: &[u32],
     backward: &[u32],
-    changes: &[[u32; 4]],
+    changes: &[[u32; 5]],
     property: u32,
     source: u32,
     effects: &mut [u32],
@@ -328,7 +332,7 @@ pub extern "C" fn plate_track_preview(
     if reply.len() < REPLY_WORDS {
         return 2;
     }
-    let r = unpack::preview(
+    let r = plain_preview::preview_words(
         n,
         landmarks,
         tails,

@@ -106,25 +106,25 @@ module _ {P : Property} {n : ℕ} {is ms ws bs : List ℕ} (l : length ws ≡ n)
 
 -- ---- who waits, and the whole start
 
-abbrev pub opens : Property → List Edge → List Bool → ℕ → Edge → Bool
-opens P es ms t e = eqb (e .tail) t && (marked ms (e .head) || added P es e)
+abbrev pub opens : Property → List Edge → List Edge → List Bool → ℕ → Edge → Bool
+opens P es fs ms t e = eqb (e .tail) t && (marked ms (e .head) || added P es fs e)
 
 -- The added edges' tails are set first, then those of the edges into marked vertices. A bit that is set is of such an edge of the new
 -- list; and each such edge is listed, or stands in the index at its head.
 module _ {P : Property} (L : Laws P) {n : ℕ} {es fs : List Edge} {js is xs : List ℕ} (d : Batched n es fs js is xs) {ms ds : List ℕ} (bs cs : List ℕ) (marks : Marks n ms)
     (p : waitingOf bs ≡ replicate capacity false) (a : Raised (waitingOf bs) (waitingOf cs) (Woken P xs (pairs xs)))
     (b : Raised (waitingOf cs) (waitingOf ds) (λ t. (v : ℕ) × (marked (waitingOf ms) v ≡ true) × Entering is (getD is v 0) (getD is (v + 1) 0) t)) (fine : Marks n ds) where
-  sound : (t : ℕ) → marked (waitingOf ds) t ≡ true → exists (opens P es (bits n ms) t) fs ≡ true
+  sound : (t : ℕ) → marked (waitingOf ds) t ≡ true → exists (opens P es fs (bits n ms) t) fs ≡ true
   sound t h =
       ⊎-elim (λ y. ⊎-elim (λ z. absurd (unmarked p t z))
       (λ z. let w = listed-lost L (d .net .new) (z .0) (z .2) (z .3) in
-      true-exists (opens P es (bits n ms) t) (w .0) (and-true (eq-eqb (after xs (z .0) .tail) t (z .4)) (or-right (marked (bits n ms) _) (w .1)))) (a .only t y))
+      true-exists (opens P es fs (bits n ms) t) (w .0) (and-true (eq-eqb (after xs (z .0) .tail) t (z .4)) (or-right (marked (bits n ms) _) (w .1)))) (a .only t y))
       (λ (v, on, (k, lo, hi, _, e)). let w = reverse-mem fs _ (own-reads n is (map reverse fs) (d .new) v k (marks-within n ms v marks on) lo hi) in
-      true-exists (opens P es (bits n ms) t) w (and-true (eq-eqb (arcHead (getD is k 0)) t e) (rw (bits-all n ms marks v ∙ on)))) (b .only t h)
+      true-exists (opens P es fs (bits n ms) t) w (and-true (eq-eqb (arcHead (getD is k 0)) t e) (rw (bits-all n ms marks v ∙ on)))) (b .only t h)
 
-  whole : (t : ℕ) → exists (opens P es (bits n ms) t) fs ≡ true → marked (waitingOf ds) t ≡ true
+  whole : (t : ℕ) → exists (opens P es fs (bits n ms) t) fs ≡ true → marked (waitingOf ds) t ≡ true
   whole t h =
-      let z = exists-true (opens P es (bits n ms) t) fs h in
+      let z = exists-true (opens P es fs (bits n ms) t) fs h in
       let y = both (eqb ((z .0) .tail) t) _ (z .2) in
       let j = eqb-true _ _ (y .0) in
       by-test (marked (bits n ms) ((z .0) .head))
@@ -136,7 +136,7 @@ module _ {P : Property} (L : Laws P) {n : ℕ} {es fs : List Edge} {js is xs : L
       → record { words = out; waiting = bits n ds; tally = noTally } ≡ prepared P es fs s vs n
   unfolding prepared reopened
   prepared-made s vs e c =
-      let f : ℕ → Bool = λ t. exists (opens P es (bits n ms) t) fs in
+      let f : ℕ → Bool = λ t. exists (opens P es fs (bits n ms) t) fs in
       let q : bits n ds ≡ reopened P es fs (bits n ms) n =
       ext-getD false (bits n ds) (map f (range 0 n)) (bits-length n ds fine ∙ sym (length-table f 0 n))
       (λ t h. let l : t < n = omega (arith, bits-length n ds fine) in bits-all n ds fine t ∙ same-test (marked (waitingOf ds) t) (f t) (sound t, whole t) ∙ sym (table-at f n t false l)) in

@@ -1,5 +1,5 @@
 // A row after a batch: the hunt for its affected vertices starts at the removed edges that hold up their heads, and then the row has the state in which
-// its rounds start. What a batch changed is a list `net` with two words for each pair: see `compare`.
+// its rounds start. What a batch changed is a list `net` with two words for each change: see `compare`.
 use frontier::Next;
 use frontier::Words;
 use graph::arc;
@@ -23,7 +23,7 @@ ghost use Rattle.prepare.specs.Code.{Batched, edgeLost, starts, Raised, 
 
 // ---- what the changes do
 
-// Whether an edge of weight `w` is lost to the property where its pair has the weight `other`, 0 for none: there is such an edge, and nothing or
+// Whether an edge of weight `w` is lost to the property where `other` stands in its place, 0 for none: there is such an edge, and nothing or
 // a worse weight in its place. So an old edge is removed by the new weight, and a new one added by the old.
 fn is_edge_lost(p: u32, w: u32, other: u32) -> bool
     ensures { λ r. ⌜ r ≡ edgeLost (property p) w other ⌝ }
@@ -132,7 +132,7 @@ pub fn prepare(
     waiting: &mut Words,
 ) -> u64
     requires { ⌜ Inside n (now net) × Fit n (now old) × (length (now old) ≤ length (now other)) × Fit n (now into) × (length (now words) ≡ n) ⌝ }
-    ensures { λ r. ⌜ ((es fs : List Edge) → Batched n es fs (now (old .entry)) (now (into .entry)) (now (net .entry)) → Faces n fs (now (old .entry)) (now (other .entry)) → (record { words = now (words .exit); waiting = bits n (now (waiting .exit)); tally = noTally } ≡ start.prepared (property p) es fs s (now (words .entry)) n) × (r ≡ countOf (spec.affected (property p) es fs s (now (words .entry)) n))) ⌝ }
+    ensures { λ r. ⌜ ((es fs : List Edge) → Batched n es fs (now (old .entry)) (now (into .entry)) (now (net .entry)) → Faces n es fs (now (old .entry)) (now (other .entry)) → (record { words = now (words .exit); waiting = bits n (now (waiting .exit)); tally = noTally } ≡ start.prepared (property p) es fs s (now (words .entry)) n) × (r ≡ countOf (spec.affected (property p) es fs s (now (words .entry)) n))) ⌝ }
     ensures { λ r. ⌜ Marks n (now (waiting .exit)) × (r ≤ maxVertices) ⌝ }
 {
     let mut marks = frontier::empty();

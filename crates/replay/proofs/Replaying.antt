@@ -1,5 +1,5 @@
 -- A replay as a call: which changes a batch has, what is left of the batches after one, and the opening's part in the reply. Assumes nothing.
-use Rattle.property.proofs.Basics.{_≡_, sym, ap, subst, _∙_, List, [], _∷_, append-nil, ℕ, _+_, _-_, _≤_, _<_, min, add-zero, zero-add, add-one, decLt, arith, length, getD, take, drop, length-drop, drop-of-length-le, take-all, take-nil, drop-cons}
+use Rattle.property.proofs.Basics.{_≡_, sym, ap, subst, _∙_, List, [], _∷_, append-nil, ℕ, _+_, _-_, _≤_, _<_, add-zero, zero-add, add-one, arith, length, getD, take, drop, drop-of-length-le, drop-cons}
 use Rattle.graph.specs.Refusal.{accept, refuse, accepted, refused, verdictOf, choose, Outcome}
 use Rattle.graph.proofs.Verdicts.{verdict-replied, reply-accepted, outcome-refused, outcome-accepted}
 use Rattle.network.specs.Network.{Memory, Network, edgesIn, faults}
@@ -26,29 +26,6 @@ use Rattle.replay.specs.Replay.{Summary, batchesFrom, acceptedOf, replay
 use Rattle.replay.specs.Code.{replaying, replayOutcome, carried, AtExit}
 
 -- ---- which changes a batch has
-
--- a part whose bounds are cut to what is there is the part
-pub part-cut : {A : Type 0} (xs : List A) (from to end start : ℕ) → end ≡ min to (length xs) → start ≡ min from end
-    → take (end - start) (drop start xs) ≡ take (to - from) (drop from xs)
-part-cut {A} xs from to end start e s = pick (decLt end from) (decLt (length xs) to)
-  where
-    pick : Dec (end < from) → Dec (length xs < to) → take (end - start) (drop start xs) ≡ take (to - from) (drop from xs)
-    pick (yes p) (yes q) =
-        let z : end - start ≡ 0 = omega arith in
-        let d = drop-of-length-le xs {i = from} (omega arith) in
-        rw (z, d, take-nil {A = A} (to - from))
-    pick (yes p) (no q) =
-        let z : end - start ≡ 0 = omega arith in
-        let y : to - from ≡ 0 = omega arith in
-        rw (z, y)
-    pick (no p) (yes q) =
-        let z : start ≡ from = omega arith in
-        let l = length-drop from xs in
-        rw z (take-all (end - from) (drop from xs) (omega arith) ∙ sym (take-all (to - from) (drop from xs) (omega arith)))
-    pick (no p) (no q) =
-        let z : start ≡ from = omega arith in
-        let y : end ≡ to = omega arith in
-        rw (z, y)
 
 pub batches-more : (a : ℕ) (ends : List ℕ) (i : ℕ) (cs : List Change) → i < length ends
     → batchesFrom a (drop i ends) cs ≡ take (getD ends i 0 - a) (drop a cs) ∷ batchesFrom (getD ends i 0) (drop (i + 1) ends) cs

@@ -1,5 +1,5 @@
 -- What the search finds is the preferred route, and where it finds none there is none; and the outcomes of the call. Assumes nothing.
-use Rattle.property.proofs.Basics.{_≡_, sym, ap, _∙_, inl, inr, _≢_, Bool, true, false, not, List, ℕ, suc, ℕ-discrete, length, eqb, ltb, eqb-true, ltb-true, ltb-false, eq-eqb, ne-eqb}
+use Rattle.property.proofs.Basics.{_≡_, sym, ap, _∙_, inl, inr, _≢_, Bool, true, false, not, _||_, List, List·Memᴰ, ℕ, suc, ℕ-discrete, length, eqb, ltb, eqb-true, ltb-true, ltb-false, eq-eqb, ne-eqb}
 use Rattle.property.specs.Property.{Property, property}
 use Rattle.property.proofs.Tests.{by-test}
 use Rattle.graph.specs.declared.Judged.{Judged}
@@ -7,17 +7,16 @@ use Rattle.graph.specs.declared.Judged.the-variants as judged
 use Rattle.graph.specs.Refusal.{Verdict, accept, _▷_, refuseIf, outcome, over}
 use Rattle.graph.specs.Edge.{Edge, keep, edges}
 use Rattle.graph.specs.Table.{Columns, edgesOf, bareFaults}
-use Rattle.graph.specs.Leads.{Leads, visited, Preferred}
+use Rattle.graph.specs.Leads.{Leads, visited, weightsOf, Preferred}
 use Rattle.graph.specs.Code.{told, columns}
 use Rattle.graph.proofs.Tests.{neither, or-right}
 use Rattle.graph.proofs.Verdicts.{then-accept, refuse-then, accept-then, if-accept, accept-if, outcome-refused, outcome-accepted}
 use Rattle.graph.proofs.Judging.{bare-accept}
 use Rattle.graph.proofs.Edges.{keep-in, in-keep}
 use Rattle.graph.proofs.Order.{rules-accept}
-use Rattle.graph.proofs.Leading.{visited-edges}
-use Rattle.theory.proofs.Leads.{leads-map, preferred-unique}
-use Rattle.answers.specs.Routing.{Request, eligible, bestWords, bestWord, preferred, marksOf, routeFaults, noRoute, withRoute, routeCall}
-use Rattle.network.specs.Query.{shortWords}
+use Rattle.theory.proofs.Leads.{Least, leads-map}
+use Rattle.answers.specs.Routing.{Request, eligible, bestWords, bestWord, preferred, marksOf, shortLists, routeFaults, noRoute, withRoute, routeCall}
+use Rattle.answers.proofs.Parallel.{Light, preferred-only}
 use Rattle.answers.proofs.Routing.{faults-asked}
 use Rattle.answers.proofs.Preferring.{Asked, fewest-preferred, least-preferred, eligible-leads, unrouted, preferred-holds}
 use Rattle.routing.specs.declared.RouteReply.the-variants.{Vertices, Refused}
@@ -27,13 +26,15 @@ use Rattle.search.proofs.Searching.{Found, search-finds, search-lacks}
 use Rattle.routing.specs.Code.{requesting, routing, answerOf, routeOutcome, unfaulted, Routable}
 
 -- what a request has that numbers 1 to 6 let pass
-pub accept-routable : (n : ℕ) (ts hs ws : List ℕ) (m p s t : ℕ) (xs ys : List ℕ)
-    → routeFaults n (columns ts hs ws) m (requesting p s t) (length xs) (length ys) ≡ accept → Routable n m p s t ts hs ws xs ys
+pub accept-routable : (n : ℕ) (ts hs ws : List ℕ) (m p s t : ℕ) (xs ys zs : List ℕ)
+    → routeFaults n (columns ts hs ws) m (requesting p s t) (length xs) (length ys) (length zs) ≡ accept → Routable n m p s t ts hs ws xs ys zs
 unfolding routeFaults
-accept-routable n ts hs ws m p s t xs ys h =
-    let g = faults-asked n (columns ts hs ws) m (requesting p s t) (length xs) (length ys) h in
-    let b = bare-accept n (columns ts hs ws) m (shortWords n (length xs) (length ys)) ((then-accept (bareFaults n (columns ts hs ws) m (shortWords n (length xs) (length ys))) _ h) .0) in
-    let w = neither (ltb (length xs) n) (ltb (length ys) n) (if-accept _ _ _ (b .own)) in
+accept-routable n ts hs ws m p s t xs ys zs h =
+    let short = shortLists n (length xs) (length ys) (length zs) in
+    let g = faults-asked n (columns ts hs ws) m (requesting p s t) (length xs) (length ys) (length zs) h in
+    let b = bare-accept n (columns ts hs ws) m short ((then-accept (bareFaults n (columns ts hs ws) m short) _ h) .0) in
+    let w = neither (ltb (length xs) n) (ltb (length ys) n || ltb (length zs) n) (if-accept _ _ _ (b .own)) in
+    let v = neither (ltb (length ys) n) (ltb (length zs) n) (w .1) in
     record {
       few = g .few;
       tabled = record { few = b .count; room = b .room; rules = b .sound };
@@ -42,10 +43,11 @@ accept-routable n ts hs ws m p s t xs ys h =
       source = g .source;
       target = g .target;
       vertices = ltb-false _ _ (w .0);
-      marks = ltb-false _ _ (w .1);
+      marks = ltb-false _ _ (v .0);
+      figures = ltb-false _ _ (v .1);
     }
 
-pub routable-asked : {n m p s t : ℕ} {ts hs ws xs ys : List ℕ} → Routable n m p s t ts hs ws xs ys → Asked n (edges ts hs ws m) p s t
+pub routable-asked : {n m p s t : ℕ} {ts hs ws xs ys zs : List ℕ} → Routable n m p s t ts hs ws xs ys zs → Asked n (edges ts hs ws m) p s t
 routable-asked {n} g = record {
   few = g .few;
   sound = rules-accept n _ (g .tabled .rules);
@@ -105,45 +107,53 @@ module _ (n : ℕ) (cs : Columns) (m : ℕ) (q : Request) where
       pub some-route : bestWord n cs m q ≢ P .none
       some-route z = unrouted g .0 z ps leads
 
+      -- what the search found is first, and along the lightest of twins, in a list whose edges are all searched
+      module _ (xs : List Edge) (into : (e : Edge) → List·Memᴰ e xs → List·Memᴰ e (keep isSought es)) where
+        first : Leads xs (q .source) ps (q .target) → Least xs (q .source) (q .target) ps
+        first l = (l, λ qs k. found .1 .1 qs (leads-map into k))
+
+        light : Light xs ps
+        light e m x k = found .2 e m x (into x k)
+
       -- For handovers and reach every edge is searched, and what comes first of all routes is preferred. For the others the eligible edges are
       -- searched, and what comes first of their routes is.
       is-preferred : Preferred P es (q .source) (q .target) ps
       is-preferred = by-test (eqb (q .property) 2)
-          (λ z. fewest-preferred (q .property) (inl (eqb-true _ _ z)) (leads, λ qs l. found .1 .1 qs (leads-map (λ e k. in-keep isSought k (rw z)) l)))
+          (λ z. let all : (e : Edge) → List·Memᴰ e es → List·Memᴰ e (keep isSought es) = λ e k. in-keep isSought k (rw z) in
+          fewest-preferred (q .property) (inl (eqb-true _ _ z)) (first es all leads) (light es all))
           (λ z. by-test (ltb 4 (q .property))
-          (λ y. fewest-preferred (q .property) (inr (ltb-true _ _ y)) (leads, λ qs l. found .1 .1 qs (leads-map (λ e k. in-keep isSought k (rw (z, y))) l)))
-          (λ y. least-preferred g some-route (
-            leads-map (λ e k. let (a, b) = keep-in isSought es e k in in-keep isCandidate a (rw (z, y) at b)) (found .1 .0),
-            λ qs l. found .1 .1 qs (leads-map (λ e k. let (a, b) = keep-in isCandidate es e k in in-keep isSought a (rw (z, y) b)) l),
-          )))
+          (λ y. let all : (e : Edge) → List·Memᴰ e es → List·Memᴰ e (keep isSought es) = λ e k. in-keep isSought k (rw (z, y)) in
+          fewest-preferred (q .property) (inr (ltb-true _ _ y)) (first es all leads) (light es all))
+          (λ y.
+          let into : (e : Edge) → List·Memᴰ e (keep isCandidate es) → List·Memᴰ e (keep isSought es) = λ e k. let (a, b) = keep-in isCandidate es e k in in-keep isSought a (rw (z, y) b) in
+          let l = leads-map (λ e k. let (a, b) = keep-in isSought es e k in in-keep isCandidate a (rw (z, y) at b)) (found .1 .0) in
+          least-preferred g some-route (first (keep isCandidate es) into l) (light (keep isCandidate es) into)))
 
-      -- there is one preferred route, and in a table its vertices determine its edges
+      -- there is one preferred route
       pub found-preferred : (vs : List ℕ) → vs ≡ st .via → Trace (q .source) (q .target) vs (preferred n cs m q)
-      found-preferred vs z =
-          let (p, k) = preferred-holds n cs m q g some-route in
-          rw (z, ← (visited-edges n es (g .sound) leads (p .best .leads) (preferred-unique is-preferred p))) (found .2)
+      found-preferred vs z = let (p, k) = preferred-holds n cs m q g some-route in rw (z, ← (preferred-only is-preferred p)) (found .3)
 
   -- ---- the outcomes
 
-  module _ (xs ys : List ℕ) where
+  module _ (xs ys zs : List ℕ) where
     abbrev faults : Verdict
-    faults = routeFaults n cs m q (length xs) (length ys)
+    faults = routeFaults n cs m q (length xs) (length ys) (length zs)
 
-    pub route-refused : {k i : ℕ} (a : Judged) → told a ≡ faults → a ≡ judged.Refused k i → routeOutcome (Refused k i) xs ys ≡ routeCall n cs m q (answerOf xs ys)
+    pub route-refused : {k i : ℕ} (a : Judged) → told a ≡ faults → a ≡ judged.Refused k i → routeOutcome (Refused k i) xs ys zs ≡ routeCall n cs m q (answerOf xs ys zs)
     unfolding routeCall routing told
     route-refused a e z = sym (outcome-refused (faults ▷ noRoute n cs m q) _ _ _ (refuse-then faults _ (sym e ∙ ap told z)))
 
-    pub route-unfaulted : faults ≡ accept → unfaulted n cs m q (answerOf xs ys) ≡ routeCall n cs m q (answerOf xs ys)
+    pub route-unfaulted : faults ≡ accept → unfaulted n cs m q (answerOf xs ys zs) ≡ routeCall n cs m q (answerOf xs ys zs)
     unfolding routeCall
-    route-unfaulted e = ap (λ v. outcome v (suc (length (preferred n cs m q))) (withRoute n cs m q (answerOf xs ys)) (answerOf xs ys)) (sym (accept-then e))
+    route-unfaulted e = ap (λ v. outcome v (suc (length (preferred n cs m q))) (withRoute n cs m q (answerOf xs ys zs)) (answerOf xs ys zs)) (sym (accept-then e))
 
-    pub route-lacking : bestWord n cs m q ≡ P .none → routeOutcome (Refused 15 0) xs ys ≡ unfaulted n cs m q (answerOf xs ys)
+    pub route-lacking : bestWord n cs m q ≡ P .none → routeOutcome (Refused 15 0) xs ys zs ≡ unfaulted n cs m q (answerOf xs ys zs)
     unfolding routing refuseIf
     route-lacking z = sym (outcome-refused (noRoute n cs m q) _ _ _ (rw (eq-eqb _ _ z)))
 
-    pub route-written : (r : ℕ) (us vs : List ℕ) → bestWord n cs m q ≢ P .none
+    pub route-written : (r : ℕ) (us vs fs : List ℕ) → bestWord n cs m q ≢ P .none
         → (r ≡ suc (length (preferred n cs m q))) × (us ≡ over (visited (q .source) (preferred n cs m q)) xs)
-        × (vs ≡ over (marksOf (q .property) (P .start) (preferred n cs m q)) ys)
-        → routeOutcome (Vertices r) us vs ≡ unfaulted n cs m q (answerOf xs ys)
+        × (vs ≡ over (marksOf (q .property) (P .start) (preferred n cs m q)) ys) × (fs ≡ over (weightsOf (preferred n cs m q)) zs)
+        → routeOutcome (Vertices r) us vs fs ≡ unfaulted n cs m q (answerOf xs ys zs)
     unfolding routing
-    route-written r us vs d (a, b, c) = rw (a, b, c) (sym (outcome-accepted (noRoute n cs m q) _ _ _ (accept-if 15 0 (ne-eqb _ _ d))))
+    route-written r us vs fs d (a, b, c, e) = rw (a, b, c, e) (sym (outcome-accepted (noRoute n cs m q) _ _ _ (accept-if 15 0 (ne-eqb _ _ d))))

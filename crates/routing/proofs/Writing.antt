@@ -1,14 +1,14 @@
--- The way back along a trace, and marks written over weights. Assumes nothing.
+-- The way back along a trace, and marks written by the weights of its edges. Assumes nothing.
 --
 --   At s ps i u               == vertex i of the route ps from s is u
---   Marking p v i k xs end    == of k weights i are marked in xs, before the next edge the running value is v, and the end will be `end`
-use Rattle.property.proofs.Basics.{_≡_, refl, sym, ap, _∙_, _≢_, List, [], _∷_, _++_, map, append-assoc, ℕ, zero, suc, _+_, _<_, _≤_, arith, cond, length, getD, set, drop, length-map, length-append}
+--   Marking p v i k zs xs end == of the k weights in front of zs, i are marked in xs; before the next edge the running value is v, and the end will be `end`
+use Rattle.property.proofs.Basics.{_≡_, refl, sym, ap, _∙_, _≢_, List, [], _∷_, _++_, append-assoc, ℕ, zero, suc, _+_, _<_, _≤_, arith, cond, length, getD, set, length-map, length-append}
 use lib.Seq.{set-at, getD-at}
 use Rattle.property.specs.Property.{property}
 use Rattle.graph.specs.Arc.{arc, arcHead, arcWeight}
 use Rattle.graph.specs.Refusal.{over}
 use Rattle.graph.specs.Edge.{Edge}
-use Rattle.graph.specs.Leads.{visited}
+use Rattle.graph.specs.Leads.{visited, weightsOf}
 use Rattle.graph.proofs.Arcs.{head-arc, weight-arc}
 use Rattle.answers.specs.Routing.{isMarked, marksOf}
 use Rattle.search.specs.Code.{weightAt, Trace}
@@ -57,36 +57,34 @@ module _ {s t : ℕ} {vs : List ℕ} {ps : List Edge} (h : Trace s t vs ps) wher
 pub length-visited : (s : ℕ) (ps : List Edge) → length (visited s ps) ≡ suc (length ps)
 length-visited s ps = ap suc (length-map ps (λ (e : Edge). e .head))
 
-pub length-weights : (ps : List Edge) → length (map (λ e. e .weight) ps) ≡ length ps
+pub length-weights : (ps : List Edge) → length (weightsOf ps) ≡ length ps
 length-weights ps = length-map ps (λ (e : Edge). e .weight)
 
--- ---- marks in the place of weights
+-- ---- marks by weights
 
-pub data Marking (p v i k : ℕ) (xs end : List ℕ) : Type 0 where
-  marking : (done : List ℕ) (left : List Edge) (rest : List ℕ) → xs ≡ done ++ (map (λ e. e .weight) left ++ rest) → done ++ (marksOf p v left ++ rest) ≡ end
-      → length done ≡ i → i + length left ≡ k → Marking p v i k xs end
+pub data Marking (p v i k : ℕ) (zs xs end : List ℕ) : Type 0 where
+  marking : (gone : List ℕ) (left : List Edge) (ws done rest : List ℕ) → zs ≡ gone ++ (weightsOf left ++ ws) → xs ≡ done ++ rest
+      → done ++ over (marksOf p v left) rest ≡ end → length gone ≡ i → length done ≡ i → i + length left ≡ k → Marking p v i k zs xs end
 
-length-marks : (p v : ℕ) (ps : List Edge) → length (marksOf p v ps) ≡ length ps
+pub marking-start : (p v k : ℕ) (ps : List Edge) (ws zs xs : List ℕ) → length ps ≡ k → zs ≡ over (weightsOf ps) ws → Marking p v 0 k zs xs (over (marksOf p v ps) xs)
+marking-start p v k ps ws zs xs l e = marking [] ps _ [] xs e refl refl refl refl (omega arith)
+
+pub marking-turn : {p v i k : ℕ} {zs xs end : List ℕ} → Marking p v i k zs xs end → (r : ℕ) → i < k → i < length xs
+    → ((e : Edge) → getD zs i 0 ≡ e .weight → r ≡ cond (isMarked p v e) 1 0) → Marking p (property p .along v (getD zs i 0)) (i + 1) k zs (set xs i r) end
 unfolding marksOf
-length-marks p v [] = refl
-length-marks p v (e ∷ ps) = ap suc (length-marks p _ ps)
-
-pub marking-start : (p v k : ℕ) (ps : List Edge) (ws xs : List ℕ) → length ps ≡ k → xs ≡ over (map (λ e. e .weight) ps) ws → Marking p v 0 k xs (over (marksOf p v ps) ws)
-marking-start p v k ps ws xs l e = marking [] ps (drop (length ps) ws) (rw (length-weights ps) at e) (rw (length-marks p v ps)) refl (omega arith)
-
-pub marking-turn : {p v i k : ℕ} {xs end : List ℕ} → Marking p v i k xs end → (r : ℕ) → i < k
-    → ((e : Edge) → getD xs i 0 ≡ e .weight → r ≡ cond (isMarked p v e) 1 0) → Marking p (property p .along v (getD xs i 0)) (i + 1) k (set xs i r) end
-unfolding marksOf
-marking-turn (marking done [] rest w e c m) r l f = absurd (omega arith)
-marking-turn {p} {v} {i} {k} {xs} {end} (marking done (b ∷ left) rest w e c m) r l f =
-    let g : getD xs i 0 ≡ b .weight = rw w (getD-at done (b .weight) _ 0 i c) in
-    marking (done ++ r ∷ []) left rest
-    (rw (w, append-assoc) (set-at done (b .weight) _ r i c))
+marking-turn (marking gone [] ws done rest w x e c d m) r l o f = absurd (omega arith)
+marking-turn (marking gone (b ∷ left) ws done [] w x e c d m) r l o f = absurd (omega (arith, ap length x, length-append done []))
+marking-turn {i = i} {zs = zs} (marking gone (b ∷ left) ws done (y ∷ rest) w x e c d m) r l o f =
+    let g : getD zs i 0 ≡ b .weight = rw w (getD-at gone (b .weight) _ 0 i c) in
+    marking (gone ++ b .weight ∷ []) left ws (done ++ r ∷ []) rest
+    (rw append-assoc w)
+    (rw (x, append-assoc) (set-at done y rest r i d))
     (rw (append-assoc, g, f b g) e)
+    (length-append gone (b .weight ∷ []) ∙ omega arith)
     (length-append done (r ∷ []) ∙ omega arith)
     (omega arith)
 
-pub marking-done : {p v i k : ℕ} {xs end : List ℕ} → Marking p v i k xs end → k ≤ i → xs ≡ end
+pub marking-done : {p v i k : ℕ} {zs xs end : List ℕ} → Marking p v i k zs xs end → k ≤ i → xs ≡ end
 unfolding marksOf
-marking-done (marking done [] rest w e c m) l = w ∙ e
-marking-done (marking done (b ∷ left) rest w e c m) l = absurd (omega arith)
+marking-done (marking gone [] ws done rest w x e c d m) l = x ∙ e
+marking-done (marking gone (b ∷ left) ws done rest w x e c d m) l = absurd (omega arith)

@@ -22,7 +22,7 @@ pub enum RouteReply {
     Refused(u32, usize),
 }
 
-// Numbers 1 to 6 of a request, where the lists for the answer have `vertices` and `marks` words.
+// Numbers 1 to 6 of a request, where the lists for the answer have `vertices`, `marks` and `figures` words.
 fn judge_route(
     n: u32,
     tails: &[u32],
@@ -32,10 +32,16 @@ fn judge_route(
     request: Request,
     vertices: usize,
     marks: usize,
+    figures: usize,
 ) -> Judged
-    ensures { λ r. ⌜ told r ≡ routeFaults n (columns (now (tails .entry)) (now (heads .entry)) (now (weights .entry))) count (requestOf request) vertices marks ⌝ }
+    ensures { λ r. ⌜ told r ≡ routeFaults n (columns (now (tails .entry)) (now (heads .entry)) (now (weights .entry))) count (requestOf request) vertices marks figures ⌝ }
 {
-    let outputs = calls::judge_outputs(n, vertices, marks);
+    let size = n as usize;
+    let outputs = rules::refuse_if(
+        (vertices < size) | ((marks < size) | (figures < size)),
+        2,
+        0,
+    );
     let bare = rules::judge_bare(n, tails, heads, weights, count, outputs);
     let Judged::Fine = bare else {
         return bare;
@@ -46,7 +52,7 @@ fn judge_route(
     rules::refuse_if(!((request.source < n) & (request.target < n)), 6, 0)
 }
 
-// The route of a request that numbers 1 to 6 let pass: 15, or its vertices and marks are written. `via` is scratch.
+// The route of a request that numbers 1 to 6 let pass: 15, or its vertices, marks and figures are written. `via` is scratch.
 fn find_route(
     n: usize,
     tails: &[u32],
@@ -57,9 +63,10 @@ fn find_route(
     via: &mut [u32],
     vertices: &mut [u32],
     marks: &mut [u32],
+    figures: &mut [u32],
 ) -> RouteReply
-    requires { ⌜ Routable n count (request .property) (request .source) (request .target) (now tails) (now heads) (now weights) (now vertices) (now marks) × (length (now via) ≡ n) ⌝ }
-    ensures { λ r. ⌜ routeOutcome r (now (vertices .exit)) (now (marks .exit)) ≡ unfaulted n (columns (now (tails .entry)) (now (heads .entry)) (now (weights .entry))) count (requestOf request) (answerOf (now (vertices .entry)) (now (marks .entry))) ⌝ }
+    requires { ⌜ Routable n count (request .property) (request .source) (request .target) (now tails) (now heads) (now weights) (now vertices) (now marks) (now figures) × (length (now via) ≡ n) ⌝ }
+    ensures { λ r. ⌜ routeOutcome r (now (vertices .exit)) (now (marks .exit)) (now (figures .exit)) ≡ unfaulted n (columns (now (tails .entry)) (now (heads .entry)) (now (weights .entry))) count (requestOf request) (answerOf (now (vertices .entry)) (now (marks .entry)) (now (figures .entry))) ⌝ }
 {
     let p = request.property;
     let source = request.source;
@@ -69,10 +76,10 @@ fn find_route(
     if !search::find(p, n, s, t, count, tails, heads, weights, via) {
         return RouteReply::Refused(15, 0);
     }
-    RouteReply::Vertices(write::write_route(p, source, target, via, vertices, marks))
+    RouteReply::Vertices(write::write_route(p, source, target, via, vertices, marks, figures))
 }
 
-// The route from source to target: refused, or its vertices and marks are written to their lists; words past them stay.
+// The route from source to target: refused, or its vertices, marks and figures are written to their lists; words past them stay.
 pub fn route(
     n: u32,
     tails: &[u32],
@@ -84,8 +91,9 @@ pub fn route(
     target: u32,
     vertices: &mut [u32],
     marks: &mut [u32],
+    figures: &mut [u32],
 ) -> RouteReply
-    ensures { λ r. ⌜ routeOutcome r (now (vertices .exit)) (now (marks .exit)) ≡ routeCall n (columns (now (tails .entry)) (now (heads .entry)) (now (weights .entry))) count (requesting property source target) (answerOf (now (vertices .entry)) (now (marks .entry))) ⌝ }
+    ensures { λ r. ⌜ routeOutcome r (now (vertices .exit)) (now (marks .exit)) (now (figures .exit)) ≡ routeCall n (columns (now (tails .entry)) (now (heads .entry)) (now (weights .entry))) count (requesting property source target) (answerOf (now (vertices .entry)) (now (marks .entry)) (now (figures .entry))) ⌝ }
 {
     let request = Request {
         property,
@@ -101,6 +109,7 @@ pub fn route(
         request,
         vertices.len(),
         marks.len(),
+        figures.len(),
     );
     if let Judged::Refused(number, place) = judged {
         return RouteReply::Refused(number, place);
@@ -117,5 +126,6 @@ pub fn route(
         &mut via[..size],
         vertices,
         marks,
+        figures,
     )
 }

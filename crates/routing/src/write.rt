@@ -1,14 +1,15 @@
-// The writing of a route that was found: back from its target along the arcs by which its vertices were found, then its marks from the source on.
+// The writing of a route that was found: back from its target along the arcs by which its vertices were found, then its marks from the source on, by its
+// figures.
 use graph::arc;
 ghost use mathlib.Core.Path.{_≡_};
 ghost use mathlib.Core.Bool.{cond};
-ghost use mathlib.Core.List.{List, map};
+ghost use mathlib.Core.List.{List};
 ghost use Prim.Native.Nat.{ℕ, suc, _≤_};
 ghost use lib.ListN.{length};
 ghost use Rattle.property.specs.Property.{property};
 ghost use Rattle.graph.specs.Refusal.{over};
 ghost use Rattle.graph.specs.Edge.{Edge};
-ghost use Rattle.graph.specs.Leads.{visited};
+ghost use Rattle.graph.specs.Leads.{visited, weightsOf};
 ghost use Rattle.answers.specs.Routing.{isMarked, marksOf};
 ghost use Rattle.search.specs.Code.{Trace};
 
@@ -27,9 +28,9 @@ fn edges_back(s: u32, t: u32, via: &[u32]) -> usize
 }
 
 // The vertices of the route of `k` edges to `t`, and for each edge its weight, from the last one back.
-fn write_back(t: u32, k: usize, via: &[u32], vertices: &mut [u32], weights: &mut [u32])
-    requires { ⌜ ((s : ℕ) × (ps : List Edge) × Trace s t (now via) ps × (k ≡ length ps)) × (length (now via) ≤ length (now vertices)) × (length (now via) ≤ length (now weights)) ⌝ }
-    ensures { λ _. ⌜ ((s : ℕ) (ps : List Edge) → Trace s t (now (via .entry)) ps → k ≡ length ps → (now (vertices .exit) ≡ over (visited s ps) (now (vertices .entry))) × (now (weights .exit) ≡ over (map (λ e. e .weight) ps) (now (weights .entry)))) ⌝ }
+fn write_back(t: u32, k: usize, via: &[u32], vertices: &mut [u32], figures: &mut [u32])
+    requires { ⌜ ((s : ℕ) × (ps : List Edge) × Trace s t (now via) ps × (k ≡ length ps)) × (length (now via) ≤ length (now vertices)) × (length (now via) ≤ length (now figures)) ⌝ }
+    ensures { λ _. ⌜ ((s : ℕ) (ps : List Edge) → Trace s t (now (via .entry)) ps → k ≡ length ps → (now (vertices .exit) ≡ over (visited s ps) (now (vertices .entry))) × (now (figures .exit) ≡ over (weightsOf ps) (now (figures .entry)))) ⌝ }
 {
     let mut u = t;
     vertices[k] = u;
@@ -39,7 +40,7 @@ fn write_back(t: u32, k: usize, via: &[u32], vertices: &mut [u32], weights: &mut
         let a = via[u as usize];
         u = arc::head(a);
         vertices[i] = u;
-        weights[i] = arc::weight(a);
+        figures[i] = arc::weight(a);
     }
 }
 
@@ -54,22 +55,22 @@ fn mark(p: u32, v: u32, x: u32) -> u32
     }
 }
 
-// The marks of `k` edges in the place of their weights.
-fn mark_edges(p: u32, k: usize, weights: &mut [u32])
-    requires { ⌜ k ≤ length (now weights) ⌝ }
-    ensures { λ _. ⌜ ((ps : List Edge) (ws : List ℕ) → length ps ≡ k → now (weights .entry) ≡ over (map (λ e. e .weight) ps) ws → now (weights .exit) ≡ over (marksOf p (property p .start) ps) ws) ⌝ }
+// The marks of `k` edges, by their figures.
+fn mark_edges(p: u32, k: usize, figures: &[u32], marks: &mut [u32])
+    requires { ⌜ (k ≤ length (now figures)) × (k ≤ length (now marks)) ⌝ }
+    ensures { λ _. ⌜ ((ps : List Edge) (ws : List ℕ) → length ps ≡ k → now (figures .entry) ≡ over (weightsOf ps) ws → now (marks .exit) ≡ over (marksOf p (property p .start) ps) (now (marks .entry))) ⌝ }
 {
     let mut v = property::start(p);
     let mut i = 0;
     while i < k {
-        let x = property::along(p, v, weights[i]);
-        weights[i] = mark(p, v, x);
+        let x = property::along(p, v, figures[i]);
+        marks[i] = mark(p, v, x);
         v = x;
         i += 1;
     }
 }
 
-// The route to `t`, its vertices and marks; how many vertices it has.
+// The route to `t`, its vertices, marks and figures; how many vertices it has.
 pub fn write_route(
     p: u32,
     s: u32,
@@ -77,12 +78,13 @@ pub fn write_route(
     via: &[u32],
     vertices: &mut [u32],
     marks: &mut [u32],
+    figures: &mut [u32],
 ) -> u32
-    requires { ⌜ ((ps : List Edge) × Trace s t (now via) ps) × (length (now via) ≤ length (now vertices)) × (length (now via) ≤ length (now marks)) ⌝ }
-    ensures { λ r. ⌜ ((ps : List Edge) → Trace s t (now (via .entry)) ps → (r ≡ suc (length ps)) × (now (vertices .exit) ≡ over (visited s ps) (now (vertices .entry))) × (now (marks .exit) ≡ over (marksOf p (property p .start) ps) (now (marks .entry)))) ⌝ }
+    requires { ⌜ ((ps : List Edge) × Trace s t (now via) ps) × (length (now via) ≤ length (now vertices)) × (length (now via) ≤ length (now marks)) × (length (now via) ≤ length (now figures)) ⌝ }
+    ensures { λ r. ⌜ ((ps : List Edge) → Trace s t (now (via .entry)) ps → (r ≡ suc (length ps)) × (now (vertices .exit) ≡ over (visited s ps) (now (vertices .entry))) × (now (marks .exit) ≡ over (marksOf p (property p .start) ps) (now (marks .entry))) × (now (figures .exit) ≡ over (weightsOf ps) (now (figures .entry)))) ⌝ }
 {
     let k = edges_back(s, t, via);
-    write_back(t, k, via, vertices, marks);
-    mark_edges(p, k, marks);
+    write_back(t, k, via, vertices, figures);
+    mark_edges(p, k, figures, marks);
     k as u32 + 1
 }

@@ -32,7 +32,7 @@ fn batch_row(
 ) -> Rowed
     requires { ⌜ (r < rowCount (now landmarks)) × Placed n (now landmarks) × (length (now words) ≡ n) × Lined n (now net) (now old) (now new) (now into) × (length (now old) ≤ length (now other)) ⌝ }
     ensures { λ a. ⌜ RowLow a ⌝ }
-    ensures { λ a. ⌜ ((es fs : List Edge) → Sided n es fs (now (net .entry)) (now (old .entry)) (now (new .entry)) (now (into .entry)) → Faces n fs (now (old .entry)) (now (other .entry)) → RowDone n (now (landmarks .entry)) es fs (now (words .entry)) r (now (words .exit)) a) ⌝ }
+    ensures { λ a. ⌜ ((es fs : List Edge) → Sided n es fs (now (net .entry)) (now (old .entry)) (now (new .entry)) (now (into .entry)) → Faces n es fs (now (old .entry)) (now (other .entry)) → RowDone n (now (landmarks .entry)) es fs (now (words .entry)) r (now (words .exit)) a) ⌝ }
 {
     let p = calls::row_property(r);
     let i = calls::row_landmark(r);
@@ -68,7 +68,7 @@ fn batch_rows(
 ) -> Rowed
     requires { ⌜ Placed n (now landmarks) × (rowCount (now landmarks) * n ≤ length (now rows)) × Lined n (now net) (now old) (now new) (now into) × (length (now old) ≤ length (now other)) ⌝ }
     ensures { λ a. ⌜ RowsLow a ⌝ }
-    ensures { λ a. ⌜ ((es fs : List Edge) → Sided n es fs (now (net .entry)) (now (old .entry)) (now (new .entry)) (now (into .entry)) → Faces n fs (now (old .entry)) (now (other .entry)) → RowsDone n (now (landmarks .entry)) es fs (now (rows .entry)) (now (rows .exit)) a) ⌝ }
+    ensures { λ a. ⌜ ((es fs : List Edge) → Sided n es fs (now (net .entry)) (now (old .entry)) (now (new .entry)) (now (into .entry)) → Faces n es fs (now (old .entry)) (now (other .entry)) → RowsDone n (now (landmarks .entry)) es fs (now (rows .entry)) (now (rows .exit)) a) ⌝ }
 {
     let size = landmarks.len() * property::PROPERTIES;
     let mut affected = 0;

@@ -1,5 +1,4 @@
--- What a search is told by: the entries of its queue, each with the route by which its vertex was found; and the order in which a vertex's edges
--- come. Assumes nothing.
+-- What a search is told by: the entries of its queue, each with the route by which its vertex was found. Assumes nothing.
 --
 --   Entry           == a vertex of the queue with the route by which it was found
 --   entry gs j      == entry j of gs
@@ -8,14 +7,8 @@
 --   Known gs v      == an entry of gs is of vertex v
 --   Reached gs k v  == an entry of gs is of vertex v, and its route's number is at most k
 --   Grows gs gs′    == gs′ is gs with entries put after it
---   Rising c os     == the heads of the edges os ascend, from c on
-use Rattle.property.proofs.Basics.{_≡_, refl, ap, _∙_, ⊎-elim, _≢_, List, [], _∷_, _++_, List·Memᴰ, List·Memᴰ·head, List·Memᴰ·tail, ℕ, zero, suc, _≤_, _<_, arith, length, getD, length-append, List·getD-append, eqb, eqb-true}
-use Rattle.property.proofs.Tests.{by-test}
-use Rattle.graph.specs.Edge.{Edge, keepIf, keep, leaving}
-use Rattle.graph.specs.Table.{isEdge}
-use Rattle.graph.proofs.Lists.{mem-index}
-use Rattle.graph.proofs.Sorted.{sorted-before}
-use Rattle.graph.proofs.Order.{Less, less-of, table-ordered, Sound}
+use Rattle.property.proofs.Basics.{_≡_, refl, ap, _∙_, _≢_, List, [], _∷_, _++_, ℕ, zero, suc, _≤_, _<_, arith, length, getD, length-append, List·getD-append}
+use Rattle.graph.specs.Edge.{Edge}
 use Rattle.search.proofs.Routes.{rank}
 
 -- ---- entries
@@ -60,24 +53,8 @@ grows-then a b = let p = a .longer in let q = b .longer in record { longer = ome
 pub grows-one : (gs : List Entry) (g : Entry) → Grows gs (gs ++ g ∷ [])
 grows-one gs g = let p = length-append gs (g ∷ []) in record { longer = omega arith; same = λ j h. List·getD-append gs (g ∷ []) _ j h }
 
+pub known-grows : {gs gs′ : List Entry} {v : ℕ} → Grows gs gs′ → Known gs v → Known gs′ v
+known-grows a (j, h, p) = let l = a .longer in (j, omega arith, ap (λ (g : Entry). g .vertex) (a .same j h) ∙ p)
+
 pub reached-grows : {gs gs′ : List Entry} {k v : ℕ} → Grows gs gs′ → Reached gs k v → Reached gs′ k v
 reached-grows a (j, h, p, q) = let l = a .longer in (j, omega arith, ap (λ (g : Entry). g .vertex) (a .same j h) ∙ p, (rw (a .same j h) q))
-
--- ---- the edges of one tail ascend by head
-
-abbrev pub Rising : ℕ → List Edge → Type 0
-Rising c [] = Unit {0}
-Rising c (e ∷ os) = (c ≤ e .head) × Rising (suc (e .head)) os
-
-pub leaving-rising : (n u : ℕ) (es : List Edge) → Sound n es → (c : ℕ) → ((e : Edge) → List·Memᴰ e es → e .tail ≡ u → c ≤ e .head) → Rising c (leaving u es)
-unfolding keep keepIf
-leaving-rising n u [] h c b = tt
-leaving-rising n u (x ∷ es) h c b = by-test (eqb (x .tail) u)
-    (λ q. rw q (b x (List·Memᴰ·head refl) (eqb-true _ _ q), leaving-rising n u es (h .2) (suc (x .head)) (after (eqb-true _ _ q))))
-    (λ q. rw q (leaving-rising n u es (h .2) c (λ e m p. b e (List·Memᴰ·tail m) p)))
-  where
-    after : x .tail ≡ u → (e : Edge) → List·Memᴰ e es → e .tail ≡ u → x .head < e .head
-    after q e m p =
-        let (k, l, r) = mem-index x m in
-        let z : Less x e = rw r at (less-of x (getD es k x) (sorted-before table-ordered (isEdge n) x (x ∷ es) h 0 (suc k) (omega arith) (omega arith))) in
-        ⊎-elim (λ a. absurd (omega arith)) (λ a. a .1) z

@@ -67,6 +67,15 @@ rank-no-later s ps qs d h = (
 
 -- ---- the edges of a route
 
+-- the last digit of a route's number is its last vertex
+rank-digit : {es ps : List Edge} {u t : ℕ} (a k h : ℕ) → Leads es u ps t → Narrow ps → u < maxVertices → h < maxVertices → rank (a * maxVertices + u) ps ≡ k * maxVertices + h → t ≡ h
+rank-digit a k h stop d l m z = omega arith
+rank-digit {u = u} a k h (on {e = e} i r) d l m z = rank-digit (a * maxVertices + u) k h r (λ x j. d x (List·Memᴰ·tail j)) (d e (List·Memᴰ·head refl)) m z
+
+pub rank-last : {es ps : List Edge} {s t : ℕ} (k h : ℕ) → Leads es s ps t → Narrow ps → 0 < k → h < maxVertices → rank 1 ps ≡ k * maxVertices + h → t ≡ h
+rank-last k h stop d l m z = absurd (omega arith)
+rank-last k h (on {e = e} i r) d l m z = rank-digit 1 k h r (λ x j. d x (List·Memᴰ·tail j)) (d e (List·Memᴰ·head refl)) m z
+
 pub leads-mem : {es ps : List Edge} {s t : ℕ} {e : Edge} → Leads es s ps t → List·Memᴰ e ps → List·Memᴰ e es
 leads-mem stop m = absurd (List·Memᴰ·not-nil m)
 leads-mem (on i l) m = ⊎-elim (λ p. rw p i) (λ k. leads-mem l k) (List·Memᴰ·cases-cons m)

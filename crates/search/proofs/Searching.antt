@@ -1,11 +1,13 @@
--- The search finds its target where a route of the searched edges leads there, and then by the first such route: with the fewest edges, and of those
--- the lowest. Its words lead back along that route. Assumes nothing.
+-- The search finds its target where a route of the searched edges leads there, and then by the first such route: with the fewest edges, of those the lowest,
+-- and along the lightest of twins. Its words lead back along that route. Assumes nothing.
 --
---   Found ks s t vs  == a route of ks from s to t is no later than any other, and the words vs lead back along it
---   Entered vs j g   == entry j is g: its route leads to its vertex and has at most j edges, and vs has the arc of each of them, reversed
+--   Found ks s t vs  == a route of ks from s to t is no later than any other, no twin of its edges is lighter, and the words vs lead back along it
+--   Entered vs j g   == entry j is g: its route leads to its vertex, along the lightest of twins, and has at most j edges, and vs has the arc of each of
+--                       them, reversed
 --   Held gs st       == the search st has the entries gs, one for each vertex found, in the order of their routes
 --   Under gs st i b  == and their routes' numbers are below b, and the heads of all edges from the first i entries are found by routes that are no later
 --   Gone ..          == and then entries are put after gs, so that the edges that P names are gone over too
+--   Left gs v c os   == of the edges of vertex v, os are left to be gone over
 --   Ready gs i b     == what follows on the route of entry i, which is in turn, comes after all that is found
 --   Done t st        == the end of a search: all is expanded, or t is found
 --   Covered gs k v   == v is found by a route whose number is at most k, or all that is found is
@@ -17,22 +19,25 @@ use Rattle.property.proofs.Tests.{by-test, is-false}
 use Rattle.graph.specs.Limits.{maxVertices}
 use Rattle.graph.specs.Arc.{arc}
 use Rattle.graph.specs.Edge.{Edge, edge, keep, leaving}
+use Rattle.graph.specs.Table.{isEdge}
 use Rattle.graph.specs.Code.{equal}
 use Rattle.graph.specs.Leads.{Leads, stop, on, visited}
 use Rattle.graph.proofs.Tests.{both, and-true}
 use Rattle.graph.proofs.Lists.{at-set, getD-mem}
 use Rattle.graph.proofs.Counts.{equal-all, equal-set}
 use Rattle.graph.proofs.Edges.{keep-in, in-keep, leaving-in, in-leaving}
-use Rattle.graph.proofs.Order.{Sound, EdgeFacts, sound-fit}
+use Rattle.graph.proofs.Order.{table-ordered, Sound, EdgeFacts, sound-fit}
+use Rattle.graph.proofs.Keeps.{ahead-mem, keep-sound}
 use Rattle.theory.proofs.Leads.{Least, leads-snoc, leads-none}
+use Rattle.answers.proofs.Parallel.{Lightest, Light, precedes-head, precedes-weight}
 use Rattle.search.specs.Search.{unfound, noArc, Search, isUnfound, finds, look, expand, begun, search}
 use Rattle.search.specs.Code.{weightAt, Trace}
-use Rattle.search.proofs.Routes.{rank, Narrow, rank-on, rank-no-later, leads-mem, leads-last, leads-tail}
-use Rattle.search.proofs.Entries.{Entry, entry, key, Before, Known, Reached, Grows, Rising, each-on, grows-none, grows-then, grows-one, reached-grows, leaving-rising}
+use Rattle.search.proofs.Routes.{rank, Narrow, rank-on, rank-most, rank-last, rank-no-later, leads-mem, leads-last, leads-tail}
+use Rattle.search.proofs.Entries.{Entry, entry, key, Before, Known, Reached, Grows, each-on, grows-none, grows-then, grows-one, known-grows, reached-grows}
 use Rattle.search.proofs.Turns.{search-none, search-more, search-stops}
 
 abbrev pub Found : List Edge → ℕ → ℕ → List ℕ → Type 0
-Found ks s t vs = (ps : List Edge) × Least ks s t ps × Trace s t vs ps
+Found ks s t vs = (ps : List Edge) × Least ks s t ps × Light ks ps × Trace s t vs ps
 
 module _ (f : Edge → Bool) (es : List Edge) (n s : ℕ) (sound : Sound n es) (small : n ≤ maxVertices) (home : s < n) where
   kept-fit : (e : Edge) → List·Memᴰ e (keep f es) → EdgeFacts n e
@@ -47,6 +52,7 @@ module _ (f : Edge → Bool) (es : List Edge) (n s : ℕ) (sound : Sound n es) (
 
   pub record Entered (vs : List ℕ) (j : ℕ) (g : Entry) : Type 0 where
     pub leads : Leads (keep f es) s (g .route) (g .vertex)
+    pub light : Light (keep f es) (g .route)
     pub found : getD vs (g .vertex) 0 ≢ unfound
     pub traced : (e : Edge) → List·Memᴰ e (g .route) → getD vs (e .head) 0 ≡ arc (e .tail) (e .weight)
     pub few : length (g .route) ≤ j
@@ -74,10 +80,11 @@ module _ (f : Edge → Bool) (es : List Edge) (n s : ℕ) (sound : Sound n es) (
   abbrev Gone : List Entry → Search → ℕ → ℕ → ℕ → (Edge → Type 0) → Type 0
   Gone gs st i k c P = (gs′ : List Entry) × Grows gs gs′ × Under gs′ st i (k * maxVertices + c) × ((e : Edge) → P e → f e ≡ true → Reached gs′ (k * maxVertices + e .head) (e .head))
 
-  -- An edge from entry i whose head is not found yet. Its entry is put last: the route goes on along the edge, and its number is at least b, so it comes
-  -- after all others. Words that the invariant speaks of stay, for the word that is stored over is `unfound`, which no arc is.
+  -- An edge from entry i whose head is not found yet, and no searched twin is lighter. Its entry is put last: the route goes on along the edge. No number is
+  -- above the route's own, and none is the same, since its last digit is the head, which no entry has; so it comes after all others. Words that the
+  -- invariant speaks of stay, for the word that is stored over is `unfound`, which no arc is.
   module _ {gs : List Entry} {st : Search} {i b : ℕ} (u : Under gs st i b) (l : i < length gs) (e : Edge) (m : List·Memᴰ e (keep f es)) (p : e .tail ≡ (entry gs i) .vertex)
-      (c : b ≤ key (entry gs i) * maxVertices + e .head) (o : getD (st .via) (e .head) 0 ≡ unfound) where
+      (c : b ≤ key (entry gs i) * maxVertices + suc (e .head)) (first : Lightest (keep f es) e) (o : getD (st .via) (e .head) 0 ≡ unfound) where
     abbrev next : Entry
     next = record { vertex = e .head; route = (entry gs i) .route ++ e ∷ [] }
 
@@ -93,6 +100,7 @@ module _ (f : Edge → Bool) (es : List Edge) (n s : ℕ) (sound : Sound n es) (
     stays : (j : ℕ) (g : Entry) → Entered (st .via) j g → Entered later j g
     stays j g h = record {
       leads = h .leads;
+      light = h .light;
       found = λ q. ⊎-elim (λ a. arc-found e m (sym (a .1) ∙ q)) (λ a. h .found (sym (a .1) ∙ q)) (at-later (g .vertex));
       traced = λ x k. ⊎-elim (λ a. absurd (arc-found x (leads-mem (h .leads) k) (sym (h .traced x k) ∙ (ap (λ (v : ℕ). getD (st .via) v 0) (a .0) ∙ o)))) (λ a. a .1 ∙ h .traced x k) (at-later (x .head));
       few = h .few;
@@ -105,6 +113,7 @@ module _ (f : Edge → Bool) (es : List Edge) (n s : ℕ) (sound : Sound n es) (
         let t : getD later (e .head) 0 ≡ arc (e .tail) (e .weight) = getD-set-same (st .via) (e .head) (arc (e .tail) (e .weight)) 0 inside in
         record {
           leads = leads-snoc (h .leads) (sym p) m;
+          light = λ x k. ⊎-elim (h .light x) (λ a. ⊎-elim (λ q. rw q first) (λ z. absurd (List·Memᴰ·not-nil z)) (List·Memᴰ·cases-cons a)) (List·Memᴰ·append-cases ((entry gs i) .route) k);
           found = λ q. arc-found e m (sym t ∙ q);
           traced = λ x k. ⊎-elim (λ a. h′ .traced x a) (λ a. ⊎-elim (λ q. rw q t) (λ z. absurd (List·Memᴰ·not-nil z)) (List·Memᴰ·cases-cons a)) (List·Memᴰ·append-cases ((entry gs i) .route) k);
           few = (let a = h .few in let d = length-append ((entry gs i) .route) (e ∷ []) in omega arith);
@@ -112,6 +121,17 @@ module _ (f : Edge → Bool) (es : List Edge) (n s : ℕ) (sound : Sound n es) (
 
     key-next : key next ≡ key (entry gs i) * maxVertices + e .head
     key-next = rank-on 1 ((entry gs i) .route) e
+
+    -- no other entry has this number
+    key-other : (j : ℕ) → j < length gs → key (entry gs j) < key next
+    key-other j h =
+        let x = u .held .entered j h in
+        let z = u .bounded j h in
+        let y = rank-most 1 ((entry gs i) .route) in
+        let r : key (entry gs j) ≢ key next = λ q. x .found (ap (λ (v : ℕ). getD (st .via) v 0)
+        (rank-last (key (entry gs i)) (e .head) (x .leads) (leads-narrow (x .leads)) (omega arith) (let w = (kept-fit e m) .head-below in omega (arith, small)) (q ∙ key-next)) ∙ o) in
+        let w = key-next in
+        omega (arith, c)
 
     long : length (gs ++ next ∷ []) ≡ suc (length gs)
     long = length-append gs (next ∷ []) ∙ omega arith
@@ -140,9 +160,8 @@ module _ (f : Edge → Bool) (es : List Edge) (n s : ℕ) (sound : Sound n es) (
         up j k h r = by-test (eqb k (length gs))
             (λ q. let y = eqb-true k (length gs) q in
             let g : j < length gs = omega arith in
-            let z = u .bounded j g in
             let x = u .held .entered j g in
-            rw (y, grown .same j g, last-next) ((let w = key-next in omega (arith, c)), λ t. x .found (ap (λ (v : ℕ). getD (st .via) v 0) t ∙ o)))
+            rw (y, grown .same j g, last-next) (key-other j g, λ t. x .found (ap (λ (v : ℕ). getD (st .via) v 0) t ∙ o)))
             (λ q. let y = eqb-false k (length gs) q in
             let t = long in
             rw (grown .same j (omega arith), grown .same k (omega arith)) (u .held .ascending j k h (omega arith)))
@@ -162,13 +181,19 @@ module _ (f : Edge → Bool) (es : List Edge) (n s : ℕ) (sound : Sound n es) (
       λ x r _. rw r (length gs, (omega (arith, long)), ap (λ (g : Entry). g .vertex) last-next, (rw last-next (omega (arith, key-next)))),
     )
 
-  -- An edge that is searched: its head is found already, by a route that is no later than the one along this edge since all are, or it is found now.
-  look-gone : (gs : List Entry) (st : Search) (i k c : ℕ) → i < length gs → key (entry gs i) ≡ k → Under gs st i (k * maxVertices + c)
-      → (e : Edge) → List·Memᴰ e es → e .tail ≡ (entry gs i) .vertex → c ≤ e .head → Gone gs (look f st e) i k (suc (e .head)) (λ x. x ≡ e)
+  -- An edge that is searched: its head is found already, by a route that is no later than the one along this edge since all are, or it is found now. Then no
+  -- searched twin is lighter, for such a one came before, and its head was found by then.
+  look-gone : (gs : List Entry) (st : Search) (i k c : ℕ) → i < length gs → key (entry gs i) ≡ k → Under gs st i (k * maxVertices + suc c)
+      → (e : Edge) → List·Memᴰ e es → e .tail ≡ (entry gs i) .vertex → c ≤ e .head
+      → ((x : Edge) → List·Memᴰ x (keep f es) → e .tail ≡ x .tail → e .head ≡ x .head → (e .weight ≤ x .weight) ⊎ Known gs (e .head))
+      → Gone gs (look f st e) i k (suc (e .head)) (λ x. x ≡ e)
   unfolding look finds
-  look-gone gs st i k c l q u e m p a = by-test (f e)
+  look-gone gs st i k c l q u e m p a first = by-test (f e)
       (λ t. by-test (isUnfound st (e .head))
-      (λ o. rw (t, o, ← q) (gone-finds u l e (in-keep f m t) p (omega (arith, q, a)) (eqb-true (getD (st .via) (e .head) 0) unfound o)))
+      (λ o.
+      let z = eqb-true (getD (st .via) (e .head) 0) unfound o in
+      let lone : Lightest (keep f es) e = λ x d r y. ⊎-elim (λ w. w) (λ (j, h, w). absurd ((u .held .entered j h) .found (ap (λ (v : ℕ). getD (st .via) v 0) w ∙ z))) (first x d r y) in
+      rw (t, o, ← q) (gone-finds u l e (in-keep f m t) p (omega (arith, q, a)) lone z))
       (λ o. rw (t, o) (
         gs,
         grows-none gs,
@@ -185,17 +210,43 @@ module _ (f : Edge → Bool) (es : List Edge) (n s : ℕ) (sound : Sound n es) (
 
   -- ---- the edges of one entry
 
-  -- they ascend by head, so each comes after what the one before has found
-  edges-gone : (os : List Edge) (gs : List Entry) (st : Search) (i k v c : ℕ) → i < length gs → key (entry gs i) ≡ k → (entry gs i) .vertex ≡ v → Under gs st i (k * maxVertices + c)
-      → ((e : Edge) → List·Memᴰ e os → List·Memᴰ e es × (e .tail ≡ v)) → Rising c os → c ≤ maxVertices → Gone gs (foldl (look f) st os) i k maxVertices (λ e. List·Memᴰ e os)
-  edges-gone [] gs st i k v c l q p u own r h = (gs, grows-none gs, under-raise _ (omega (arith, h)) u, λ e m _. absurd (List·Memᴰ·not-nil m))
-  edges-gone (e ∷ os) gs st i k v c l q p u own r h =
-      let o = own e (List·Memᴰ·head refl) in
+  -- the edges os of vertex v are left: they are in table order, their heads are at least c, and each other searched edge of v has found its head
+  pub record Left (gs : List Entry) (v c : ℕ) (os : List Edge) : Type 0 where
+    pub sorted : Sound n os
+    pub own : (e : Edge) → List·Memᴰ e os → List·Memᴰ e es × (e .tail ≡ v)
+    pub onward : (e : Edge) → List·Memᴰ e os → c ≤ e .head
+    pub others : (x : Edge) → List·Memᴰ x (keep f es) → x .tail ≡ v → List·Memᴰ x os ⊎ Known gs (x .head)
+
+  -- what is left after one more
+  left-rest : {gs gs′ : List Entry} {v c : ℕ} {e : Edge} {os : List Edge} → Left gs v c (e ∷ os) → Grows gs gs′ → (f e ≡ true → Known gs′ (e .head)) → Left gs′ v (e .head) os
+  left-rest {e = e} {os = os} a g k =
+      let p = (a .own e (List·Memᴰ·head refl)) .1 in
+      record {
+        sorted = a .sorted .2;
+        own = λ x m. a .own x (List·Memᴰ·tail m);
+        onward = λ x m. precedes-head e x (ahead-mem table-ordered (isEdge n) e os (a .sorted .1) (a .sorted .2) x m) (p ∙ sym ((a .own x (List·Memᴰ·tail m)) .1));
+        others = λ x m q. ⊎-elim (λ j. ⊎-elim (λ z. inr (rw z (k (sym (ap f z) ∙ (keep-in f es x m) .1)))) inl (List·Memᴰ·cases-cons j)) (λ j. inr (known-grows g j)) (a .others x m q);
+      }
+
+  -- a twin of the next edge comes after it, and is heavier, or its head, which is the same, is found
+  left-first : {gs : List Entry} {v c : ℕ} {e : Edge} {os : List Edge} → Left gs v c (e ∷ os)
+      → (x : Edge) → List·Memᴰ x (keep f es) → e .tail ≡ x .tail → e .head ≡ x .head → (e .weight ≤ x .weight) ⊎ Known gs (e .head)
+  left-first {e = e} {os = os} a x m p q = ⊎-elim
+      (λ j. inl (⊎-elim (λ z. let y = ap (λ (o : Edge). o .weight) z in omega arith)
+      (λ k. let y = precedes-weight e x (ahead-mem table-ordered (isEdge n) e os (a .sorted .1) (a .sorted .2) x k) p q in omega arith) (List·Memᴰ·cases-cons j)))
+      (λ k. inr (rw q k)) (a .others x m (sym p ∙ (a .own e (List·Memᴰ·head refl)) .1))
+
+  -- they ascend by head, so each comes after what the ones before have found
+  edges-gone : (os : List Edge) (gs : List Entry) (st : Search) (i k v c : ℕ) → i < length gs → key (entry gs i) ≡ k → (entry gs i) .vertex ≡ v → Under gs st i (k * maxVertices + suc c)
+      → Left gs v c os → c < maxVertices → Gone gs (foldl (look f) st os) i k maxVertices (λ e. List·Memᴰ e os)
+  edges-gone [] gs st i k v c l q p u r h = (gs, grows-none gs, under-raise _ (omega (arith, h)) u, λ e m _. absurd (List·Memᴰ·not-nil m))
+  edges-gone (e ∷ os) gs st i k v c l q p u r h =
+      let o = r .own e (List·Memᴰ·head refl) in
       let b = (sound-fit n es sound e (o .0)) .head-below in
-      let (gs′, g, w, a) = look-gone gs st i k c l q u e (o .0) (o .1 ∙ sym p) (r .0) in
+      let (gs′, g, w, a) = look-gone gs st i k c l q u e (o .0) (o .1 ∙ sym p) (r .onward e (List·Memᴰ·head refl)) (left-first r) in
       let d = g .longer in
-      let (gs″, g′, w′, a′) = edges-gone os gs′ (look f st e) i k v (suc (e .head)) (omega arith) (ap key (g .same i l) ∙ q) (ap (λ (x : Entry). x .vertex) (g .same i l) ∙ p) w
-      (λ x m. own x (List·Memᴰ·tail m)) (r .1) (omega (arith, small)) in
+      let (gs″, g′, w′, a′) = edges-gone os gs′ (look f st e) i k v (e .head) (omega arith) (ap key (g .same i l) ∙ q) (ap (λ (x : Entry). x .vertex) (g .same i l) ∙ p) w
+      (left-rest r g (λ t. let (j, x, y, _) = a e refl t in (j, x, y))) (omega (arith, small)) in
       (gs″, grows-then g g′, w′, λ x m t. ⊎-elim (λ y. reached-grows g′ (a x y t)) (λ y. a′ x y t) (List·Memᴰ·cases-cons m))
 
   -- the vertex in turn is expanded
@@ -205,7 +256,13 @@ module _ (f : Edge → Bool) (es : List Edge) (n s : ℕ) (sound : Sound n es) (
   expand-under gs st i b u l c =
       let v = (entry gs i) .vertex in
       let q : getD (st .queue) i 0 ≡ v = ap (λ (x : List ℕ). getD x i 0) (u .held .queued) ∙ List·getD-map (λ (g : Entry). g .vertex) gs i _ in
-      let (gs′, g, w, a) = edges-gone (leaving v es) gs st i (key (entry gs i)) v 0 l refl refl (under-raise _ (omega (arith, c)) u) (leaving-in v es) (leaving-rising n v es sound 0 (λ e m p. omega arith)) (omega arith) in
+      let all : Left gs v 0 (leaving v es) = record {
+        sorted = keep-sound _ n es sound;
+        own = leaving-in v es;
+        onward = λ e m. (omega arith);
+        others = λ x m p. inl (in-leaving v ((keep-in f es x m) .0) p);
+      } in
+      let (gs′, g, w, a) = edges-gone (leaving v es) gs st i (key (entry gs i)) v 0 l refl refl (under-raise _ (omega (arith, c)) u) all (omega arith) in
       rw q (
         gs′,
         g,
@@ -265,6 +322,7 @@ module _ (f : Edge → Bool) (es : List Edge) (n s : ℕ) (sound : Sound n es) (
     once = (let z = equal-set unfound (replicate n unfound) s noArc inner (getD-replicate n s unfound 0 home) (λ q. omega arith) in let y = equal-all unfound n in omega arith);
     entered = each-on (Entered ((begun n s) .via)) [] _ (λ j h. absurd (omega arith)) (record {
       leads = stop;
+      light = λ e m. absurd (List·Memᴰ·not-nil m);
       found = λ q. (let z = getD-set-same (replicate n unfound) s noArc 0 inner in omega arith);
       traced = λ e m. absurd (List·Memᴰ·not-nil m);
       few = (omega arith);
@@ -366,15 +424,16 @@ module _ (f : Edge → Bool) (es : List Edge) (n s : ℕ) (sound : Sound n es) (
       }
 
       entry-found : Found (keep f es) s ((entry gs j) .vertex) (st .via)
-      entry-found = (ps, (o .leads, λ qs l. rank-no-later s ps qs (leads-narrow l) (entry-first j h qs l)), entry-trace)
+      entry-found = (ps, (o .leads, λ qs l. rank-no-later s ps qs (leads-narrow l) (entry-first j h qs l)), o .light, entry-trace)
 
   -- ---- the theorems
 
   -- Each vertex found has an entry with the route by which it was found, and entries ascend by their routes' numbers. Each entry in its turn is expanded:
-  -- where its number is k, the routes along its edges have the numbers k * 256 + head, in the order of heads. All that was found has a number below: it
-  -- follows on an entry that comes before, or on this one by a lower head. So a head that is found already is found by a route that is no later, and a
-  -- head that is not is put last. At the end, by induction along any route of number k to v: v is found by a route whose number is at most k, or
-  -- all that is found is; for an entry that is not expanded comes after all that have followers. Where t is found, its route so comes first.
+  -- where its number is k, the routes along its edges have the numbers k * 256 + head, in the order of heads. All that was found has no higher one: it
+  -- follows on an entry that comes before, or on this one by a lower head, or by a lighter twin. So a head that is found already is found by a route that is
+  -- no later, and a head that is not is put last, found by the first of its twins. At the end, by induction along any route of number k to v: v is found by
+  -- a route whose number is at most k, or all that is found is; for an entry that is not expanded comes after all that have followers. Where t is found,
+  -- its route so comes first.
   pub search-finds : (t : ℕ) → t < n → isUnfound (search f es t n 0 (begun n s)) t ≡ false → Found (keep f es) s t ((search f es t n 0 (begun n s)) .via)
   search-finds t h q =
       let d = searched-done t in

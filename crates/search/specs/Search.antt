@@ -1,6 +1,6 @@
 -- The search from a source, breadth first, along the edges that pass a test, each vertex's in table order: vertices are found in the order of their
--- routes, first those with fewer edges and among those the lower. It computes. No claim rests on it: that it finds the preferred route is proved.
--- Assumes nothing.
+-- routes, first those with fewer edges and among those the lower, and each by the lightest of twins. It computes. No claim rests on it: that it finds the
+-- preferred route is proved. Assumes nothing.
 --
 --   unfound              == the word of a vertex that is not found: no arc has it
 --   noArc                == the word of the source, which is found by no edge

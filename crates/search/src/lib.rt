@@ -1,4 +1,4 @@
-// The search for a route, breadth first from its source: found first is what has fewer edges, and then lower vertices.
+// The search for a route, breadth first from its source: found first is what has fewer edges, then lower vertices, and then lighter twins.
 use graph::arc;
 use graph::pack;
 ghost use mathlib.Core.Path.{_≡_};

@@ -99,10 +99,7 @@ fn ask(
 
 // Hands in a batch, prints its report or refusal, and answers the present count.
 fn change(
-    kinds: &[u32],
-    froms: &[u32],
-    tos: &[u32],
-    values: &[u32],
+    changes: &[[u32; 5]],
     tails: &mut [u32; 2048],
     heads: &mut [u32; 2048],
     weights: &mut [u32; 2048],
@@ -111,7 +108,7 @@ fn change(
     backward: &mut [u32; 20],
 ) -> u32 {
     let landmarks = [0u32];
-    let applied = plain_batch::batch_lists(
+    let applied = plain_batch::batch_part(
         4,
         &landmarks,
         tails,
@@ -120,10 +117,9 @@ fn change(
         count,
         forward,
         backward,
-        kinds,
-        froms,
-        tos,
-        values,
+        changes,
+        0,
+        changes.len(),
     );
     match applied {
         Applied::Done(report) => {
@@ -203,12 +199,9 @@ fn take(
     forward: &mut [u32; 20],
     backward: &mut [u32; 20],
 ) -> u32 {
-    io::write_all(1, b"take 0 1: ");
+    io::write_all(1, b"take 0 1 4: ");
     let now = change(
-        &[2],
-        &[0],
-        &[1],
-        &[0],
+        &[[2, 0, 1, 4, 0]],
         tails,
         heads,
         weights,
@@ -232,10 +225,7 @@ fn put_back(
 ) -> u32 {
     io::write_all(1, b"add 0 1 4: ");
     let now = change(
-        &[1],
-        &[0],
-        &[1],
-        &[4],
+        &[[1, 0, 1, 4, 0]],
         tails,
         heads,
         weights,
@@ -258,10 +248,18 @@ fn change_ten(
 ) -> u32 {
     io::write_all(1, b"ten changes: ");
     let now = change(
-        &[1, 1, 1, 1, 1, 1, 2, 1, 2, 2],
-        &[1, 1, 2, 2, 3, 3, 0, 0, 0, 3],
-        &[0, 3, 0, 3, 0, 1, 2, 2, 3, 2],
-        &[5, 6, 7, 8, 1, 2, 0, 3, 0, 0],
+        &[
+            [1, 1, 0, 5, 0],
+            [1, 1, 3, 6, 0],
+            [1, 2, 0, 7, 0],
+            [1, 2, 3, 8, 0],
+            [1, 3, 0, 1, 0],
+            [1, 3, 1, 2, 0],
+            [2, 0, 2, 4, 0],
+            [1, 0, 2, 3, 0],
+            [2, 0, 3, 9, 0],
+            [2, 3, 2, 2, 0],
+        ],
         tails,
         heads,
         weights,

@@ -1,3 +1,2 @@
 pub mod Telling
 mod Choosing
-mod Unpacking

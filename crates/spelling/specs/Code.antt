@@ -1,4 +1,4 @@
--- What a caller in C gets and gives: a reply as a number and words, and changes of four words each. Assumes nothing.
+-- What a caller in C gets: a reply as a number and words. Assumes nothing.
 --
 --   replyWords             == how many words a reply list has at least
 --   numberOf r             == the refusal number of a reply; 0 where it is accepted
@@ -12,21 +12,16 @@
 --   sizeWords              == n and the count of a network that was read
 --   oneWord                == a single number: where a row starts, how long a text is, how many sources there are, how many vertices a route has
 --   digestWords            == gained, lost, better, worse, and the vertex that loses most
---   wordsAt j cs           == word j of each of the changes cs
---   changeOf c             == four words as a change record
---   changesOf cs           == a list of four words each as change records
 use mathlib.Core.Path.{_≡_}
-use mathlib.Core.List.{List, [], _∷_, map}
+use mathlib.Core.List.{List, [], _∷_}
 use Prim.Native.Nat.{ℕ}
-use lib.ListN.{length, getD}
+use lib.ListN.{length}
 use Rattle.graph.specs.Refusal.{Reply, accepted, refused, over}
 use Rattle.run.specs.Run.{Tally}
 use Rattle.network.specs.Batch.{Report}
 use Rattle.network.specs.Settled.{Check, settled, found}
-use Rattle.network.specs.Change.{Change}
 use Rattle.answers.specs.Digest.{Digest}
 use Rattle.choice.specs.Code.{padded}
-use Rattle.items.specs.Code.{change}
 use Rattle.dimacs.specs.Call.{Size}
 
 abbrev pub replyWords : ℕ
@@ -72,14 +67,3 @@ oneWord i = i ∷ []
 
 abbrev pub digestWords : Digest → List ℕ
 digestWords d = d .gained ∷ d .lost ∷ d .better ∷ d .worse ∷ d .most ∷ []
-
--- ---- changes
-
-unfoldable pub wordsAt : ℕ → List (List ℕ) → List ℕ
-wordsAt j cs = map (λ (c : List ℕ). getD c j 0) cs
-
-abbrev pub changeOf : List ℕ → Change
-changeOf c = change (getD c 0 0) (getD c 1 0) (getD c 2 0) (getD c 3 0)
-
-abbrev pub changesOf : List (List ℕ) → List Change
-changesOf cs = map changeOf cs

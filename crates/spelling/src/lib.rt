@@ -1,6 +1,5 @@
-// What a caller in C hands over and gets: replies as a number and words, and changes of four words each.
+// What a caller in C gets: replies as a number and words.
 pub mod spell;
-pub mod unpack;
 
 // How many words a reply list has at least: `replyWords` of specs/Code.antt is the same number.
 pub const REPLY_WORDS: usize = 8;

@@ -1,7 +1,7 @@
--- Small calls, computed: document 01, "Network", "Runs", "Turned back" and "Near the edges"; document 02, One. Each line says which sentence it shows and
+-- Small calls, computed: document 01, "Network", "Runs", "Turned back" and "Near the edges"; document 02, One and Five. Each line says which sentence it shows and
 -- which nearby reading it shuts out; the numbers are worked out by hand. Assumes nothing.
 use Rattle.property.proofs.Tables.{Said, each}
-use Rattle.property.proofs.Basics.{_≡_, refl, List, [], _∷_, _++_, map, ℕ, _-_, _*_, _%_, length, replicate, set}
+use Rattle.property.proofs.Basics.{_≡_, refl, List, [], _∷_, _++_, map, ℕ, _-_, _%_, length, replicate, set}
 use lib.ListN as list
 use Rattle.property.specs.Property.{M}
 use Rattle.graph.specs.Refusal.{Verdict, accept, refuse, Reply, accepted, refused, Outcome}
@@ -108,14 +108,14 @@ abbrev batches : List (List (List Change) × Outcome Report Memory)
 batches =
     -- two affected vertices and two stores in each of five forward rows: "sums suspects and stores over all rows"
     (
-      (takes 0 1 ∷ []) ∷ [],
+      (takes 0 1 4 ∷ []) ∷ [],
       record { reply = report 4 10 10; memory = swept (0 ∷ 1 ∷ 2 ∷ 3 ∷ []) (3 ∷ 2 ∷ 1 ∷ 2 ∷ []) (9 ∷ 4 ∷ 4 ∷ 2 ∷ []) forwardTaken backwardOf0 },
     )
     -- "An empty batch is accepted": count as before, 0, 0; it zeroes the records past the count all the same. 1,024 changes are good: 0→1 is
     -- taken and added back 512 times; its record stands in both tables, so it is neither removed nor added
-    ∷ ([] ∷ map (λ i. change (2 - i % 2) 0 1 (4 * (i % 2))) (range 0 1024) ∷ [], samePairs (report 5 0 0) (4 ∷ 9 ∷ 4 ∷ 4 ∷ 2 ∷ []) forwardOf0)
+    ∷ ([] ∷ map (λ i. change (2 - i % 2) 0 1 4 0) (range 0 1024) ∷ [], samePairs (report 5 0 0) (4 ∷ 9 ∷ 4 ∷ 4 ∷ 2 ∷ []) forwardOf0)
     -- "all or none": the second item is refused, and the first has changed nothing
-    ∷ ((takes 0 1 ∷ takes 0 1 ∷ []) ∷ [], leaves (refused 11 1) graph0)
+    ∷ ((takes 0 1 4 ∷ takes 0 1 4 ∷ []) ∷ [], leaves (refused 11 1) graph0)
     ∷ []
 
 -- ---- affected vertices and stores of a batch
@@ -132,20 +132,20 @@ reports =
     -- a pair with another figure counts by property (document 02, One): 10 is worse for time and worst stretch, where 1 and 2 are affected, and
     -- better for headroom; handovers and reach see no change. A store for each word that gets better: time gives 1 the word 10, and 2 the
     -- word 14, then 11; headroom gives 1 the word 10; worst gives 1 and 2 first 10, then 9
-    (replyTo 0 (takes 0 1 ∷ adds 0 1 10 ∷ []), report 5 4 8)
+    (replyTo 0 (takes 0 1 4 ∷ adds 0 1 10 ∷ []), report 5 4 8)
     -- an added edge has no affected vertices; 3→0 gives 3 a way to 0, a store in each backward row and none in a forward one
     ∷ (replyTo 0 (adds 3 0 5 ∷ []), report 6 0 5)
     -- a removed edge that is not tight affects nobody: 3→2 gives 11 for 8, 2 for 4 and 9 for 4; it is tight for handovers, where it
     -- affects 2, and for reach, where "and so on" leads from 2 to 1
-    ∷ (replyTo 0 (takes 3 2 ∷ []), report 4 3 3)
+    ∷ (replyTo 0 (takes 3 2 2 ∷ []), report 4 3 3)
     -- "For homeward rows all segments are reversed": 1 has lost its only way to 2, and 0 goes by way of 3 now; forward, 1→2 ends in the
     -- landmark and affects nobody
-    ∷ (replyTo 2 (takes 1 2 ∷ []), report 4 10 5)
+    ∷ (replyTo 2 (takes 1 2 4 ∷ []), report 4 10 5)
     -- "both its ends hold the no-route word": 0→3 has no route at either end in the forward rows of landmark 1, and 3 is not
     -- affected there; the one affected vertex is 0 in the backward row for reach
-    ∷ (replyTo 1 (takes 0 3 ∷ []), report 4 1 1)
+    ∷ (replyTo 1 (takes 0 3 9 ∷ []), report 4 1 1)
     -- sums go over the rows of all posts: 10 and 10 forward for landmark 0, 5 and 5 backward for landmark 2
-    ∷ ((batchCall 4 (2 ∷ 0 ∷ []) graphBoth (takes 0 1 ∷ [])) .reply, report 4 15 15)
+    ∷ ((batchCall 4 (2 ∷ 0 ∷ []) graphBoth (takes 0 1 4 ∷ [])) .reply, report 4 15 15)
     ∷ []
 
 -- ---- queries
@@ -248,6 +248,8 @@ choices =
     ∷ (chosen 3 (edge 0 2 1 ∷ edge 2 1 1 ∷ []) 3, accepted (2 ∷ 0 ∷ 1 ∷ []))
     -- figures don't count
     ∷ (chosen 4 (edge 0 1 1 ∷ edge 2 3 65535 ∷ []) 4, accepted (0 ∷ 1 ∷ 2 ∷ 3 ∷ []))
+    -- each twin counts: 2 and 3 have two each
+    ∷ (chosen 4 (edge 0 1 1 ∷ edge 2 3 1 ∷ edge 2 3 9 ∷ []) 4, accepted (2 ∷ 3 ∷ 0 ∷ 1 ∷ []))
     -- "or n if fewer": k above n is good and gives n stations
     ∷ (chosen 3 (edge 1 2 1 ∷ []) 4, accepted (1 ∷ 2 ∷ 0 ∷ []))
     ∷ (chosen 1 [] 4, accepted (0 ∷ []))
@@ -294,10 +296,10 @@ lookups =
 -- accepted; refused, for 0→1 is gone; accepted; refused as a whole, though its first change is good; accepted and empty
 abbrev history : List (List Change)
 history =
-    (takes 0 1 ∷ [])
-    ∷ (takes 0 1 ∷ [])
+    (takes 0 1 4 ∷ [])
+    ∷ (takes 0 1 4 ∷ [])
     ∷ (adds 1 0 2 ∷ adds 0 1 3 ∷ [])
-    ∷ (takes 0 3 ∷ adds 2 2 1 ∷ [])
+    ∷ (takes 0 3 9 ∷ adds 2 2 1 ∷ [])
     ∷ []
     ∷ []
 
@@ -321,9 +323,9 @@ lived-now = refl
 -- "whether "Turned back" accepts the batch": reckoned from the edges alone it is what the call says, number and place
 abbrev judgedBatches : List (List (List Change) × Verdict)
 judgedBatches =
-    ([] ∷ (takes 0 1 ∷ []) ∷ [], accept)
-    ∷ ((takes 0 1 ∷ takes 0 1 ∷ []) ∷ [], refuse 11 1)
-    ∷ ((takes 0 1 ∷ adds 0 1 4 ∷ worst ∷ []) ∷ [], refuse 6 2)
+    ([] ∷ (takes 0 1 4 ∷ []) ∷ [], accept)
+    ∷ ((takes 0 1 4 ∷ takes 0 1 4 ∷ []) ∷ [], refuse 11 1)
+    ∷ ((takes 0 1 4 ∷ adds 0 1 4 ∷ worst ∷ []) ∷ [], refuse 6 2)
     ∷ (replicate 1025 worst ∷ [], refuse 1 0)
     ∷ []
 

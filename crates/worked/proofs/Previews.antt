@@ -1,4 +1,4 @@
--- Small previews and their digests, computed: document 02, Four, on deck A of document 01 with landmark 0. Each line says which sentence it shows;
+-- Small previews and their digests, computed: document 02, Four and Five, on deck A of document 01 with landmark 0. Each line says which sentence it shows;
 -- the numbers are worked out by hand from document 01's lines: from 0 the time is 0 4 8 9, and 0 15 11 9 without 0→1. Assumes nothing.
 --
 --   blank a c           == lists of a effects and c moves, 77 and 99 before the call
@@ -14,6 +14,7 @@ use Rattle.answers.specs.Preview.{Shown, previewCall}
 use Rattle.answers.specs.Digest.{Digest, digestCall}
 use Rattle.worked.specs.Starred.{takes, adds}
 use Rattle.worked.proofs.Calls.{calls}
+use Rattle.worked.proofs.Refusals.{retunes}
 use Rattle.worked.proofs.Examples.{graph0}
 
 abbrev Lines : Type 0
@@ -33,7 +34,7 @@ turned k i a c = record { reply = refused k i; memory = blank a c }
 
 -- a change of kind 9
 abbrev odd : Change
-odd = record { kind = 9; tail = 0; head = 1; weight = 4 }
+odd = record { kind = 9; tail = 0; head = 1; weight = 4; old = 0 }
 
 abbrev nowhere : List ℤ
 nowhere = pos 0 ∷ pos 0 ∷ pos 0 ∷ pos 0 ∷ []
@@ -43,7 +44,7 @@ nowhere = pos 0 ∷ pos 0 ∷ pos 0 ∷ pos 0 ∷ []
 -- "0 same, 1 gained a route, 2 lost it or 3 moved, with after minus before": without 0→1, from 0, for each property
 abbrev moved : Lines
 moved = (
-  map (λ p. asked (takes 0 1 ∷ []) p 0 5 5) (1 ∷ 2 ∷ 3 ∷ 4 ∷ 5 ∷ []),
+  map (λ p. asked (takes 0 1 4 ∷ []) p 0 5 5) (1 ∷ 2 ∷ 3 ∷ 4 ∷ 5 ∷ []),
   shows (0 ∷ 3 ∷ 3 ∷ 0 ∷ []) (pos 0 ∷ pos 11 ∷ pos 3 ∷ pos 0 ∷ [])
       ∷ shows (0 ∷ 3 ∷ 0 ∷ 0 ∷ []) (pos 0 ∷ pos 2 ∷ pos 0 ∷ pos 0 ∷ [])
       ∷ shows (0 ∷ 3 ∷ 3 ∷ 0 ∷ []) (pos 0 ∷ negsuc 1 ∷ negsuc 1 ∷ pos 0 ∷ [])
@@ -54,13 +55,17 @@ moved = (
 -- "where both have a route, else 0": from 3 without 3→2 the routes to 1 and 2 are lost, and with 3→0 0 gains one; 0 had none and has none in the first
 abbrev routed : Lines
 routed = (
-  asked (takes 3 2 ∷ []) 1 3 5 5 ∷ asked (adds 3 0 5 ∷ []) 1 3 5 5 ∷ [],
+  asked (takes 3 2 2 ∷ []) 1 3 5 5 ∷ asked (adds 3 0 5 ∷ []) 1 3 5 5 ∷ [],
   shows (0 ∷ 2 ∷ 2 ∷ 0 ∷ []) nowhere ∷ shows (1 ∷ 0 ∷ 0 ∷ 0 ∷ []) nowhere ∷ [],
 )
 
+-- a twin: 0→1 stands with 4 and 7, and for headroom the taller one counts
+abbrev twinned : Lines
+twinned = (asked (adds 0 1 7 ∷ []) 3 0 5 5 ∷ asked (adds 0 1 7 ∷ []) 1 0 5 5 ∷ [], shows (0 ∷ 3 ∷ 0 ∷ 0 ∷ []) (pos 0 ∷ pos 3 ∷ pos 0 ∷ pos 0 ∷ []) ∷ shows (0 ∷ 0 ∷ 0 ∷ 0 ∷ []) nowhere ∷ [])
+
 -- a batch without changes, and one that leaves the table as it was
 abbrev still : Lines
-still = (asked [] 1 0 5 5 ∷ asked (takes 0 1 ∷ adds 0 1 4 ∷ []) 1 0 5 5 ∷ [], shows (0 ∷ 0 ∷ 0 ∷ 0 ∷ []) nowhere ∷ shows (0 ∷ 0 ∷ 0 ∷ 0 ∷ []) nowhere ∷ [])
+still = (asked [] 1 0 5 5 ∷ asked (takes 0 1 4 ∷ adds 0 1 4 ∷ []) 1 0 5 5 ∷ [], shows (0 ∷ 0 ∷ 0 ∷ 0 ∷ []) nowhere ∷ shows (0 ∷ 0 ∷ 0 ∷ 0 ∷ []) nowhere ∷ [])
 
 -- ---- refusals
 
@@ -69,8 +74,8 @@ still = (asked [] 1 0 5 5 ∷ asked (takes 0 1 ∷ adds 0 1 4 ∷ []) 1 0 5 5 �
 abbrev judged : Lines
 judged = (
   asked (odd ∷ []) 6 4 3 4 ∷ asked (odd ∷ []) 6 4 4 3 ∷ asked (odd ∷ []) 6 4 4 4 ∷ asked (odd ∷ []) 1 4 4 4 ∷ asked (odd ∷ []) 1 3 4 4
-      ∷ asked (takes 0 1 ∷ takes 0 1 ∷ []) 1 0 4 4 ∷ [],
-  turned 2 0 3 4 ∷ turned 2 0 4 3 ∷ turned 5 0 4 4 ∷ turned 6 0 4 4 ∷ turned 7 0 4 4 ∷ turned 11 1 4 4 ∷ [],
+      ∷ asked (takes 0 1 4 ∷ takes 0 1 4 ∷ []) 1 0 4 4 ∷ asked (retunes 0 1 4 5 ∷ []) 1 0 4 4 ∷ [],
+  turned 2 0 3 4 ∷ turned 2 0 4 3 ∷ turned 5 0 4 4 ∷ turned 6 0 4 4 ∷ turned 7 0 4 4 ∷ turned 11 1 4 4 ∷ turned 10 0 4 4 ∷ [],
 )
 
 -- ---- digests
@@ -98,9 +103,17 @@ digests = (
 
 -- ---- computed
 
-previews-said : Said (moved ∷ routed ∷ still ∷ judged ∷ [])
+moved-said : Said (moved ∷ [])
 unfolding calls
-previews-said = refl
+moved-said = refl
+
+routed-said : Said (routed ∷ twinned ∷ still ∷ [])
+unfolding calls
+routed-said = refl
+
+judged-said : Said (judged ∷ [])
+unfolding calls
+judged-said = refl
 
 digests-said : Said digests
 unfolding calls

@@ -1,4 +1,4 @@
--- Refusals, computed: document 01, "Turned back" and "Near the edges"; document 02, One. Each line says which sentence it shows and
+-- Refusals, computed: document 01, "Turned back" and "Near the edges"; document 02, One and Five. Each line says which sentence it shows and
 -- which nearby reading it shuts out; the numbers are worked out by hand. Assumes nothing.
 use Rattle.property.proofs.Tables.{Said, each}
 use Rattle.property.proofs.Basics.{refl, List, [], _∷_, _++_, map, ℕ, _+_, _/_, _%_, replicate}
@@ -13,6 +13,7 @@ use Rattle.network.specs.Batch.{batchCall}
 use Rattle.network.specs.Settled.{settledCall}
 use Rattle.network.specs.Choice.{choiceCall}
 use Rattle.network.specs.Lookup.{lookupNumber}
+use Rattle.network.specs.Caller.{holding}
 use Rattle.worked.specs.Starred.{graphA, takes, adds}
 use Rattle.worked.proofs.Calls.{calls}
 
@@ -67,7 +68,7 @@ looks n ls w side l p = verdictOf (lookupNumber n ls (w .memory .rows) side l p)
 
 -- a change that is bad in every way that a record can be
 abbrev pub worst : Change
-worst = record { kind = 7; tail = 9; head = 9; weight = 99999 }
+worst = record { kind = 7; tail = 9; head = 9; weight = 99999; old = 99999 }
 
 -- the opening, a query, a batch and the settled check, all that is their own bad: a query's own lists have k words
 abbrev everyCall : ℕ → List ℕ → Network → ℕ → List Verdict
@@ -87,6 +88,9 @@ refusals =
     )
     -- a table's record of zeros is a loop of weight 0: number 4, not 8 or 9
     ∷ (opens 4 (0 ∷ []) (tabled 20 20 1) ∷ [], refuse 4 0)
+    -- "the table ascends by tail, head, figure": a record twice, and a twin after a greater one, are 4 at the second; twins in order are good
+    ∷ (opens 4 (0 ∷ []) (holding (edge 0 1 4 ∷ edge 0 1 4 ∷ []) (0 ∷ []) 4) ∷ opens 4 (0 ∷ []) (holding (edge 0 1 7 ∷ edge 0 1 4 ∷ []) (0 ∷ []) 4) ∷ [], refuse 4 1)
+    ∷ (opens 4 (0 ∷ []) (holding (edge 0 1 4 ∷ edge 0 1 7 ∷ []) (0 ∷ []) 4) ∷ [], accept)
     -- posts: over 4, not a station, repeated; four in any order are good
     ∷ (opens 5 (3 ∷ 1 ∷ 4 ∷ 0 ∷ []) (tabled 100 100 0) ∷ [], accept)
     ∷ (opens 5 (0 ∷ 1 ∷ 2 ∷ 3 ∷ 4 ∷ []) (tabled 125 125 0) ∷ opens 4 (4 ∷ []) bare ∷ opens 4 (1 ∷ 2 ∷ 1 ∷ []) (tabled 60 60 0) ∷ [], refuse 3 0)
@@ -132,34 +136,36 @@ shorts = (
 
 -- ---- the changes of a batch: numbers 6 to 12
 
-abbrev pub change : ℕ → ℕ → ℕ → ℕ → Change
-change k t h w = record { kind = k; tail = t; head = h; weight = w }
+abbrev pub change : ℕ → ℕ → ℕ → ℕ → ℕ → Change
+change k t h w o = record { kind = k; tail = t; head = h; weight = w; old = o }
 
-abbrev pub retunes : ℕ → ℕ → ℕ → Change
-retunes t h w = change 3 t h w
+-- from the old weight o to the weight w
+abbrev pub retunes : ℕ → ℕ → ℕ → ℕ → Change
+retunes t h w o = change 3 t h w o
 
 -- changes against deck A; their place is 5
 abbrev itemsJudged : List (List Change × Verdict)
 itemsJudged =
     -- 6: tail or head is n or more, before a bad kind, a loop and a bad figure
-    (worst ∷ adds 4 0 1 ∷ adds 0 4 1 ∷ takes 0 4 ∷ retunes 4 1 4 ∷ [], refuse 6 5)
+    (worst ∷ adds 4 0 1 ∷ adds 0 4 1 ∷ takes 0 4 4 ∷ retunes 4 1 7 4 ∷ [], refuse 6 5)
     -- 7: none of 1 to 3, before a loop and a bad figure
-    ∷ (change 0 1 1 65536 ∷ change 4 0 1 0 ∷ [], refuse 7 5)
-    -- 8: tail equals head, before a bad figure; a loop's pair is never there, and that is no 11
-    ∷ (adds 1 1 0 ∷ change 2 1 1 4 ∷ takes 1 1 ∷ retunes 1 1 4 ∷ [], refuse 8 5)
-    -- 9: an add's figure is 1 to 65,535, a take's is 0 even where the record has that figure; before 10 and 11
-    ∷ (adds 0 1 0 ∷ adds 1 0 0 ∷ adds 1 0 65536 ∷ change 2 0 1 4 ∷ change 2 1 0 4 ∷ [], refuse 9 5)
-    ∷ (adds 1 0 65535 ∷ takes 0 1 ∷ [], accept)
-    -- a retune's figure is "9 as for an add"; before 11
-    ∷ (retunes 0 1 0 ∷ retunes 1 0 0 ∷ retunes 0 1 65536 ∷ [], refuse 9 5)
-    ∷ (retunes 0 1 65535 ∷ [], accept)
-    -- 10: the pair is there, whatever its figure; the reversed pair is another
-    ∷ (adds 0 1 4 ∷ adds 0 1 7 ∷ [], refuse 10 5)
-    ∷ (adds 1 0 4 ∷ [], accept)
-    -- 11: no such pair; the reversed one does not do
-    ∷ (takes 1 0 ∷ retunes 1 0 4 ∷ [], refuse 11 5)
-    -- a retune of a pair that is there is no 10, whatever its figure
-    ∷ (retunes 0 1 4 ∷ retunes 0 1 7 ∷ [], accept)
+    ∷ (change 0 1 1 65536 9 ∷ change 4 0 1 0 4 ∷ [], refuse 7 5)
+    -- 8: tail equals head, before a bad figure; a loop is never there, and that is no 11
+    ∷ (adds 1 1 0 ∷ change 2 1 1 0 4 ∷ takes 1 1 4 ∷ retunes 1 1 7 4 ∷ [], refuse 8 5)
+    -- 9: a figure is 1 to 65,535, "a take names the figure (9 if outside 1 to 65,535)"; before 10 and 11
+    ∷ (adds 0 1 0 ∷ adds 1 0 0 ∷ adds 1 0 65536 ∷ takes 0 1 0 ∷ takes 1 0 0 ∷ takes 0 1 65536 ∷ retunes 0 1 0 4 ∷ retunes 1 0 0 4 ∷ retunes 0 1 65536 4 ∷ [], refuse 9 5)
+    -- "the old figure, 1 to 65,535 for kind 3 and 0 otherwise, else 9": also before 10 and 11
+    ∷ (change 1 0 1 7 7 ∷ change 1 0 1 4 4 ∷ change 2 0 1 4 4 ∷ change 2 1 0 4 4 ∷ retunes 0 1 7 0 ∷ retunes 1 0 7 0 ∷ retunes 0 1 7 65536 ∷ retunes 0 1 4 0 ∷ [], refuse 9 5)
+    ∷ (adds 1 0 65535 ∷ takes 0 1 4 ∷ retunes 0 1 65535 4 ∷ [], accept)
+    -- "10 is for an equal triple": a twin is another, and so is the reversed pair
+    ∷ (adds 0 1 4 ∷ [], refuse 10 5)
+    ∷ (adds 0 1 7 ∷ adds 1 0 4 ∷ [], accept)
+    -- "11 for an absent one": the pair with another figure does not do, nor the reversed one
+    ∷ (takes 0 1 5 ∷ takes 1 0 4 ∷ retunes 0 1 7 5 ∷ retunes 1 0 7 4 ∷ [], refuse 11 5)
+    -- "a new figure that the pair already has is 10, even with the old one absent, unless the two are equal"
+    ∷ (retunes 0 1 4 5 ∷ [], refuse 10 5)
+    ∷ (retunes 0 1 5 5 ∷ retunes 1 0 4 4 ∷ [], refuse 11 5)
+    ∷ (retunes 0 1 4 4 ∷ retunes 0 1 7 4 ∷ [], accept)
     ∷ []
 
 -- 2,048 edges among 256 vertices, in table order: tails 0 to 127, each to the heads 128 to 143
@@ -169,34 +175,34 @@ fullTable = map (λ i. edge (i / 16) (128 + i % 16) 1) (range 0 2048)
 -- batches against that table
 abbrev fullJudged : List (List (List Change) × Verdict)
 fullJudged =
-    -- 12: an add when 2,048 are there; a pair that is there is 10 first; a take or a retune needs no room
-    ((adds 0 1 1 ∷ []) ∷ [], refuse 12 0)
-    ∷ ((adds 0 128 1 ∷ []) ∷ [], refuse 10 0)
-    ∷ ((takes 0 1 ∷ []) ∷ (retunes 0 1 9 ∷ []) ∷ [], refuse 11 0)
-    ∷ ((takes 0 128 ∷ []) ∷ (retunes 0 128 9 ∷ []) ∷ [], accept)
-    -- "against the table as earlier items left it": a take makes room for one add, an add after it finds its pair gone
-    ∷ ((takes 0 128 ∷ adds 0 1 1 ∷ []) ∷ (takes 0 128 ∷ adds 0 128 9 ∷ []) ∷ [], accept)
-    ∷ ((takes 0 128 ∷ adds 0 1 1 ∷ adds 0 2 1 ∷ []) ∷ [], refuse 12 2)
-    ∷ ((adds 0 1 1 ∷ takes 0 128 ∷ []) ∷ [], refuse 12 0)
+    -- 12: an add when 2,048 are there, of a twin too; a record that is there is 10 first; a take or a retune needs no room
+    ((adds 0 1 1 ∷ []) ∷ (adds 0 128 2 ∷ []) ∷ [], refuse 12 0)
+    ∷ ((adds 0 128 1 ∷ []) ∷ (retunes 0 128 1 9 ∷ []) ∷ [], refuse 10 0)
+    ∷ ((takes 0 1 1 ∷ []) ∷ (takes 0 128 9 ∷ []) ∷ (retunes 0 1 9 1 ∷ []) ∷ [], refuse 11 0)
+    ∷ ((takes 0 128 1 ∷ []) ∷ (retunes 0 128 9 1 ∷ []) ∷ [], accept)
+    -- "against the table as earlier items left it": a take makes room for one add, an add after it finds its record gone
+    ∷ ((takes 0 128 1 ∷ adds 0 1 1 ∷ []) ∷ (takes 0 128 1 ∷ adds 0 128 1 ∷ []) ∷ [], accept)
+    ∷ ((takes 0 128 1 ∷ adds 0 1 1 ∷ adds 0 2 1 ∷ []) ∷ [], refuse 12 2)
+    ∷ ((adds 0 1 1 ∷ takes 0 128 1 ∷ []) ∷ [], refuse 12 0)
     ∷ []
 
 -- a batch against that table without its last record: there is room for one
 abbrev lessJudged : List (List (List Change) × Verdict)
-lessJudged = ((adds 200 0 1 ∷ adds 200 1 1 ∷ []) ∷ [], refuse 12 1) ∷ []
+lessJudged = ((adds 200 0 1 ∷ adds 200 1 1 ∷ []) ∷ (adds 0 128 2 ∷ adds 0 128 3 ∷ []) ∷ [], refuse 12 1) ∷ []
 
 -- batches against deck A
 abbrev batchesJudged : List (List (List Change) × Verdict)
 batchesJudged =
-    -- "against the table as earlier items left it"
-    ((adds 1 0 5 ∷ adds 1 0 6 ∷ []) ∷ (retunes 0 1 3 ∷ adds 0 1 3 ∷ []) ∷ [], refuse 10 1)
-    ∷ ((adds 1 0 5 ∷ takes 1 0 ∷ takes 1 0 ∷ []) ∷ [], refuse 11 2)
-    ∷ ((takes 1 0 ∷ adds 1 0 5 ∷ []) ∷ [], refuse 11 0)
-    ∷ ((takes 0 1 ∷ retunes 0 1 3 ∷ []) ∷ [], refuse 11 1)
-    ∷ ((adds 1 0 2 ∷ retunes 1 0 7 ∷ []) ∷ [], accept)
+    -- "against the table as earlier items left it"; where the new figure is there, the old one is not asked for
+    ((adds 1 0 5 ∷ adds 1 0 5 ∷ []) ∷ (retunes 0 1 3 4 ∷ adds 0 1 3 ∷ []) ∷ (adds 0 1 7 ∷ retunes 0 1 7 4 ∷ []) ∷ (adds 0 1 7 ∷ retunes 0 1 7 9 ∷ []) ∷ [], refuse 10 1)
+    ∷ ((adds 1 0 5 ∷ takes 1 0 5 ∷ takes 1 0 5 ∷ []) ∷ [], refuse 11 2)
+    ∷ ((takes 1 0 5 ∷ adds 1 0 5 ∷ []) ∷ [], refuse 11 0)
+    ∷ ((takes 0 1 4 ∷ retunes 0 1 3 4 ∷ []) ∷ (retunes 0 1 3 4 ∷ takes 0 1 4 ∷ []) ∷ (adds 0 1 7 ∷ takes 0 1 5 ∷ []) ∷ [], refuse 11 1)
+    ∷ ((adds 1 0 2 ∷ retunes 1 0 7 2 ∷ []) ∷ (adds 1 0 5 ∷ adds 1 0 6 ∷ []) ∷ (adds 0 1 7 ∷ retunes 0 1 9 4 ∷ takes 0 1 7 ∷ []) ∷ [], accept)
     -- "the first item with any of 6 to 12, its lowest number": a later item with a lower number is not heard
-    ∷ ((adds 1 0 5 ∷ takes 2 0 ∷ worst ∷ []) ∷ [], refuse 11 1)
+    ∷ ((adds 1 0 5 ∷ takes 2 0 1 ∷ worst ∷ []) ∷ [], refuse 11 1)
     -- place is the "index from 0"
-    ∷ ((takes 0 1 ∷ takes 0 3 ∷ takes 1 2 ∷ worst ∷ []) ∷ [], refuse 6 3)
+    ∷ ((takes 0 1 4 ∷ takes 0 3 9 ∷ takes 1 2 4 ∷ worst ∷ []) ∷ [], refuse 6 3)
     -- no item, no fault
     ∷ ([] ∷ [], accept)
     ∷ []

@@ -1,8 +1,8 @@
 -- The starred lines of document 01, "Near the edges, and a small deck": one table of rows, and one statement over it.
--- The numbers are document 01's. Assumes nothing.
+-- The numbers are document 01's; "the worked takes name 4" (document 02, Five). Assumes nothing.
 --
 --   graphA                   == Deck A: n 4; 0→1 4, 0→3 9, 1→2 4, 2→1 4, 3→2 2
---   takes t h, adds t h w    == change records
+--   takes t h w, adds t h w  == change records
 --   Ask                      == what a line asks of a network
 --     settled p s             == the settled words of a query from s for property p
 --     asked p s vs            == start words, settled words, rounds of a query with the schedule vs
@@ -38,11 +38,11 @@ use Rattle.network.specs.Caller.{holding, openedNetwork, lived, queried}
 abbrev pub graphA : List Edge
 graphA = edge 0 1 4 ∷ edge 0 3 9 ∷ edge 1 2 4 ∷ edge 2 1 4 ∷ edge 3 2 2 ∷ []
 
-abbrev pub takes : ℕ → ℕ → Change
-takes t h = record { kind = 2; tail = t; head = h; weight = 0 }
+abbrev pub takes : ℕ → ℕ → ℕ → Change
+takes t h w = record { kind = 2; tail = t; head = h; weight = w; old = 0 }
 
 abbrev pub adds : ℕ → ℕ → ℕ → Change
-adds t h w = record { kind = 1; tail = t; head = h; weight = w }
+adds t h w = record { kind = 1; tail = t; head = h; weight = w; old = 0 }
 
 -- ---- what a line asks, and what the calls' definitions answer
 
@@ -126,17 +126,17 @@ starred =
     -- A, reach from 3: 0 1 1 1
     ∷ onA 0 [] (settled 5 3) (words (0 ∷ 1 ∷ 1 ∷ 1 ∷ []))
     -- Take 0→1: time 0 15 11 9; headroom M 2 2 9
-    ∷ onA 0 ((takes 0 1 ∷ []) ∷ []) (settled 1 0) (words (0 ∷ 15 ∷ 11 ∷ 9 ∷ []))
-    ∷ onA 0 ((takes 0 1 ∷ []) ∷ []) (settled 3 0) (words (M ∷ 2 ∷ 2 ∷ 9 ∷ []))
+    ∷ onA 0 ((takes 0 1 4 ∷ []) ∷ []) (settled 1 0) (words (0 ∷ 15 ∷ 11 ∷ 9 ∷ []))
+    ∷ onA 0 ((takes 0 1 4 ∷ []) ∷ []) (settled 3 0) (words (M ∷ 2 ∷ 2 ∷ 9 ∷ []))
     -- That take: suspects 1 and 2 in the outward time row; none in the homeward one
-    ∷ onA 0 [] (affectedRow (takes 0 1 ∷ []) 0 1) (vertices (1 ∷ 2 ∷ []))
-    ∷ onA 0 [] (affectedRow (takes 0 1 ∷ []) 1 1) (vertices [])
+    ∷ onA 0 [] (affectedRow (takes 0 1 4 ∷ []) 0 1) (vertices (1 ∷ 2 ∷ []))
+    ∷ onA 0 [] (affectedRow (takes 0 1 4 ∷ []) 1 1) (vertices [])
     -- A, post 2, time from 1: start and settled M 0 4 M, 1 round; picks 1, 1: taken 1, rounds 0
     ∷ onA 2 [] (asked 1 1 []) (startsSettledRounds (M ∷ 0 ∷ 4 ∷ M ∷ []) (M ∷ 0 ∷ 4 ∷ M ∷ []) 1)
     ∷ onA 2 [] (tallied 1 1 (1 ∷ 1 ∷ [])) (takenRounds 1 0)
     -- Take 0→1, add 0→1 4: no suspects. Take 0→1 twice: 11, place 1
-    ∷ onA 0 [] (batch (takes 0 1 ∷ adds 0 1 4 ∷ [])) (affected 0)
-    ∷ onA 0 [] (batch (takes 0 1 ∷ takes 0 1 ∷ [])) (refusedWith 11 1)
+    ∷ onA 0 [] (batch (takes 0 1 4 ∷ adds 0 1 4 ∷ [])) (affected 0)
+    ∷ onA 0 [] (batch (takes 0 1 4 ∷ takes 0 1 4 ∷ [])) (refusedWith 11 1)
     ∷ []
 
 abbrev pub Starred : Type 0

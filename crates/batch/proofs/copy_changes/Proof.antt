@@ -1,5 +1,5 @@
 -- `batch::copy_changes` meets its contract: a walk of its MIR, by hand, with a loop. A turn looks into the slice of records and copies record i, lends the
--- four lists again to `put_change` for a lifetime of the call, beside the record's fields, and takes them back. The loop's invariant is the context `At i`,
+-- five lists again to `put_change` for a lifetime of the call, beside the record's fields, and takes them back. The loop's invariant is the context `At i`,
 -- in which the lists stand at `copied ys fs i`. All that the proof knows of `put_change` is that it meets its contract. Assumes nothing.
 use Rattle.property.proofs.Basics.{_≡_, refl, sym, _∙_, ap, subst, ℕ, _+_, _-_, _*_, _<_, _≤_, _^_, lt-of-le-of-lt, arith, List, [], _∷_, ltb, lit<, length, getD}
 use Prim.Native.Nat.{zero-le}
@@ -23,16 +23,17 @@ use denote.Struct.Laws as LL
 use denote.Struct.Rest.{all-own, own-open}
 use denote.Struct.Values.{Values}
 use Rattle.graph.specs.Limits.{maxBatch}
-use Rattle.batch.specs.Code.{recorded, noChange, putChange, copied}
+use Rattle.items.specs.Code.{putChange}
+use Rattle.items.proofs.Laying.{filled-length, filled-more}
+use Rattle.batch.specs.Code.{recorded, noChange, recordAt, copied}
 use Rattle.batch.specs.declared.Change.{Change}
 use Rattle.batch.proofs.Again.{LentAgain, lends-again, comes-back}
-use Rattle.batch.proofs.Copying.{copied-length, copied-more}
 use Rattle.batch.proofs.Change as T
 use Rattle.batch.proofs.Change.Laws as T′
-use Rattle.batch.proofs.put_change as put
-use Rattle.batch.proofs.put_change.Symbol as put-def
-use Rattle.batch.proofs.put_change.Symbol.{name as #batch·put-change}
-use Rattle.batch.proofs.put_change.Met as put-thm
+use Rattle.items.proofs.lay.put_change as put
+use Rattle.items.proofs.lay.put_change.Symbol as put-def
+use Rattle.items.proofs.lay.put_change.Symbol.{name as #items·lay·put-change}
+use Rattle.items.proofs.lay.put_change.Met as put-thm
 use Rattle.batch.proofs.copy_changes.Key.{name as #batch·copy-changes}
 use Rattle.batch.proofs.copy_changes as copy
 use Rattle.batch.proofs.copy_changes.Statement as stated
@@ -81,7 +82,7 @@ abbrev ref : Ty
 ref = tyRef erased mut (tyInt w32)
 
 module _ {M : Type 1} (𝓤 : URA M) (H : Heap 𝓤) (A : Atoms 𝓤) (W : Given 𝓤 H A) (mem : Memory → SProp 𝓤) (run : Routine → Fun 𝓤) (κ κ′ : Lft) (q q′ : Share) (b o : ℕ) (γ : GName) (ys : List Change) (k : ℕ) (b′ o′ : ℕ) (γ′ : GName) (fs : List ℕ)
-    (room : Room R (length ys)) (k-fits : k < 2 ^ 64) (room′ : Room u32 (length fs)) (asked : (k ≤ length ys) × (k ≤ maxBatch) × (length fs ≡ 4 * maxBatch)) where
+    (room : Room R (length ys)) (k-fits : k < 2 ^ 64) (room′ : Room u32 (length fs)) (asked : (k ≤ length ys) × (k ≤ maxBatch) × (length fs ≡ 5 * maxBatch)) where
   -- the slice of records, and that of the lists, under the name δ at the words l
   abbrev x : RefT (List Change)
   x = record { ptr = (b, o); name = γ; now = ys }
@@ -130,15 +131,15 @@ module _ {M : Type 1} (𝓤 : URA M) (H : Heap 𝓤) (A : Atoms 𝓤) (W : Given
 
   -- what `put_change` is passed: the lists under the name δ, i, and the fields of record i
   abbrev fields : ℕ → Values (T.the-type .parts)
-  fields i = elem i .kind ⨾ elem i .tail ⨾ elem i .head ⨾ elem i .weight ⨾ tt
+  fields i = elem i .kind ⨾ elem i .tail ⨾ elem i .head ⨾ elem i .weight ⨾ elem i .old ⨾ tt
 
   -- what its triple binds outside: the lists lent again for the lifetime ν
   abbrev to-put : ℕ → ℕ → GName → Put 𝓤 H A mem run .Ghost
-  to-put i ν δ = (((ν ∷ []) ⨾ tt, fullShare ⨾ tt, tt, x′ δ (zs i) ⨾ i ⨾ fields i, (s′ (length fs) ∷ []) ⨾ uint-vals w64 i ⨾ uint-vals w32 (elem i .kind) ⨾ uint-vals w32 (elem i .tail) ⨾ uint-vals w32 (elem i .head) ⨾ uint-vals w32 (elem i .weight) ⨾ tt), tt)
+  to-put i ν δ = (((ν ∷ []) ⨾ tt, fullShare ⨾ tt, tt, x′ δ (zs i) ⨾ i ⨾ fields i, (s′ (length fs) ∷ []) ⨾ uint-vals w64 i ⨾ uint-vals w32 (elem i .kind) ⨾ uint-vals w32 (elem i .tail) ⨾ uint-vals w32 (elem i .head) ⨾ uint-vals w32 (elem i .weight) ⨾ uint-vals w32 (elem i .old) ⨾ tt), tt)
 
   goes : (i : ℕ) → i < k → Is R (elem i) (mach i ∷ []) → (ν : ℕ) (δ : GName) → ent 𝓤 (sep 𝓤 (A .lft (ν ∷ []) fullShare) (sem 𝓤 H A (MutSlice (named 0) (ν ∷ []) u32 .own (x′ δ (zs i)) (s′ (length fs) ∷ [])))) (Put 𝓤 H A mem run .pre (to-put i ν δ))
   goes i l g ν δ =
-      qed W (‵ (flft (ν ∷ []) fullShare) ∷ ‵ (MutSlice (named 0) (ν ∷ []) u32 .own (x′ δ (zs i)) (s′ (length fs) ∷ [])) ∷ []) ∵ says ! (let m = asked .1 in omega arith, copied-length ys fs i ∙ asked .2) $
+      qed W (‵ (flft (ν ∷ []) fullShare) ∷ ‵ (MutSlice (named 0) (ν ∷ []) u32 .own (x′ δ (zs i)) (s′ (length fs) ∷ [])) ∷ []) ∵ says ! (let m = asked .1 in omega arith, filled-length (recordAt ys) fs i ∙ asked .2) $
       nothing ! $ move ! (1 ∷ 0 ∷ []) $ join ! $ frame ! $
       owned ! R (Is R) (LL.makes T.the-type T′.the-plain 𝓤 H A) (elem i) (mach i ∷ []) g $ use1 W (given (mach i ∷ [] ≡ mach i ∷ []) (‵ (all-own (T.the-type .parts) T′.the-laws (fields i)))) (own-open 𝓤 H A W T.the-type T′.the-laws (fields i) (mach i)) $ learn ! (λ _.
       owned ! usize (Is usize) (uint-makes 𝓤 H A W w64) i _ (refl, omega arith) $ fjoin ! $ move ! (1 ∷ 0 ∷ []) $ fjoin ! $ done !)
@@ -153,7 +154,7 @@ module _ {M : Type 1} (𝓤 : URA M) (H : Heap 𝓤) (A : Atoms 𝓤) (W : Given
   Nearer-wf : WellFounded Nearer
   Nearer-wf = InvImage·wf (λ (i : Upto). k - i .0) (Nat·lt-wfRel .wf)
 
-  module _ (𝓣 : Tables 𝓤 H) (known : Triple 𝓤 (𝓣 .C #batch·put-change) (Put 𝓤 H A mem run)) (l₀ l₁ l₂ l₃ l₄ l₅ l₆ l₇ l₈ l₉ l₁₀ l₁₁ l₁₂ : ℕ) where
+  module _ (𝓣 : Tables 𝓤 H) (known : Triple 𝓤 (𝓣 .C #items·lay·put-change) (Put 𝓤 H A mem run)) (l₀ l₁ l₂ l₃ l₄ l₅ l₆ l₇ l₈ l₉ l₁₀ l₁₁ l₁₂ : ℕ) where
     abbrev En : Env 𝓤 H
     En = (tyUnit, l₀) ∷ (slice, l₁) ∷ (word, l₂) ∷ (slice′, l₃) ∷ (word, l₄) ∷ (T′.mir, l₅) ∷ (tyBool, l₆) ∷ (word, l₇) ∷ (tyPtr, l₈) ∷ (T′.mir, l₉) ∷ (tyUnit, l₁₀) ∷ (ref, l₁₁) ∷ (sliceTy ref, l₁₂) ∷ []
 
@@ -177,7 +178,7 @@ module _ {M : Type 1} (𝓤 : URA M) (H : Heap 𝓤) (A : Atoms 𝓤) (W : Given
         -- record i is copied
         assigns ! (bin ! (var ! 22 refl) (lit ! tt) (record { fits = before less })) (from ! (stop !)) (init ! 16 refl (tt, record { fits = before less })) $
         assigns ! (bin ! (load ! (from ! (fld ! refl (stop !))) (look-in ! 28 (sub ! 0 refl (whole !)))) (var ! 16 refl) tt) (from ! (stop !)) (init ! 14 refl (tt, tt)) $
-        rewrite ! 14 (λ (p : ℕ). ‵ (fat fullShare tyPtr l₈ 0 (vptr b p))) (sym (place-is 16 o (i .0))) refl $
+        rewrite ! 14 (λ (p : ℕ). ‵ (fat fullShare tyPtr l₈ 0 (vptr b p))) (sym (place-is 20 o (i .0))) refl $
         looks-slice ! tt R (Is R) (shows 𝓤 H A R) (LL.vals T.the-type T′.the-laws) (LL.tells T.the-type T′.the-laws) (LL.copy T.the-type T′.the-copy 𝓤 H A W) ys b o (λ t.
         elem-out ! R (Is R) (shows 𝓤 H A R) (LL.vals T.the-type T′.the-laws) (LL.tells T.the-type T′.the-laws) t ys (i .0) noChange b o (inside less) (λ g.
         -- [the record; what it owns; the others; what shuts; Frac; the lists; their token; Res; Said; _12 at 9; …]
@@ -187,22 +188,22 @@ module _ {M : Type 1} (𝓤 : URA M) (H : Heap 𝓤) (A : Atoms 𝓤) (W : Given
         -- [the records' token; Frac; the lists; their token; Res; Said; _12 at 6; …]: the lists are lent again, for a lifetime ν of the call
         assigns ! (addr ! (from ! (fld ! refl (hop ! (look-in ! 24 (sub ! 0 refl (whole !))) (stop !))))) (from ! (stop !)) (init ! 8 refl (tt, tt)) $
         assigns ! (agg ! (and-then ! (var ! 8 refl) (and-then ! (load ! (from ! (fld ! refl (stop !))) (look-in ! 24 (sub ! 1 refl (whole !)))) (no-more !)))) (from ! (stop !)) (init ! 6 refl (wide (room′ .0))) $
-        rewrite ! 2 (λ (m : ℕ). ‵ (Flat (zs (i .0)) m)) (sym (copied-length ys fs (i .0))) refl $
+        rewrite ! 2 (λ (m : ℕ). ‵ (Flat (zs (i .0)) m)) (sym (filled-length (recordAt ys) fs (i .0))) refl $
         lft-new ! tt (λ ν. move ! (3 ∷ 4 ∷ []) $
         use2 W (later (some (λ (δ : GName). ‵ (MutSlice (named 0) (ν ∷ []) u32 .own (x′ δ (zs (i .0))) (s′ (length (zs (i .0))) ∷ [])) ⊛ ‵ (LentAgain u32 κ′ (ν ∷ []) q′ γ′ b′ o′ δ (zs (i .0)))))) (lends-again u32 κ′ (ν ∷ []) q′ γ′ b′ o′ 𝓤 H A W (named 1) (named 0) (zs (i .0))) $ await ! tt $ pick ! (λ δ. split ! $
-        rewrite ! 0 (λ (m : ℕ). ‵ (MutSlice (named 0) (ν ∷ []) u32 .own (x′ δ (zs (i .0))) (s′ m ∷ []))) (copied-length ys fs (i .0)) refl $
+        rewrite ! 0 (λ (m : ℕ). ‵ (MutSlice (named 0) (ν ∷ []) u32 .own (x′ δ (zs (i .0))) (s′ m ∷ []))) (filled-length (recordAt ys) fs (i .0)) refl $
         move ! (2 ∷ 0 ∷ []) $ use2 W (raw (Put 𝓤 H A mem run .pre (to-put (i .0) ν δ))) (goes (i .0) (small less) g ν δ) $
         -- [the call's pre; what is lent; the records' token; Frac; Res; Said; _12 at 6; …]
         calls-at ! (fmOf 𝓤 H (W .laws) 𝓣) (Put 𝓤 H A mem run) known (to-put (i .0) ν δ) (and-then ! (var ! 6 refl) (and-then ! (var ! 22 refl)
-        (and-then ! (load ! (from ! (fld ! refl (stop !))) (look-in ! 20 (sub ! 0 refl (whole !)))) (and-then ! (load ! (from ! (fld ! refl (stop !))) (look-in ! 20 (sub ! 1 refl (whole !)))) (and-then ! (load ! (from ! (fld ! refl (stop !))) (look-in ! 20 (sub ! 2 refl (whole !)))) (and-then ! (load ! (from ! (fld ! refl (stop !))) (look-in ! 20 (sub ! 3 refl (whole !)))) (no-more !))))))) (λ w.
+        (and-then ! (load ! (from ! (fld ! refl (stop !))) (look-in ! 20 (sub ! 0 refl (whole !)))) (and-then ! (load ! (from ! (fld ! refl (stop !))) (look-in ! 20 (sub ! 1 refl (whole !)))) (and-then ! (load ! (from ! (fld ! refl (stop !))) (look-in ! 20 (sub ! 2 refl (whole !)))) (and-then ! (load ! (from ! (fld ! refl (stop !))) (look-in ! 20 (sub ! 3 refl (whole !)))) (and-then ! (load ! (from ! (fld ! refl (stop !))) (look-in ! 20 (sub ! 4 refl (whole !)))) (no-more !)))))))) (λ w.
         -- what `put_change` ensures, at some last words
         gave ! tt put.ended (put.clauses 𝓤 H A mem run) (to-put (i .0) ν δ) w (λ r ls. move ! (3 ∷ []) $ heard ! (ls .0 ≡ putChange (zs (i .0)) (i .0) (recorded (elem (i .0)))) (λ e. move ! (2 ∷ []) $ fsplit ! $ fsplit ! $ move ! (1 ∷ []) $ feqL ! (λ l.
         -- [the last words; the other last values; the token; the result's; what is lent; the records' token; Frac; Res; Said; _12 at 9; …]
         move ! (3 ∷ []) $ peeks ! unit (Is unit) (shows 𝓤 H A unit) r (w ∷ []) (λ is. land ! (from ! (stop !)) (init ! 13 refl (nothing-lawful 𝓤 H A W .typed r _ is .0)) $
         -- the lifetime is ended, and the lists come back at those words
         move ! (3 ∷ []) $ use1 W (‵ (flft (ν ∷ []) fullShare) ⊛ ‵ ftrue) (id⊢ 𝓤 _) $ split ! $ lft-end ! tt $ move ! (0 ∷ 5 ∷ 3 ∷ []) $
-        use3 W (later (‵ (Flat (ls .0) (length (zs (i .0)))) ⊛ ‵ (flft κ′ q′))) (comes-back u32 κ′ (ν ∷ []) q′ γ′ b′ o′ 𝓤 H A W (named 1) (named 0) (zs (i .0)) δ (ls .0) (subst (Room u32) (sym (copied-length ys fs (i .0))) room′) l) $ await ! tt $ split ! $
-        rewrite ! 0 (λ (m : ℕ). ‵ (Flat (ls .0) m)) (copied-length ys fs (i .0)) refl $ rewrite ! 0 (λ (us : List ℕ). ‵ (Flat us (length fs))) (e ∙ copied-more ys fs (i .0)) refl $
+        use3 W (later (‵ (Flat (ls .0) (length (zs (i .0)))) ⊛ ‵ (flft κ′ q′))) (comes-back u32 κ′ (ν ∷ []) q′ γ′ b′ o′ 𝓤 H A W (named 1) (named 0) (zs (i .0)) δ (ls .0) (subst (Room u32) (sym (filled-length (recordAt ys) fs (i .0))) room′) l) $ await ! tt $ split ! $
+        rewrite ! 0 (λ (m : ℕ). ‵ (Flat (ls .0) m)) (filled-length (recordAt ys) fs (i .0)) refl $ rewrite ! 0 (λ (us : List ℕ). ‵ (Flat us (length fs))) (e ∙ filled-more (recordAt ys) fs (i .0)) refl $
         -- [the lists; their token; true; the result's; the other last values; the records' token; Frac; Res; Said; _12 at 9; …; _4 at 25; …]
         assigns-last ! (bin ! (var ! 25 refl) (lit ! tt) (record { fits = fits (next less) })) (from ! (stop !)) (store ! 25 refl (tt, record { fits = fits (next less) })) $
         forget ! 9 refl $ forget ! 11 refl $ forget ! 13 refl $ forget ! 15 refl $ forget ! 17 refl $ forget ! 19 refl $ forget ! 21 refl $ forget ! 23 refl $
@@ -212,7 +213,7 @@ module _ {M : Type 1} (𝓤 : URA M) (H : Heap 𝓤) (A : Atoms 𝓤) (W : Given
         assigns ! (of-opd ! (unit-lit !)) (from ! (stop !)) (init ! 30 refl (tt, tt)) $
         returns ! (look ! 30 refl) $ move ! (downs 4 24) $ held ! $ held ! $ held ! $ held ! $ move ! (downs 3 18) $ held ! $ free1 ! $ held ! $ move ! (downs 3 12) $ free1 ! $ free1 ! $ free1 ! $ move ! (downs 3 6) $ free1 ! $ free1 ! $ free1 ! $ free0 ! $
         let e : i .0 ≡ k = le-antisymm (i .1) (nltb→le (i .0) k over) in
-        suffices ! _ (ends-at 𝓤 H A copy.ended (stays (copy.ended .signature .params) (copy.ended .kept) params) c W bound vunit tt (tt ⨾ tt ⨾ zs (i .0) ⨾ tt) (tt ⨾ tt ⨾ copied-length ys fs (i .0) ⨾ tt)) $ says ! (ap zs e) $
+        suffices ! _ (ends-at 𝓤 H A copy.ended (stays (copy.ended .signature .params) (copy.ended .kept) params) c W bound vunit tt (tt ⨾ tt ⨾ zs (i .0) ⨾ tt) (tt ⨾ tt ⨾ filled-length (recordAt ys) fs (i .0) ⨾ tt)) $ says ! (ap zs e) $
         keep ! (1 ∷ 3 ∷ 2 ∷ []) $ nothing ! $ move ! (2 ∷ 0 ∷ []) $ join ! $ move ! (1 ∷ 0 ∷ []) $ join ! $ frame ! $
         nothing ! $ move ! (1 ∷ 0 ∷ []) $ fjoin ! $ nothing ! $ fjoin ! $ nothing ! $ fjoin ! $ feqI ! (List Val) (vunit ∷ []) (vunit ∷ []) refl $ move ! (1 ∷ 0 ∷ []) $ done !)
       where
@@ -222,7 +223,7 @@ module _ {M : Type 1} (𝓤 : URA M) (H : Heap 𝓤) (A : Atoms 𝓤) (W : Given
         inside : Lies (ltb (i .0) k) → i .0 < length ys
         inside less = let l = small less in omega (arith, asked .0)
 
-        before : Lies (ltb (i .0) k) → i .0 * 16 < 2 ^ 64
+        before : Lies (ltb (i .0) k) → i .0 * 20 < 2 ^ 64
         before less = let l = inside less in let g = room .1 in omega arith
 
         fits : (j : Upto) → j .0 < 2 ^ 64
@@ -231,7 +232,7 @@ module _ {M : Type 1} (𝓤 : URA M) (H : Heap 𝓤) (A : Atoms 𝓤) (W : Given
         next : Lies (ltb (i .0) k) → Upto
         next less = (i .0 + 1, add-one-le (small less))
 
-  walk : (𝓣 : Tables 𝓤 H) → Triple 𝓤 (𝓣 .C #batch·put-change) (Put 𝓤 H A mem run) → ent 𝓤 (onEntry 𝓤 H A copy.signature (κ ⨾ κ′ ⨾ tt) (q ⨾ q′ ⨾ tt) (bound .0 .3) (bound .0 .4)) (WpFn 𝓤 H (𝓣 .C) (𝓣 .Λ) code.function (Walk .args bound) (Walk .post bound))
+  walk : (𝓣 : Tables 𝓤 H) → Triple 𝓤 (𝓣 .C #items·lay·put-change) (Put 𝓤 H A mem run) → ent 𝓤 (onEntry 𝓤 H A copy.signature (κ ⨾ κ′ ⨾ tt) (q ⨾ q′ ⨾ tt) (bound .0 .3) (bound .0 .4)) (WpFn 𝓤 H (𝓣 .C) (𝓣 .Λ) code.function (Walk .args bound) (Walk .post bound))
   walk 𝓣 known =
       qed W ((‵ (flft κ q) ⊛ ‵ (flft κ′ q′) ⊛ ‵ ftrue) ∷ ‵ (owns (ShrSlice (named 0) κ R ∷ usize ∷ MutSlice (named 1) κ′ u32 ∷ []) (bound .0 .3) (bound .0 .4)) ∷ []) ∵ enter ! (𝓣 .C) (𝓣 .Λ) code.function (Walk .args bound) _ $
       alloc1 ! (λ l₀. alloc1 ! (λ l₁. alloc1 ! (λ l₂. alloc1 ! (λ l₃. alloc1 ! (λ l₄. alloc1 ! (λ l₅. alloc1 ! (λ l₆. alloc1 ! (λ l₇. alloc1 ! (λ l₈. alloc1 ! (λ l₉. alloc1 ! (λ l₁₀. alloc1 ! (λ l₁₁. alloc1 ! (λ l₁₂. alloc0 ! $ params1 ! $
@@ -254,4 +255,4 @@ copy-changes-spec 𝓤 H 𝓜 𝓖 𝓡 =
     let x′ = y .0 .3 .1 .1 .0 in
     walk 𝓤 H (𝓖 .A) (givenOf 𝓤 H 𝓜 𝓖) (𝓜 .mem) (𝓡 .run) (κs .0) (κs .1 .0) (qs .0) (qs .1 .0) (x .ptr .0) (x .ptr .1) (x .name) (x .now) (y .0 .3 .1 .0) (x′ .ptr .0) (x′ .ptr .1) (x′ .name) (x′ .now)
     (are .0 .0 .1) (are .1 .0 .1) (are .1 .1 .0 .0 .1) asked (tablesOf 𝓤 H 𝓜 (tables 𝓤 H 𝓜 𝓡 code.env))
-    (cited 𝓤 H (Put 𝓤 H (𝓖 .A) (𝓜 .mem) (𝓡 .run)) 𝓜 𝓡 code.env #batch·put-change put-def.routine code.calls-batch·put-change (put-thm.met 𝓤 H 𝓜 𝓖 𝓡)))))
+    (cited 𝓤 H (Put 𝓤 H (𝓖 .A) (𝓜 .mem) (𝓡 .run)) 𝓜 𝓡 code.env #items·lay·put-change put-def.routine code.calls-items·lay·put-change (put-thm.met 𝓤 H 𝓜 𝓖 𝓡)))))

@@ -12,11 +12,11 @@ use Rattle.items.proofs.Editing.{leaves-refused, against-absent, agains
 use Rattle.items.proofs.delete_item.Statement.{statement}
 use Rattle.items.proofs.delete_item.Tie as tie
 
--- where the pair is found
+-- where the edge is found
 abbrev start : tie.After-i → tie.Start
 start i = i .before .before .before .before .before .before .before .before .before
 
-found : (i : tie.After-i) → let a = start i .args in find (edge (a .t) (a .h) 0) (edges (a .tails .now) (a .heads .now) (a .weights .now) (a .count)) ≡ At (i .i .given .0 .0)
+found : (i : tie.After-i) → let a = start i .args in find (edge (a .t) (a .h) (a .w)) (edges (a .tails .now) (a .heads .now) (a .weights .now) (a .count)) ≡ At (i .i .given .0 .0)
 found i = sym (i .before .before .find .ensures) ∙ i .i .given .1
 
 below : (i : tie.After-i) → i .i .given .0 .0 < start i .args .count
@@ -28,11 +28,12 @@ returns-2 c =
     let d = c .before .before .before .before .before .before in
     let i = d .before .before .before .before .before in
     let s = start i in
-    let a = against-found _ 2 (s .args .t) (s .args .h) 0 (s .args .place) refl _ (found i) in
+    let k = change 2 (s .args .t) (s .args .h) (s .args .w) 0 in
+    let a = against-found _ k (s .args .place) refl refl _ (found i) in
     let e = d .delete-at .ensures ∙ delete-found _ _ _ _ (found i) in
     let t : s .args .count ≤ maxEdges = s .pre .0 .few in
     let r : Room maxEdges (d .delete-at .last .1 .0) (d .delete-at .last .1 .1 .0) (d .delete-at .last .1 .1 .1 .0) = record { tails = omega arith; heads = omega arith; weights = omega arith } in
-    item-leaves _ (s .args .place) _ _ _ _ (change 2 (s .args .t) (s .args .h) 0) (s .pre .0) (s .pre .1) a _ _ _ _ (omega arith) r e
+    item-leaves _ (s .args .place) _ _ _ _ k (s .pre .0) (s .pre .1) a _ _ _ _ (omega arith) r e
 
 pub delete-item-spec : {M : Type 1} → statement M
 delete-item-spec =
@@ -44,7 +45,7 @@ delete-item-spec =
     (λ c. search needs)
     (λ c. search needs)
     (λ c. search needs)
-    (λ c. leaves-refused _ _ _ _ _ _ _ _ refl (against-absent _ 2 _ _ 0 _ refl (sym (c .before .before .find .ensures) ∙ c .enum-told .given .1)))
+    (λ c. let g = c .before .before .before .before .before .before .before .before .before .args in leaves-refused _ _ _ _ _ _ _ _ refl (against-absent _ (change 2 (g .t) (g .h) (g .w) 0) _ refl refl (sym (c .before .before .find .ensures) ∙ c .enum-told .given .1)))
     (λ c κs.
     let i = c .before .before .before .before in
     let t = start i .pre .0 in

@@ -104,13 +104,13 @@ module _ {M : Type 1} (𝓤 : URA M) (H : Heap 𝓤) (A : Atoms 𝓤) (W : Given
       with (ν ∷ []),
       shared-by fullShare,
       tt,
-      n ⨾ ls ⨾ ts ⨾ hs ⨾ vs ⨾ m ⨾ fs ⨾ bs ⨾ words-at 𝓤 H A W 4096 l ν γ us ⨾ size ⨾ p ⨾ s ⨾ es ⨾ ms ⨾ tt,
-      uint-vals w32 n ⨾ slice-vals ls ⨾ slice-vals ts ⨾ slice-vals hs ⨾ slice-vals vs ⨾ uint-vals w32 m ⨾ slice-vals fs ⨾ slice-vals bs ⨾ (sliceVal (l, 0) 4096 ∷ []) ⨾ uint-vals w64 size ⨾ uint-vals w32 p ⨾ uint-vals w32 s ⨾ slice-vals es ⨾ slice-vals ms ⨾ tt,
+      n ⨾ ls ⨾ ts ⨾ hs ⨾ vs ⨾ m ⨾ fs ⨾ bs ⨾ words-at 𝓤 H A W 5120 l ν γ us ⨾ size ⨾ p ⨾ s ⨾ es ⨾ ms ⨾ tt,
+      uint-vals w32 n ⨾ slice-vals ls ⨾ slice-vals ts ⨾ slice-vals hs ⨾ slice-vals vs ⨾ uint-vals w32 m ⨾ slice-vals fs ⨾ slice-vals bs ⨾ (sliceVal (l, 0) 5120 ∷ []) ⨾ uint-vals w64 size ⨾ uint-vals w32 p ⨾ uint-vals w32 s ⨾ slice-vals es ⨾ slice-vals ms ⨾ tt,
     ),
     tt,
   )
 
-  goes-core : (us : List ℕ) → length us ≡ 4096 → (ν l : ℕ) (γ : GName) → ent 𝓤 (onEntry 𝓤 H A core.signature (with (ν ∷ [])) (shared-by fullShare) (to-core us ν l γ .0 .3) (to-core us ν l γ .0 .4)) (Core 𝓤 H A at-mem run .pre (to-core us ν l γ))
+  goes-core : (us : List ℕ) → length us ≡ 5120 → (ν l : ℕ) (γ : GName) → ent 𝓤 (onEntry 𝓤 H A core.signature (with (ν ∷ [])) (shared-by fullShare) (to-core us ν l γ .0 .3) (to-core us ν l γ .0 .4)) (Core 𝓤 H A at-mem run .pre (to-core us ν l γ))
   goes-core us e ν l γ = qed W (raw (onEntry 𝓤 H A core.signature (with (ν ∷ [])) (shared-by fullShare) (to-core us ν l γ .0 .3) (to-core us ν l γ .0 .4)) ∷ []) ∵ says ! e $ done !
 
   -- what `preview_laid` tells of its reply and the last entries of the two lists, of all changes that are laid in the words us
@@ -125,7 +125,7 @@ module _ {M : Type 1} (𝓤 : URA M) (H : Heap 𝓤) (A : Atoms 𝓤) (W : Given
         pass1 ! (init ! 48 refl (tt, record { fits = are .0 .1 })) $ pass1 ! (init ! 46 refl (wide (are .1 .0 .0 .1 .0))) $ pass1 ! (init ! 44 refl (wide (are .1 .1 .0 .0 .1 .0))) $ pass1 ! (init ! 42 refl (wide (are .1 .1 .1 .0 .0 .1 .0))) $ pass1 ! (init ! 40 refl (wide (are .1 .1 .1 .1 .0 .0 .1 .0))) $ pass1 ! (init ! 38 refl (tt, record { fits = are .1 .1 .1 .1 .1 .0 .1 })) $ pass1 ! (init ! 36 refl (wide (are .1 .1 .1 .1 .1 .1 .0 .0 .1 .0))) $ pass1 ! (init ! 34 refl (wide (are .1 .1 .1 .1 .1 .1 .1 .0 .0 .1 .0))) $ pass1 ! (init ! 32 refl (wide (are .1 .1 .1 .1 .1 .1 .1 .1 .0 .0 .1 .0))) $ pass1 ! (init ! 30 refl (tt, record { fits = are .1 .1 .1 .1 .1 .1 .1 .1 .1 .0 .1 })) $ pass1 ! (init ! 28 refl (tt, record { fits = are .1 .1 .1 .1 .1 .1 .1 .1 .1 .1 .0 .1 })) $ pass1 ! (init ! 26 refl (wide (are .1 .1 .1 .1 .1 .1 .1 .1 .1 .1 .1 .0 .0 .1 .0))) $ pass1 ! (init ! 24 refl (wide (are .1 .1 .1 .1 .1 .1 .1 .1 .1 .1 .1 .1 .0 .0 .1 .0))) $ pass0 ! $
         move ! (52 ∷ []) $ split ! $ move ! (1 ∷ []) $ fsplit ! $ move ! (1 ∷ []) $ fsplit ! $ move ! (1 ∷ []) $ fsplit ! $ move ! (1 ∷ []) $ fsplit ! $ move ! (1 ∷ []) $ fsplit ! $ move ! (1 ∷ []) $ fsplit ! $ move ! (1 ∷ []) $ fsplit ! $ move ! (1 ∷ []) $ fsplit ! $ move ! (1 ∷ []) $ fsplit ! $ move ! (1 ∷ []) $ fsplit ! $ move ! (1 ∷ []) $ fsplit ! $ move ! (1 ∷ []) $ fsplit ! $ move ! (1 ∷ []) $ fsplit ! $ move ! (14 ∷ []) $ use1 W (raw (tokens 𝓤 H A W 8 others shares) ⊛ ‵ (flft κ q)) (token-off κ q) $ split ! $ move ! (7 ∷ 1 ∷ []) $
         -- [the changes; κ; the tokens; what the other parameters own, from the last to the first, with true after the last; _25 at 16; …; local i at 16 + 2 (25 - i)]: how many are copied
-        assigns ! (rep ! 4096 (lit ! tt)) (from ! (stop !)) (init ! 38 refl (array-lawful 𝓤 H A W u32 (uint-lawful 𝓤 H A W w32) 4096 .typed (zeros 4096) (zeros-val 4096 ∷ []) (is-zeros 4096) .0)) $
+        assigns ! (rep ! 5120 (lit ! tt)) (from ! (stop !)) (init ! 38 refl (array-lawful 𝓤 H A W u32 (uint-lawful 𝓤 H A W w32) 5120 .typed (zeros 5120) (zeros-val 5120 ∷ []) (is-zeros 5120) .0)) $
         assigns ! (of-opd ! (load ! (from ! (fld ! refl (stop !))) (look-in ! 48 (sub ! 1 refl (whole !))))) (from ! (stop !)) (init ! 32 refl (tt, record { fits = are .1 .1 .1 .1 .1 .1 .1 .1 .0 .0 .1 .0 })) $
         calls-lesser 𝓤 H A W at-mem run κ q ys 𝓣 ! known-l (are .1 .1 .1 .1 .1 .1 .1 .1 .0 .0 .1 .0) (var ! 33 refl) (λ w k ek is. land ! (from ! (stop !)) (init ! 35 refl (uint-lawful 𝓤 H A W w64 .typed k _ is .0)) $
         -- [k's; the changes; κ; …; _25 at 17; …]: they are copied to the array

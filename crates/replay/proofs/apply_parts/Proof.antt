@@ -1,7 +1,7 @@
 -- `replay::apply_parts` meets its contract: what is left of the batches gives, from here, the outcome of all. Assumes nothing.
 use Rattle.property.proofs.Basics.{needs, arith, _≡_, refl, _∙_, ⊎-elim, _+_, _-_, _≤_, length, drop}
 use Rattle.calls.specs.Code.{network}
-use Rattle.items.specs.Code.{changes}
+use Rattle.items.specs.Code.{changesOf}
 use Rattle.replay.specs.Replay.{batches, batchesFrom}
 use Rattle.replay.specs.Code.{carried}
 use Rattle.replay.proofs.Replaying.{batches-more, batches-none, carried-done, carried-refused, carried-none}
@@ -9,19 +9,19 @@ use Rattle.replay.proofs.apply_parts.Statement.{statement}
 use Rattle.replay.proofs.apply_parts.Tie as tie
 
 abbrev Inv-loop : tie.InvT-loop
-Inv-loop n landmarks tails₀ heads₀ weights₀ count forward₀ backward₀ kinds froms tos values ends present₀ accepted₀ from₀ i₀ tails heads weights forward backward present accepted from i =
-    (carried n landmarks (network tails heads weights forward backward present) accepted (batchesFrom from (drop i ends) (changes kinds froms tos values))
-    ≡ carried n landmarks (network tails₀ heads₀ weights₀ forward₀ backward₀ count) 0 (batches ends (changes kinds froms tos values)))
+Inv-loop n landmarks tails₀ heads₀ weights₀ count forward₀ backward₀ changes ends present₀ accepted₀ from₀ i₀ tails heads weights forward backward present accepted from i =
+    (carried n landmarks (network tails heads weights forward backward present) accepted (batchesFrom from (drop i ends) (changesOf changes))
+    ≡ carried n landmarks (network tails₀ heads₀ weights₀ forward₀ backward₀ count) 0 (batches ends (changesOf changes)))
     × (accepted ≤ i) × (i ≤ length ends)
     × (length tails ≡ length tails₀) × (length heads ≡ length heads₀) × (length weights ≡ length weights₀)
     × (length forward ≡ length forward₀) × (length backward ≡ length backward₀)
 
 abbrev μ-loop : tie.MeasureT-loop
-μ-loop n landmarks tails₀ heads₀ weights₀ count forward₀ backward₀ kinds froms tos values ends present₀ accepted₀ from₀ i₀ tails heads weights forward backward present accepted from i =
+μ-loop n landmarks tails₀ heads₀ weights₀ count forward₀ backward₀ changes ends present₀ accepted₀ from₀ i₀ tails heads weights forward backward present accepted from i =
     length ends - i
 
 abbrev begin : tie.At-loop Inv-loop μ-loop → tie.Start Inv-loop μ-loop
-begin l = l .before .before .before .before .before .before .before .before .before .before .before .before
+begin l = l .before .before .before .before .before .before .before .before
 
 mul-to : tie.Need-mul-to Inv-loop μ-loop
 mul-to c = search needs
@@ -32,9 +32,9 @@ loop-again c =
     let t = a .before .before .before .before .before .before .before in
     let l = t .before in
     let g = begin l .args in
-    let d = batches-more (l .loop .from) (g .ends .now) (l .loop .i) (changes (g .kinds .now) (g .froms .now) (g .tos .now) (g .values .now)) (t .loop-test .taken) in
-    let o = a .apply-part .ensures in
-    let k = a .apply-part .kept in (
+    let d = batches-more (l .loop .from) (g .ends .now) (l .loop .i) (changesOf (g .changes .now)) (t .loop-test .taken) in
+    let o = a .batch-part .ensures in
+    let k = a .batch-part .kept in (
       ⊎-elim (λ w. carried-done _ _ _ _ _ _ _ d (l .loop .inv .0) _ _ _ _ _ _ _ (w .1 .given .1) o _ _ (w .3) (w .4))
           (λ w. carried-refused _ _ _ _ _ _ _ d (l .loop .inv .0) _ _ _ _ _ _ _ _ (w .1 .given .1) o _ _ (w .2) (w .3))
           (c .match .came),
@@ -58,7 +58,7 @@ apply-parts-spec =
     (λ c. (refl, omega arith, omega arith, refl, refl, refl, refl, refl))
     mul-to
     (λ c. search needs)
-    (λ c. omega (arith, c .shared-slice-known7 .given (c .before .before .loop .i)))
+    (λ c. omega (arith, c .shared-slice-known3 .given (c .before .before .loop .i)))
     (λ c κs. search needs)
     (λ c. search needs)
     (λ c.
@@ -76,4 +76,4 @@ apply-parts-spec =
     (λ c.
     let l = c .before in
     let a = begin l .args in
-    carried-none _ _ _ _ _ _ _ _ _ _ (batches-none (l .loop .from) (a .ends .now) (l .loop .i) (changes (a .kinds .now) (a .froms .now) (a .tos .now) (a .values .now)) (omega (arith, c .loop-test .left))) (l .loop .inv .0)))
+    carried-none _ _ _ _ _ _ _ _ _ _ (batches-none (l .loop .from) (a .ends .now) (l .loop .i) (changesOf (a .changes .now)) (omega (arith, c .loop-test .left))) (l .loop .inv .0)))

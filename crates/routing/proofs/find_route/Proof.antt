@@ -10,7 +10,7 @@ use Rattle.routing.proofs.find_route.Statement.{statement}
 use Rattle.routing.proofs.find_route.Tie as tie
 
 abbrev begin : tie.After-find → tie.Start
-begin f = f .before .before .before .before .before .before .before .before
+begin f = f .before .before .before .before .before .before .before .before .before
 
 abbrev table : tie.Start → Columns
 table s = columns (s .args .tails .now) (s .args .heads .now) (s .args .weights .now)
@@ -32,27 +32,28 @@ find-route-spec =
     (tie.spec
     (λ c. search needs)
     (λ c. search needs)
-    (λ c κs. let s = c .before .before .before .before .before .before .before in
+    (λ c κs. let s = c .before .before .before .before .before .before .before .before in
     let g = s .pre .0 in
     (g .least, g .source, g .target, g .few, g .tabled, s .pre .1))
     (λ c. search needs)
     (λ c. let f = c .before .before .before in
     let s = begin f in
-    route-lacking (s .args .n) (table s) (s .args .count) (asked s) (s .args .vertices .now) (s .args .marks .now)
+    route-lacking (s .args .n) (table s) (s .args .count) (asked s) (s .args .vertices .now) (s .args .marks .now) (s .args .figures .now)
     (lacks-route (s .args .n) (table s) (s .args .count) (asked s) (routable-asked (s .pre .0)) (f .find .ensures .1) (c .if1 .taken)))
-    (λ c κs. let e = c .before .before .before in
+    (λ c κs. let e = c .before .before .before .before in
     let f = e .before .before .before in
     let s = begin f in
     let k = f .find .kept .1 .1 .1 .1 .1 .1 .1 .1 .0 in
     let g = s .pre .0 in
-    ((_, traces e), omega (arith, k, g .vertices, s .pre .1), omega (arith, k, g .marks, s .pre .1)))
+    ((_, traces e), omega (arith, k, g .vertices, s .pre .1), omega (arith, k, g .marks, s .pre .1), omega (arith, k, g .figures, s .pre .1)))
     (λ c. search needs)
     (λ c. search needs)
     (λ c. search needs)
-    (λ c. let w = c .before .before .before .before in
-    let e = w .before .before .before .before in
+    (λ c. search needs)
+    (λ c. let w = c .before .before .before .before .before .before in
+    let e = w .before .before .before .before .before in
     let f = e .before .before .before in
     let s = begin f in
-    route-written (s .args .n) (table s) (s .args .count) (asked s) (s .args .vertices .now) (s .args .marks .now) _ _ _
+    route-written (s .args .n) (table s) (s .args .count) (asked s) (s .args .vertices .now) (s .args .marks .now) (s .args .figures .now) _ _ _ _
     (some-route (s .args .n) (table s) (s .args .count) (asked s) (routable-asked (s .pre .0)) (f .find .ensures .1) (e .if1 .left))
     (w .write-route .ensures _ (traces e))))

@@ -5,17 +5,16 @@ use Rattle.graph.specs.Refusal.{Verdict}
 use Rattle.graph.specs.Table.{bareFaults}
 use Rattle.graph.specs.Code.{told, columns}
 use Rattle.graph.proofs.Judging.{then-refused, then-judged, if-refused, if-judged}
-use Rattle.network.specs.Query.{shortWords}
-use Rattle.answers.specs.Routing.{routeFaults}
+use Rattle.answers.specs.Routing.{shortLists, routeFaults}
 use Rattle.routing.proofs.judge_route.Statement.{statement}
 use Rattle.routing.proofs.judge_route.Tie as tie
 
 -- numbers 1 to 4
 bare : (c : tie.After-judge-bare) → let a = c .before .before .before .before .before .args in
-    told (c .judge-bare .result) ≡ bareFaults (a .n) (columns (a .tails .now) (a .heads .now) (a .weights .now)) (a .count) (shortWords (a .n) (a .vertices) (a .marks))
+    told (c .judge-bare .result) ≡ bareFaults (a .n) (columns (a .tails .now) (a .heads .now) (a .weights .now)) (a .count) (shortLists (a .n) (a .vertices) (a .marks) (a .figures))
 bare c =
     let a = c .before .before .before .before .before .args in
-    c .judge-bare .ensures ∙ ap (λ (v : Verdict). bareFaults (a .n) (columns (a .tails .now) (a .heads .now) (a .weights .now)) (a .count) v) (c .before .judge-outputs .ensures)
+    c .judge-bare .ensures ∙ ap (λ (v : Verdict). bareFaults (a .n) (columns (a .tails .now) (a .heads .now) (a .weights .now)) (a .count) v) (c .before .refuse-if .ensures)
 
 pub judge-route-spec : {M : Type 1} → statement M
 judge-route-spec =
@@ -38,4 +37,4 @@ judge-route-spec =
     let e = i .before in
     let a = e .before .before .before .before .before .before .before .args in
     unfold routeFaults in then-judged _ _ _ _ (bare (e .before .before)) (e .enum-told .given .1)
-    (if-judged (not (isProperty (a .request .property))) 5 0 _ _ (ap not (sym (i .is-property .ensures)) ∙ l .if1 .left) (c .refuse-if .ensures))))
+    (if-judged (not (isProperty (a .request .property))) 5 0 _ _ (ap not (sym (i .is-property .ensures)) ∙ l .if1 .left) (c .refuse-if2 .ensures))))

@@ -12,7 +12,7 @@ use Rattle.routing.proofs.route.Statement.{statement}
 use Rattle.routing.proofs.route.Tie as tie
 
 abbrev begin : tie.After-judge-route → tie.Start
-begin j = j .before .before .before .before .before .before
+begin j = j .before .before .before .before .before .before .before
 
 abbrev table : tie.Start → Columns
 table s = columns (s .args .tails .now) (s .args .heads .now) (s .args .weights .now)
@@ -22,14 +22,14 @@ asked s = requesting (s .args .property) (s .args .source) (s .args .target)
 
 -- numbers 1 to 6 do not apply
 fine : (c : tie.After-enum-told) → let s = begin (c .before .before) in
-    routeFaults (s .args .n) (table s) (s .args .count) (asked s) (length (s .args .vertices .now)) (length (s .args .marks .now)) ≡ accept
+    routeFaults (s .args .n) (table s) (s .args .count) (asked s) (length (s .args .vertices .now)) (length (s .args .marks .now)) (length (s .args .figures .now)) ≡ accept
 fine c = fine-accept _ _ (c .before .before .judge-route .ensures) (c .enum-told .given .1)
 
 routable : (c : tie.After-enum-told) → let a = begin (c .before .before) .args in
-    Routable (a .n) (a .count) (a .property) (a .source) (a .target) (a .tails .now) (a .heads .now) (a .weights .now) (a .vertices .now) (a .marks .now)
+    Routable (a .n) (a .count) (a .property) (a .source) (a .target) (a .tails .now) (a .heads .now) (a .weights .now) (a .vertices .now) (a .marks .now) (a .figures .now)
 routable c =
     let a = begin (c .before .before) .args in
-    accept-routable (a .n) (a .tails .now) (a .heads .now) (a .weights .now) (a .count) (a .property) (a .source) (a .target) (a .vertices .now) (a .marks .now) (fine c)
+    accept-routable (a .n) (a .tails .now) (a .heads .now) (a .weights .now) (a .count) (a .property) (a .source) (a .target) (a .vertices .now) (a .marks .now) (a .figures .now) (fine c)
 
 -- the scratch has its room
 size : (c : tie.After-enum-told) → let a = begin (c .before .before) .args in length (take {A = ℕ} (a .n) (replicate maxVertices 0)) ≡ a .n
@@ -43,14 +43,15 @@ route-spec =
     (λ c. search needs)
     (λ c. let j = c .before .before .before in
     let s = begin j in
-    route-refused (s .args .n) (table s) (s .args .count) (asked s) (s .args .vertices .now) (s .args .marks .now) _ (j .judge-route .ensures) (c .before .judged .given .1))
+    route-refused (s .args .n) (table s) (s .args .count) (asked s) (s .args .vertices .now) (s .args .marks .now) (s .args .figures .now) _ (j .judge-route .ensures) (c .before .judged .given .1))
     (λ c. search needs)
     (λ c. routable c .few)
     (λ c. sym (size (c .before)))
-    (λ c κs. let d = c .before .before .before in (routable d, size d))
+    (λ c κs. let d = c .before .before .before .before in (routable d, size d))
     (λ c. search needs)
     (λ c. search needs)
-    (λ c. let f = c .before .before .before .before .before in
-    let d = f .before .before .before .before in
+    (λ c. search needs)
+    (λ c. let f = c .before .before .before .before .before .before .before in
+    let d = f .before .before .before .before .before in
     let s = begin (d .before .before) in
-    f .find-route .ensures ∙ route-unfaulted (s .args .n) (table s) (s .args .count) (asked s) (s .args .vertices .now) (s .args .marks .now) (fine d)))
+    f .find-route .ensures ∙ route-unfaulted (s .args .n) (table s) (s .args .count) (asked s) (s .args .vertices .now) (s .args .marks .now) (s .args .figures .now) (fine d)))

@@ -12,7 +12,7 @@ use Rattle.rows.proofs.batch_rows.Tie as tie
 
 abbrev Inv-loop : tie.InvT-loop
 Inv-loop n landmarks net old other new into rows₀ size affected₀ stores₀ r₀ rows affected stores r =
-    Counting rows₀ rows affected stores r size × ((es fs : List Edge) → Sided n es fs net old new into → Faces n fs old other → Rowing n landmarks es fs rows₀ rows affected stores r)
+    Counting rows₀ rows affected stores r size × ((es fs : List Edge) → Sided n es fs net old new into → Faces n es fs old other → Rowing n landmarks es fs rows₀ rows affected stores r)
 
 abbrev μ-loop : tie.MeasureT-loop
 μ-loop n landmarks net old other new into rows₀ size affected₀ stores₀ r₀ rows affected stores r = size - r

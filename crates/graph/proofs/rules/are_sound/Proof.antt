@@ -2,44 +2,24 @@
 --
 -- The bound of a tail is that of the tails before it, for tails never fall. So the invariant speaks of the tail of the last record that was gone
 -- past: if it is a vertex, what is left to judge gives the verdict on all. After the last record it is tested.
-use Rattle.property.proofs.Basics.{needs, arith, _≡_, sym, _∙_, true, _+_, _-_, _≤_, _<_, drop, getD, not, _&&_, eqb, ltb, lt-ltb, ltb-true}
-use Rattle.graph.specs.Edge.{edges, precedes}
-use Rattle.graph.specs.Table.{isWeight, follow, rules}
-use Rattle.graph.specs.Code.{edgeAt}
-use Rattle.graph.proofs.Tests.{both, and-true}
-use Rattle.graph.proofs.Order.{precedes-tail}
-use Rattle.graph.proofs.Judging.{rules-first, follow-more, follow-end}
+use Rattle.property.proofs.Basics.{needs, arith, _≡_, sym, _∙_, _-_, _≤_, ltb, ltb-true, leb-true}
+use lib.Dec.{leb}
+use Rattle.graph.specs.Limits.{maxVertices, maxWeight}
+use Rattle.graph.proofs.Tests.{both}
+use Rattle.graph.proofs.Judging.{follow-end}
+use Rattle.graph.proofs.Ranks.{Sofar, sofar-first, sofar-turn}
 use Rattle.graph.proofs.rules.are_sound.Statement.{statement}
 use Rattle.graph.proofs.rules.are_sound.Tie as tie
 
 abbrev Inv-loop : tie.InvT-loop
-Inv-loop n tails heads weights count all₀ k₀ all k =
-    (all ≡ true → getD tails (k - 1) 0 < n → follow n k (edgeAt tails heads weights (k - 1)) (drop k (edges tails heads weights count)) ≡ rules n (edges tails heads weights count))
-    × (1 ≤ k) × (k ≤ count)
+Inv-loop n tails heads weights count tall₀ wide₀ all₀ last₀ k₀ tall wide all last k =
+    (Sofar n tails heads weights count tall wide all last k) × (1 ≤ k) × (k ≤ count)
 
 abbrev μ-loop : tie.MeasureT-loop
-μ-loop n tails heads weights count all₀ k₀ all k = count - k
+μ-loop n tails heads weights count tall₀ wide₀ all₀ last₀ k₀ tall wide all last k = count - k
 
 abbrev start : tie.At-loop Inv-loop μ-loop → tie.Start Inv-loop μ-loop
-start l = l .before .before .before .before .before .before .before .before
-
-loop-again : tie.Need-loop-again Inv-loop μ-loop
-loop-again c =
-    let l = c .before .before .before .before .before .before .before in
-    let k = l .loop .k in
-    let a = start l .args in
-    let e = edgeAt (a .tails .now) (a .heads .now) (a .weights .now) (k - 1) in
-    let f = edgeAt (a .tails .now) (a .heads .now) (a .weights .now) k in
-    let x : k + 1 - 1 ≡ k = omega arith in (
-      (λ t i.
-          let z = both _ _ t in
-          let y = both (ltb (f .head) _ && (not (eqb (f .tail) (f .head)) && isWeight (f .weight))) (precedes e f) (sym (c .is-next .ensures) ∙ z .1) in
-          let j : f .tail < a .n = rw x at i in
-          let p = precedes-tail e f (y .1) in
-          follow-more _ _ _ _ (start l .pre .1) _ k (l .loop .inv .0 (z .0) (omega arith)) (omega arith) (and-true (y .1) (and-true (lt-ltb _ _ j) (y .0)))),
-      omega arith,
-      omega arith,
-    )
+start l = l .before .before .before .before .before .before .before .before .before .before
 
 returns : tie.Need-returns Inv-loop μ-loop
 returns c =
@@ -47,8 +27,11 @@ returns c =
     let a = start l .args in
     let x : l .loop .k ≡ a .count = omega arith in
     λ e.
-    let z = both _ _ e in
-    follow-end _ _ _ _ (start l .pre .1) _ _ (l .loop .inv .0 (z .0) (rw x (ltb-true _ _ (z .1)))) (c .before .loop-test .left)
+    let (p, q) = both (l .loop .all) _ e in
+    let (u, v) = both (ltb (l .loop .tall) maxVertices) _ q in
+    let (y, z) = both (leb (l .loop .wide) maxWeight) _ v in
+    let (_, _, _, _, judged) = l .loop .inv .0 p (ltb-true _ _ u) (leb-true _ _ y) in
+    follow-end _ _ _ _ (start l .pre .1) _ _ (judged (rw x (ltb-true _ _ z))) (c .before .loop-test .left)
 
 pub are-sound-spec : {M : Type 1} → statement M
 are-sound-spec =
@@ -60,12 +43,15 @@ are-sound-spec =
     (λ c. search needs)
     (λ c. search needs)
     (λ c κs. search needs)
-    (λ c. let s = c .before .before .before .before .before .before .before in ((λ e i. rules-first _ _ _ _ (s .pre .1) _ (s .pre .0) (sym (c .is-edge .ensures) ∙ e)), omega arith, omega arith))
     (λ c. search needs)
-    (λ c. search needs)
-    (λ c. search needs)
-    (λ c. search needs)
-    (λ c. search needs)
+    (λ c κs. search needs)
+    (λ c.
+    let s = c .before .before .before .before .before .before .before .before .before in
+    let a = s .args in (
+      rw (c .before .before .is-edge .ensures) (sofar-first (a .n) (a .tails .now) (a .heads .now) (a .weights .now) (a .count) (s .pre .1) (s .pre .0) _ (c .rank-of .ensures)),
+      omega arith,
+      omega arith,
+    ))
     (λ c. search needs)
     (λ c. search needs)
     (λ c. search needs)
@@ -75,7 +61,14 @@ are-sound-spec =
     (λ c κs. search needs)
     (λ c. search needs)
     (λ c. search needs)
-    loop-again
+    (λ c. search needs)
+    (λ c.
+    let l = c .before .before .before .before .before .before in
+    let a = start l .args in (
+      rw (c .is-next .ensures) (sofar-turn (a .n) (a .tails .now) (a .heads .now) (a .weights .now) (a .count) (start l .pre .1) _ _ _ _ (l .loop .k) (l .loop .inv .1) (omega arith) (l .loop .inv .0) _ (c .before .rank-of2 .ensures)),
+      omega arith,
+      omega arith,
+    ))
     (λ c. search needs)
     (λ c. search needs)
     (λ c. search needs)
