@@ -9,13 +9,14 @@
 
 #![allow(dead_code, clippy::too_many_arguments)]
 
-pub const VERSION: u32 = 1;
+pub const VERSION: u32 = 2;
 pub const GREATEST: u32 = 4294967295;
 pub const MOST_VERTICES: usize = 256;
 pub const MOST_EDGES: usize = 2048;
 pub const GREATEST_WEIGHT: u32 = 65535;
 pub const MOST_LANDMARKS: usize = 4;
 pub const MOST_CHANGES: usize = 1024;
+pub const CHANGE_WORDS: usize = 5;
 pub const LONGEST_SCHEDULE: usize = 4096;
 pub const MOST_SOURCES: usize = 256;
 pub const LONGEST_TEXT: usize = 32782;
@@ -171,10 +172,10 @@ unsafe extern "C" {
         backward_len: usize, property: u32, source: u32, schedule: *const u32, schedule_len: usize, starts: *mut u32,
         starts_len: usize, settled: *mut u32, settled_len: usize, reply: *mut u64, reply_len: usize,
     ) -> u32;
-    fn plate_track_batch(
+    fn plate_track_batch_v2(
         n: u32, landmarks: *const u32, landmarks_len: usize, tails: *mut u32, tails_len: usize, heads: *mut u32, heads_len: usize,
         weights: *mut u32, weights_len: usize, count: u32, forward: *mut u32, forward_len: usize, backward: *mut u32,
-        backward_len: usize, changes: *const [u32; 4], changes_len: usize, reply: *mut u64, reply_len: usize,
+        backward_len: usize, changes: *const [u32; 5], changes_len: usize, reply: *mut u64, reply_len: usize,
     ) -> u32;
     fn plate_track_settled(
         n: u32, landmarks: *const u32, landmarks_len: usize, tails: *const u32, tails_len: usize, heads: *const u32, heads_len: usize,
@@ -200,15 +201,15 @@ unsafe extern "C" {
     fn plate_track_read_sources(
         text: *const u8, text_len: usize, n: u32, sources: *mut u32, sources_len: usize, reply: *mut u64, reply_len: usize,
     ) -> u32;
-    fn plate_track_route(
+    fn plate_track_route_v2(
         n: u32, tails: *const u32, tails_len: usize, heads: *const u32, heads_len: usize, weights: *const u32, weights_len: usize,
         count: u32, property: u32, source: u32, target: u32, vertices: *mut u32, vertices_len: usize, marks: *mut u32,
-        marks_len: usize, reply: *mut u64, reply_len: usize,
+        marks_len: usize, figures: *mut u32, figures_len: usize, reply: *mut u64, reply_len: usize,
     ) -> u32;
-    fn plate_track_preview(
+    fn plate_track_preview_v2(
         n: u32, landmarks: *const u32, landmarks_len: usize, tails: *const u32, tails_len: usize, heads: *const u32, heads_len: usize,
         weights: *const u32, weights_len: usize, count: u32, forward: *const u32, forward_len: usize, backward: *const u32,
-        backward_len: usize, changes: *const [u32; 4], changes_len: usize, property: u32, source: u32, effects: *mut u32,
+        backward_len: usize, changes: *const [u32; 5], changes_len: usize, property: u32, source: u32, effects: *mut u32,
         effects_len: usize, moves: *mut i64, moves_len: usize, reply: *mut u64, reply_len: usize,
     ) -> u32;
     fn plate_track_digest(
@@ -251,13 +252,15 @@ pub fn query(
     judged(number, reply)
 }
 
-/// Applies changes (kind, tail, head, weight) in order, all or none, and brings the rows up to date. Hand `reply[BATCH_COUNT]` to every later call.
+/// Applies changes (kind, tail, head, weight, old) in order, all or none, and brings the rows up to date. A change names one edge by its three words and
+/// leaves its twins: INSERT and DELETE the edge tail, head, weight, with old 0; UPDATE gives the edge tail, head, old the weight `weight`. Hand
+/// `reply[BATCH_COUNT]` to every later call.
 pub fn batch(
     n: u32, landmarks: &[u32], tails: &mut [u32], heads: &mut [u32], weights: &mut [u32], count: u32, forward: &mut [u32],
-    backward: &mut [u32], changes: &[[u32; 4]], reply: &mut [u64],
+    backward: &mut [u32], changes: &[[u32; 5]], reply: &mut [u64],
 ) -> Result<(), Refused> {
     let number = unsafe {
-        plate_track_batch(
+        plate_track_batch_v2(
             n, at(landmarks), landmarks.len(), at_mut(tails), tails.len(), at_mut(heads), heads.len(), at_mut(weights), weights.len(),
             count, at_mut(forward), forward.len(), at_mut(backward), backward.len(), at(changes), changes.len(), at_mut(reply),
             reply.len(),
@@ -343,15 +346,16 @@ pub fn read_sources(
     judged(number, reply)
 }
 
-/// Writes the route behind a value: its vertices from source to target, and for each edge 1 where it set the value and 0 where it passed it on.
+/// Writes the route behind a value: its vertices from source to target, and for each edge 1 where it set the value and 0 where it passed it on, and its
+/// weight: of twins the lowest with which the route keeps its value.
 pub fn route(
     n: u32, tails: &[u32], heads: &[u32], weights: &[u32], count: u32, property: u32, source: u32, target: u32, vertices: &mut [u32],
-    marks: &mut [u32], reply: &mut [u64],
+    marks: &mut [u32], figures: &mut [u32], reply: &mut [u64],
 ) -> Result<(), Refused> {
     let number = unsafe {
-        plate_track_route(
+        plate_track_route_v2(
             n, at(tails), tails.len(), at(heads), heads.len(), at(weights), weights.len(), count, property, source, target,
-            at_mut(vertices), vertices.len(), at_mut(marks), marks.len(), at_mut(reply), reply.len(),
+            at_mut(vertices), vertices.len(), at_mut(marks), marks.len(), at_mut(figures), figures.len(), at_mut(reply), reply.len(),
         )
     };
     judged(number, reply)
@@ -361,10 +365,10 @@ pub fn route(
 /// there is a route before and after, else 0.
 pub fn preview(
     n: u32, landmarks: &[u32], tails: &[u32], heads: &[u32], weights: &[u32], count: u32, forward: &[u32], backward: &[u32],
-    changes: &[[u32; 4]], property: u32, source: u32, effects: &mut [u32], moves: &mut [i64], reply: &mut [u64],
+    changes: &[[u32; 5]], property: u32, source: u32, effects: &mut [u32], moves: &mut [i64], reply: &mut [u64],
 ) -> Result<(), Refused> {
     let number = unsafe {
-        plate_track_preview(
+        plate_track_preview_v2(
             n, at(landmarks), landmarks.len(), at(tails), tails.len(), at(heads), heads.len(), at(weights), weights.len(), count,
             at(forward), forward.len(), at(backward), backward.len(), at(changes), changes.len(), property, source,
             at_mut(effects), effects.len(), at_mut(moves), moves.len(), at_mut(reply), reply.len(),

@@ -7,18 +7,19 @@
  *
  * WORDS. Here, and in document 01: vertex = station, edge = segment, weight = figure, landmark = post, forward = outward, backward =
  * homeward, schedule = picks, affected = suspect, unsettled = restless, refused = turned back, insert = add, delete = take; update is document
- * 02's kind 3, a retuned segment. Words have 32 bits, those of a reply 64; moves of a preview are signed numbers of 64 bits.
+ * 02's kind 3, a retuned segment; twins are its twin tracks. Words have 32 bits, those of a reply 64; moves of a preview are signed numbers of 64 bits.
  *
  * LISTS. A list is a pointer and a length in elements, in that order. With length 0 it is empty, and any pointer will do, null too; with
  * another length the pointer points to that many elements, aligned as C aligns them. A list that a call may write (not const here) overlaps no
- * other list of the same call; so `starts` and `settled` of a query are two lists, and so are `vertices` and `marks` of a route, `effects` and
- * `moves` of a preview. Nothing can check this: it is what the caller owes. Everything else may be any value.
+ * other list of the same call; so `starts` and `settled` of a query are two lists, `effects` and `moves` of a preview too, and `vertices`, `marks` and
+ * `figures` of a route are three. Nothing can check this: it is what the caller owes. Everything else may be any value.
  *
- * NETWORK. Vertices are 0 to n - 1, n from 1 to 256. The edge table is three lists, tails, heads and weights, of at least 2,048
- * words EACH, however few edges there are, and a count of records. Records ascend by tail, then head; no pair stands twice; tail and
- * head differ; a weight is 1 to 65,535. Landmarks are 1 to 4 different vertices. Two lists hold the landmark rows: forward (landmark to
- * each vertex) and backward (each vertex to landmark), each of at least PLATE_TRACK_ROW_WORDS(landmarks, n) words. Row i * 5 + p - 1, of n
- * words, is that of landmark i of the list for property p.
+ * NETWORK. Vertices are 0 to n - 1, n from 1 to 256. An edge is its three words, tail, head and weight: tail and head differ, and a weight is 1 to
+ * 65,535. Edges of one pair, tail and head, with different weights are twins; there may be as many as there is room for, and a best value is the best over
+ * all of them. The edge table is three lists, tails, heads and weights, of at least 2,048 words EACH, however few edges there are, and a count of
+ * records. Records ascend by tail, then head, then weight, so that twins stand beside each other, the lowest weight first; no three words stand twice.
+ * Landmarks are 1 to 4 different vertices. Two lists hold the landmark rows: forward (landmark to each vertex) and backward (each vertex to landmark),
+ * each of at least PLATE_TRACK_ROW_WORDS(landmarks, n) words. Row i * 5 + p - 1, of n words, is that of landmark i of the list for property p.
  *
  *   property                     at the source   no route      along an edge           better
  *   1 time                       0               4294967295    value + weight          less
@@ -36,10 +37,10 @@
  * its index is the place. So it does in a preview, after 1 to 5 and a bad source.
  *
  * TEXT. Network text is the 9th DIMACS Challenge's shortest-path layout: a line `p sp N M`, then M lines `a TAIL HEAD WEIGHT` in any
- * order, and comments, `c` alone or `c ` and any bytes, anywhere. N is 1 to 256, M at most 2,048 and at most N x (N - 1). A source file has
- * `p aux sp ss COUNT`, then COUNT lines `s VERTEX`; COUNT is 0 to 256, and a vertex may stand twice. Each line
- * ends with a line feed, the last one too; single spaces; numbers have no sign and no leading zero. VERTICES COUNT FROM 1 IN TEXT and
- * from 0 in every list.
+ * order, and comments, `c` alone or `c ` and any bytes, anywhere. N is 1 to 256, M at most 2,048, and 0 where N is 1. Twins are lines of one TAIL and
+ * HEAD with different WEIGHTs; a line with the same three numbers as one before it is refused. A source file has `p aux sp ss COUNT`, then COUNT lines
+ * `s VERTEX`; COUNT is 0 to 256, and a vertex may stand twice. Each line ends with a line feed, the last one too; single spaces; numbers have no
+ * sign and no leading zero. VERTICES COUNT FROM 1 IN TEXT and from 0 in every list.
  *
  * A network keeps best values as long as only plate_track_batch writes its table and rows after plate_track_open, and each call gets
  * the same n and landmarks and the PRESENT COUNT: the opening's, until a batch is accepted, and then the one last reported. A count that is too
@@ -51,7 +52,8 @@
  * VERSION. PLATE_TRACK_VERSION here and plate_track_version() of the archive are the same number. It rises by one where a program that was
  * compiled against the header before would call something else than it meant: parameters or the change record change. A changed function then
  * has a symbol with the version in it, and the header maps the plain name to it (#define plate_track_batch plate_track_batch_v2): a program
- * compiled against another version fails to link. */
+ * compiled against another version fails to link. In version 2 the change record has grown from four words to five, of which `old` is the last, and a
+ * delete names the weight of its edge; a route has a third list, `figures`. Records of four words are none of this version: make them anew. */
 #ifndef PLATE_TRACK_H
 #define PLATE_TRACK_H
 
@@ -62,7 +64,12 @@
 extern "C" {
 #endif
 
-#define PLATE_TRACK_VERSION 1
+#define PLATE_TRACK_VERSION 2
+
+/* The calls that version 2 changed; who looks calls up by name, as by dlsym, looks for these. */
+#define plate_track_batch plate_track_batch_v2
+#define plate_track_route plate_track_route_v2
+#define plate_track_preview plate_track_preview_v2
 
 /* The greatest word, M of document 01. */
 #define PLATE_TRACK_GREATEST UINT32_C(4294967295)
@@ -80,6 +87,7 @@ enum {
     PLATE_TRACK_GREATEST_WEIGHT = 65535,
     PLATE_TRACK_MOST_LANDMARKS = 4,
     PLATE_TRACK_MOST_CHANGES = 1024,
+    PLATE_TRACK_CHANGE_WORDS = 5,       /* of a change record, 32 bits each */
     PLATE_TRACK_LONGEST_SCHEDULE = 4096,
     PLATE_TRACK_MOST_SOURCES = 256,     /* and the least length of a list of sources */
     PLATE_TRACK_LONGEST_TEXT = 32782,   /* no written text has more bytes */
@@ -99,15 +107,18 @@ enum {
     PLATE_TRACK_SIZE = 1,       /* n is 0 or over 256, a batch over 1,024, a schedule over 4,096 */
     PLATE_TRACK_SHORT = 2,      /* a list or buffer is too short */
     PLATE_TRACK_LANDMARKS = 3,  /* none, over 4, no vertex, repeated; k not 1 to 4; a look-up's landmark is not in the list */
-    PLATE_TRACK_TABLE = 4,      /* count over 2,048 (place 0), or a record breaks the rules (its index) */
+    PLATE_TRACK_TABLE = 4,      /* count over 2,048 (place 0), or a record breaks the rules (its index): a tail or head is no vertex, or both are one; a
+                                   weight is not 1 to 65,535; or it does not come after the record before it by tail, head, weight, as one with
+                                   the same three words */
     PLATE_TRACK_PROPERTY = 5,   /* not 1 to 5; a side neither 0 nor 1 */
     PLATE_TRACK_VERTEX = 6,     /* a source or target (place 0), then an entry of a schedule (its index); a tail or head of a change: n or more */
     PLATE_TRACK_KIND = 7,       /* a change is none of insert, delete and update */
     PLATE_TRACK_LOOP = 8,       /* tail equals head */
-    PLATE_TRACK_WEIGHT = 9,     /* insert, update: not 1 to 65,535; delete: not 0 */
-    PLATE_TRACK_PRESENT = 10,   /* insert of a pair that is there */
-    PLATE_TRACK_ABSENT = 11,    /* delete or update of a pair that is not there */
-    PLATE_TRACK_FULL = 12,      /* insert when 2,048 records are there */
+    PLATE_TRACK_WEIGHT = 9,     /* weight is not 1 to 65,535; old is not 1 to 65,535 (update) or not 0 (insert, delete) */
+    PLATE_TRACK_PRESENT = 10,   /* insert of an edge that is there; update to a weight, other than old, that an edge of the pair has, also where the edge
+                                   to be updated is not there */
+    PLATE_TRACK_ABSENT = 11,    /* delete of tail, head, weight or update of tail, head, old, where that edge is not there, even if a twin is */
+    PLATE_TRACK_FULL = 12,      /* insert, of a twin too, when 2,048 records are there */
     PLATE_TRACK_UNSETTLED = 13, /* some vertex waits after n rounds */
     PLATE_TRACK_TEXT = 14,      /* a text breaks the rules; the place is the first line, from 1, with which no good text can go on, and the
                                    number of complete lines + 1 where it ends too soon */
@@ -138,7 +149,7 @@ enum { PLATE_TRACK_DIGEST_GAINED, PLATE_TRACK_DIGEST_LOST, PLATE_TRACK_DIGEST_BE
 enum {
     PLATE_TRACK_STACK_OPEN = 12 * 1024,
     PLATE_TRACK_STACK_QUERY = 3 * 1024,
-    PLATE_TRACK_STACK_BATCH = 120 * 1024,
+    PLATE_TRACK_STACK_BATCH = 124 * 1024,
     PLATE_TRACK_STACK_SETTLED = 1024,
     PLATE_TRACK_STACK_CHOOSE = 1024,
     PLATE_TRACK_STACK_ROW = 1024,
@@ -146,7 +157,7 @@ enum {
     PLATE_TRACK_STACK_WRITE = 256,
     PLATE_TRACK_STACK_READ_SOURCES = 2 * 1024,
     PLATE_TRACK_STACK_ROUTE = 14 * 1024,
-    PLATE_TRACK_STACK_PREVIEW = 188 * 1024,
+    PLATE_TRACK_STACK_PREVIEW = 192 * 1024,
     PLATE_TRACK_STACK_DIGEST = 256
 };
 
@@ -183,12 +194,16 @@ static inline uint32_t plate_track_no_route(uint32_t property)
 /* The version of the archive: PLATE_TRACK_VERSION, where header and archive belong together. */
 uint32_t plate_track_version(void);
 
-/* A change of a batch: four words. A delete has weight 0. An update gives the edge of its pair another weight; its present one changes nothing. */
+/* A change of a batch: PLATE_TRACK_CHANGE_WORDS words. Each names one edge by its three words, and twins of that edge stay as they are.
+ *   {PLATE_TRACK_INSERT, tail, head, weight, 0}     puts in the edge tail, head, weight
+ *   {PLATE_TRACK_DELETE, tail, head, weight, 0}     strikes the edge tail, head, weight
+ *   {PLATE_TRACK_UPDATE, tail, head, weight, old}   gives the edge tail, head, old the weight `weight`; where the two are equal nothing changes */
 typedef struct plate_track_change {
     uint32_t kind;
     uint32_t tail;
     uint32_t head;
     uint32_t weight;
+    uint32_t old; /* of an update the weight that its edge has, else 0 */
 } plate_track_change;
 
 /* Opens a network: both row lists get best values; words past the rows stay. The reply has no words.
@@ -225,9 +240,10 @@ uint32_t plate_track_query(
     uint64_t *reply, size_t reply_len);
 
 /* Applies up to 1,024 changes in order, all or none, and brings the rows up to date. Records from the new count to 2,047 become zero; table
- * words from 2,048 on and words past the rows stay. changes_len counts changes, not words. What counts is the table before and after: a pair whose
- * weight differs, by an update or by a delete and an insert, affects vertices only in rows of a property for which it got worse. More is worse for time
- * and worst stretch, less for headroom, neither for handovers and reach.
+ * words from 2,048 on and words past the rows stay. changes_len counts changes, not words. What counts is the table before and after: edges that are in both
+ * count for nothing. Of the others, where a pair has just one before and just one after, by an update or by a delete and an insert, its weight has changed:
+ * that affects vertices only in rows of a property for which it got worse. More is worse for time and worst stretch, less for headroom, neither for
+ * handovers and reach. Any others are edges that are gone or have come, which counts for every property, even where a twin stays.
  * reply: the new count (hand it to every later call: the one before is not found out), affected vertices and stores over all rows. Numbers: 1 to 4, 6 to 13. */
 uint32_t plate_track_batch(
     uint32_t n,
@@ -255,7 +271,7 @@ uint32_t plate_track_settled(
     const uint32_t *backward, size_t backward_len,
     uint64_t *reply, size_t reply_len);
 
-/* Chooses k landmarks (1 to 4; n of them where n is less): most edges in plus out first, ties to the lower number.
+/* Chooses k landmarks (1 to 4; n of them where n is less): most edges in plus out first, each twin counted, ties to the lower number.
  * reply: how many, then four places of which the unused are 0. Numbers: 1 to 4. */
 uint32_t plate_track_choose(
     uint32_t n,
@@ -309,10 +325,13 @@ uint32_t plate_track_read_sources(
 
 /* Writes the route behind a value: of the routes from source to target with the best value of the property, one with the fewest edges, and of those
  * the one with the lowest vertex at the first place where two differ. It needs no landmarks and no rows. `vertices` gets its vertices, the source
- * first and the target last; `marks` gets for each edge of it 1 where the edge set the value and 0 where it passed it on: for time and handovers
- * always 1, for reach always 0, for headroom and worst stretch 1 where the running value changes, so that the last edge marked has the value for its
- * weight. Both lists have at least n words, and words past the route stay. Where source and target are one, the route is that vertex, without a mark.
- * reply: how many vertices, 1 to n; there is a mark less. Numbers: 1, 2, 4, 5, 6 (source or target, place 0), 15. */
+ * first and the target last. `figures` gets for each edge of it the lowest weight, of those of the pair, with which the route keeps its value: for
+ * headroom the lowest that is no less than the value, for any other property the lowest there is. So edge i of the route is vertices[i],
+ * vertices[i + 1], figures[i]. `marks` gets for each edge, with that weight, 1 where the edge set the value and 0 where it passed it on: for time and
+ * handovers always 1, for reach always 0, for headroom and worst stretch 1 where the running value changes, so that the last edge marked has the value
+ * for its weight. The three lists have at least n words each, and words past the route stay. Where source and target are one, the route is that
+ * vertex, without a mark or a figure.
+ * reply: how many vertices, 1 to n; there is a mark and a figure less. Numbers: 1, 2, 4, 5, 6 (source or target, place 0), 15. */
 uint32_t plate_track_route(
     uint32_t n,
     const uint32_t *tails, size_t tails_len,
@@ -324,6 +343,7 @@ uint32_t plate_track_route(
     uint32_t target,
     uint32_t *vertices, size_t vertices_len,
     uint32_t *marks, size_t marks_len,
+    uint32_t *figures, size_t figures_len,
     uint64_t *reply, size_t reply_len);
 
 /* Shows what a batch would do to one property from one source, and writes nothing of the network: it is the batch on a copy, and a query before and

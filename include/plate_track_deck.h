@@ -7,7 +7,8 @@
  *
  * Each function but plate_track_deck_clear returns the number of the call's refusal, 0 where accepted. `reply` is 8 words of the caller's,
  * written as by the call of the same name; a refused call changes nothing in the deck. Functions of a const deck can run on several threads at
- * once, each with memory of its own for whatever it writes: reply, starts, settled, vertices, marks, effects, moves, landmarks, row, text, sources. */
+ * once, each with memory of its own for whatever it writes: reply, starts, settled, vertices, marks, figures, effects, moves, landmarks, row, text,
+ * sources. */
 #ifndef PLATE_TRACK_DECK_H
 #define PLATE_TRACK_DECK_H
 
@@ -83,7 +84,7 @@ static inline uint32_t plate_track_deck_open(plate_track_deck *d, const uint32_t
     return number;
 }
 
-/* Changes the deck by a batch, and keeps the new count. */
+/* Changes the deck by a batch of change records, five words each, and keeps the new count. */
 static inline uint32_t plate_track_deck_batch(plate_track_deck *d, const plate_track_change *changes, size_t changes_len, uint64_t *reply)
 {
     uint32_t number = plate_track_batch(
@@ -104,14 +105,14 @@ static inline uint32_t plate_track_deck_query(
         schedule_len, starts, starts_len, settled, settled_len, reply, PLATE_TRACK_REPLY_WORDS);
 }
 
-/* Asks for the route behind a value: two lists of at least n words get its vertices and the marks of its edges. The deck may be one that is not
- * open, for a route needs no landmarks. */
+/* Asks for the route behind a value: three lists of at least n words get its vertices, and of its edges the marks and the weights (figures). The deck
+ * may be one that is not open, for a route needs no landmarks. */
 static inline uint32_t plate_track_deck_route(
     const plate_track_deck *d, uint32_t property, uint32_t source, uint32_t target, uint32_t *vertices, size_t vertices_len, uint32_t *marks,
-    size_t marks_len, uint64_t *reply)
+    size_t marks_len, uint32_t *figures, size_t figures_len, uint64_t *reply)
 {
     return plate_track_route(
-        d->n, PLATE_TRACK_DECK_TABLE(d), d->count, property, source, target, vertices, vertices_len, marks, marks_len, reply,
+        d->n, PLATE_TRACK_DECK_TABLE(d), d->count, property, source, target, vertices, vertices_len, marks, marks_len, figures, figures_len, reply,
         PLATE_TRACK_REPLY_WORDS);
 }
 

@@ -7,12 +7,13 @@ found out. plate_track.Deck keeps it."""
 
 from typing import NamedTuple
 
+from .constants import CHANGE_WORDS
 from .native import List, Number, call
 
 U32 = Number()
 WORDS = List(4)
 WRITTEN_WORDS = List(4, writes=True)
-CHANGES = List(4, group=4)
+CHANGES = List(4, group=CHANGE_WORDS)
 MOVES = List(8, signed=True)
 WRITTEN_MOVES = List(8, writes=True, signed=True)
 BYTES = List(1)
@@ -98,12 +99,12 @@ def query(
     """Asks for a property from a source: `starts` and `settled` get n words each."""
 
 
-@call
+@call(version=2)
 def batch(
     n: U32, landmarks: WORDS, tails: WRITTEN_WORDS, heads: WRITTEN_WORDS, weights: WRITTEN_WORDS, count: U32, forward: WRITTEN_WORDS,
     backward: WRITTEN_WORDS, changes: CHANGES
 ) -> _Told(Report):  # fmt: skip
-    """Applies changes, four words each, all or none. The report's count goes to every later call."""
+    """Applies changes, five words each (kind, tail, head, weight, old), all or none. The report's count goes to every later call."""
 
 
 @call
@@ -140,16 +141,16 @@ def read_sources(text: BYTES, n: U32, sources: WRITTEN_WORDS) -> _Told():
     """Reads a source file of a network with n vertices: how many there are."""
 
 
-@call
+@call(version=2)
 def route(
     n: U32, tails: WORDS, heads: WORDS, weights: WORDS, count: U32, property: U32, source: U32, target: U32, vertices: WRITTEN_WORDS,
-    marks: WRITTEN_WORDS
+    marks: WRITTEN_WORDS, figures: WRITTEN_WORDS
 ) -> _Told():  # fmt: skip
-    """Writes the vertices of the route behind a value, and for each of its edges whether it set the value (1) or passed it on (0): how many
-    vertices there are."""
+    """Writes the vertices of the route behind a value, and for each of its edges whether it set the value (1) or passed it on (0), and its weight, of
+    twins the lowest with which the route keeps its value: how many vertices there are."""
 
 
-@call
+@call(version=2)
 def preview(
     n: U32, landmarks: WORDS, tails: WORDS, heads: WORDS, weights: WORDS, count: U32, forward: WORDS, backward: WORDS, changes: CHANGES, property: U32,
     source: U32, effects: WRITTEN_WORDS, moves: WRITTEN_MOVES

@@ -1,13 +1,13 @@
 """A network with all its memory and its present count."""
 
 from array import array
-from bisect import bisect_left, bisect_right
 from itertools import islice
 from typing import NamedTuple
 
 from . import calls
 from .constants import (
-    BACKWARD, FORWARD, LONGEST_SCHEDULE, LONGEST_TEXT, MOST_CHANGES, MOST_EDGES, MOST_LANDMARKS, MOST_SOURCES, MOST_VERTICES, row_words
+    BACKWARD, CHANGE_WORDS, DELETE, FORWARD, INSERT, LONGEST_SCHEDULE, LONGEST_TEXT, MOST_CHANGES, MOST_EDGES, MOST_LANDMARKS, MOST_SOURCES,
+    MOST_VERTICES, row_words
 )  # fmt: skip
 from .native import number_of
 
@@ -24,12 +24,22 @@ def copied(name, values, most):
     return array("I", list(islice(values, most + 1)))
 
 
+def five_words(change):
+    """The words of a change. An insert or a delete of four numbers has 0 for the fifth, `old`; an update has to say it."""
+    change = tuple(change)
+    if len(change) == CHANGE_WORDS - 1 and change[0] in (INSERT, DELETE):
+        return *change, 0
+    if len(change) != CHANGE_WORDS:
+        raise ValueError(f"changes: kind, tail, head, weight and old are needed (an insert or a delete may leave old out), and this is {change}")
+    return change
+
+
 def change_words(changes):
-    """Changes as a list of words, four for each; a buffer as it is."""
+    """Changes as a list of words, five for each; a buffer as it is."""
     try:
         return memoryview(changes)
     except TypeError:
-        flat = [word for kind, tail, head, weight in islice(changes, MOST_CHANGES + 1) for word in (kind, tail, head, weight)]
+        flat = [word for change in islice(changes, MOST_CHANGES + 1) for word in five_words(change)]
         return copied("changes", flat, len(flat))
 
 
@@ -50,8 +60,9 @@ class Spot(NamedTuple):
 
 
 class Route(NamedTuple):
-    """The route behind a value: its vertices, source first and target last, its edges (tail, head, weight), and for each edge a mark, 1 where it
-    set the value and 0 where it passed it on. For headroom and worst stretch the value is the weight of the last edge marked."""
+    """The route behind a value: its vertices, source first and target last, its edges (tail, head, weight), of twins the one with the lowest weight with
+    which the route keeps its value, and for each edge a mark, 1 where it set the value and 0 where it passed it on. For headroom and worst stretch
+    the value is the weight of the last edge marked."""
 
     vertices: list
     edges: list
@@ -68,8 +79,8 @@ class Preview(NamedTuple):
 
 
 class Deck:
-    """Vertices 0 to n - 1 and directed edges (tail, head, weight), in any order. Open it with landmarks before it is queried or changed, and
-    before a preview.
+    """Vertices 0 to n - 1 and directed edges (tail, head, weight), in any order. An edge is its three numbers: those of one tail and head with
+    different weights are twins, and no edge stands twice. Open it with landmarks before it is queried or changed, and before a preview.
 
     Its lists (landmarks, tails, heads, weights, forward, backward), n and count may be read; only its methods write them. What is wrong with
     n, edges or landmarks is refused where the library first sees it, as by `open`. A refused call changes nothing."""
@@ -104,7 +115,7 @@ class Deck:
         return list(zip(self.tails[: self.count], self.heads[: self.count], self.weights[: self.count]))
 
     def choose(self, k=MOST_LANDMARKS):
-        """k landmarks to open with: most edges in plus out first."""
+        """k landmarks to open with: most edges in plus out first, each twin counted."""
         return calls.choose(self.n, *self._table(), self.count, k)
 
     def open(self, landmarks):
@@ -130,20 +141,15 @@ class Deck:
         """The best route of a property from a source to a target: a Route. Of several it is one with the fewest edges, and of those the one with the
         lowest vertex at the first place where two differ. It needs no landmarks: the deck may be one that is not open."""
         room = min(self.n, MOST_VERTICES)
-        vertices, marks = words(room), words(room)
-        count = calls.route(self.n, *self._table(), self.count, property, source, target, vertices, marks)
+        vertices, marks, figures = words(room), words(room), words(room)
+        count = calls.route(self.n, *self._table(), self.count, property, source, target, vertices, marks, figures)
         vertices, marks = vertices[:count].tolist(), marks[: count - 1].tolist()
-        return Route(vertices, [(tail, head, self._weight(tail, head)) for tail, head in zip(vertices, vertices[1:])], marks)
-
-    def _weight(self, tail, head):
-        """The weight of an edge that is there."""
-        first = bisect_left(self.tails, tail, 0, self.count)
-        last = bisect_right(self.tails, tail, first, self.count)
-        return self.weights[bisect_left(self.heads, head, first, last)]
+        return Route(vertices, list(zip(vertices, vertices[1:], figures)), marks)
 
     def batch(self, changes):
-        """Applies changes (kind, tail, head, weight), all or none: a Report. A kind is INSERT, DELETE (with weight 0) or UPDATE, which gives the edge
-        of a pair another weight. They may be a buffer of words, four for each."""
+        """Applies changes, all or none: a Report. Each names one edge and leaves its twins: (INSERT, tail, head, weight) puts it in, (DELETE, tail, head,
+        weight) strikes it, and (UPDATE, tail, head, weight, old) gives the edge tail, head, old the weight `weight`. An insert or a delete may have a fifth
+        number too, 0. The changes may be a buffer of words, five for each."""
         report = calls.batch(*self._network(), change_words(changes))
         self.count = report.count
         return report

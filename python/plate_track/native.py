@@ -139,12 +139,15 @@ def number_of(name, value):
     return value
 
 
-def call(function):
-    """The call of the shared object with the name of `function`. Its annotations say what each parameter is, and what becomes of the reply."""
+def call(function=None, *, version=None):
+    """The call of the shared object with the name of `function`, and with the version in its symbol where one has changed it. Its annotations say what
+    each parameter is, and what becomes of the reply."""
+    if function is None:
+        return functools.partial(call, version=version)
     signature = inspect.signature(function)
     kinds = [(p.name, p.annotation) for p in signature.parameters.values()]
     types = [t for _, k in kinds for t in ((c_uint32,) if isinstance(k, Number) else (c_void_p, c_size_t))]
-    symbol = "plate_track_" + function.__name__
+    symbol = "plate_track_" + function.__name__ + (f"_v{version}" if version else "")
     _types[symbol] = [*types, ctypes.POINTER(c_uint64), c_size_t]
 
     @functools.wraps(function)

@@ -1,6 +1,7 @@
 #!/usr/bin/env python3
-"""A deck of 256 stations and 2,048 segments through the archive, held to the rules of document 01 and of document 02's request One as they stand here, with none of
-the library's code: the rows of an opening, what each row's run takes, a query of each property, a batch, one of updates, and the rows after each.
+"""A deck of 256 stations and 2,048 segments through the archive, held to the rules of document 01 and of document 02's requests One and Five as they stand here, with
+none of the library's code: the rows of an opening, what each row's run takes, a query of each property, a batch, one of updates, one that brings twins, one on twins,
+and the rows after each.
 
 The run of a row is asked for as a query over rows of no-route words, which starts where an opening's row does: its rounds and stores are in the tally. The stations
 that it handles, in their order, are then a schedule: each is taken and nothing is left for a round, so they are as many as the library handles."""
@@ -112,15 +113,29 @@ def worse(p, a, b):
     return {1: a > b, 3: a < b, 4: a > b}.get(p, False)
 
 
+def net(p, old, new):
+    """Removed and added segments for a property: of what is in one table alone, a pair's one old and one new are a retune, and any others are plainly removed or
+    added."""
+    less, more = set(old) - set(new), set(new) - set(old)
+    gone, come = set(), set()
+    for pair in {e[:2] for e in less | more}:
+        a, b = ([e for e in part if e[:2] == pair] for part in (less, more))
+        retuned = len(a) == len(b) == 1
+        if not retuned or worse(p, b[0][2], a[0][2]):
+            gone |= set(a)
+        if not retuned or worse(p, a[0][2], b[0][2]):
+            come |= set(b)
+    return gone, come
+
+
 def mend(old, new, rows):
     """One side of a batch: (suspects, stores) over its rows."""
-    was, now = ({(t, h): f for t, h, f in table} for table in (old, new))
     out, total, stores = segments(new), 0, 0
+    parts = {p: net(p, old, new) for p in NAMES}
     for r, words in enumerate(rows):
         p, s = r % 5 + 1, POSTS[r // 5]
-        gone = {e for e in old if e[:2] not in now or worse(p, now[e[:2]], e[2])}
+        gone, fresh = parts[p]
         kept = [e for e in old if e not in gone]
-        fresh = [e for e in new if e[:2] not in was or worse(p, was[e[:2]], e[2])]
 
         def tight(e):
             return e[1] != s and words[e[1]] != NOROUTE[p] and along(p, words[e[0]], e[2]) == words[e[1]]
@@ -137,6 +152,32 @@ def mend(old, new, rows):
         total += len(suspects)
         stores += rounds(p, out, words, waiting)[3]
     return total, stores
+
+
+def twins_come(table):
+    """Every 32nd segment goes, and another one of each 32 gets a twin: the changes, and the table after them."""
+    gone = table[::32]
+    kept = [e for e in table if e not in gone]
+    come = [(t, h, (f + 20000) % 65535 + 1) for t, h, f in kept[16::31]]
+    return [*((2, *e, 0) for e in gone), *((1, *e, 0) for e in come)], sorted(kept + come)
+
+
+def twins_go(table):
+    """Of each pair with twins, in turn: the lower goes, or the higher; one is retuned, or both; both go and one comes; one goes and two come. The changes, takes first,
+    and the table after them."""
+    pairs = [e[:2] for e in table]
+    takes, others, after = [], [], set(table)
+    for i, pair in enumerate(sorted({pair for pair in pairs if pairs.count(pair) > 1})):
+        low, high = sorted(e[2] for e in table if e[:2] == pair)
+        free = [f for f in ((low + 7) % 65535 + 1, (high + 30000) % 65535 + 1, 3, 5) if f not in (low, high)]
+        less, more = [([low], []), ([high], []), ([low], free[:1]), ([low, high], free[:2]), ([low, high], free[:1]), ([low], free[:2])][i % 6]
+        if i % 6 in (2, 3):
+            others += [(3, *pair, figure, old) for old, figure in zip(less, more)]
+        else:
+            takes += [(2, *pair, f, 0) for f in less]
+            others += [(1, *pair, f, 0) for f in more]
+        after = after - {(*pair, f) for f in less} | {(*pair, f) for f in more}
+    return takes + others, sorted(after)
 
 
 def hold(what, found, due):
@@ -186,7 +227,7 @@ def main():
     assert put[:2] not in {(t, h) for t, h, _ in table}
     new = sorted([e for e in table if e != cut] + [put])
     sums = [mend(table, new, fwd), mend(reverse(table), reverse(new), bwd)]
-    report = deck.batch([(2, *cut[:2], 0), (1, *put)])
+    report = deck.batch([(2, *cut, 0), (1, *put, 0)])
     hold("the batch's report", tuple(report), (len(new), sums[0][0] + sums[1][0], sums[0][1] + sums[1][1]))
     hold_rows("the batch", deck, fwd, bwd)
     # each row of the mended network is that of a fresh opening
@@ -194,15 +235,28 @@ def main():
     # every 50th segment gets half its figure, the next one twice, the next its own; one more by a take and an add
     figures = {e[:2]: (e[2] + 1) // 2 if i % 50 == 0 else min(2 * e[2], 65535) if i % 50 == 1 else e[2] for i, e in enumerate(new) if i % 50 < 3}
     cut = new[1040]
-    updates = [(3, *pair, figure) for pair, figure in figures.items()]
+    present = {e[:2]: e[2] for e in new}
+    updates = [(3, *pair, figure, present[pair]) for pair, figure in figures.items()]
     figures[cut[:2]] = 65535 - cut[2]
     old, new = new, [(t, h, figures.get((t, h), f)) for t, h, f in new]
     sums = [mend(old, new, fwd), mend(reverse(old), reverse(new), bwd)]
-    report = deck.batch([*updates, (2, *cut[:2], 0), (1, *cut[:2], figures[cut[:2]])])
+    report = deck.batch([*updates, (2, *cut, 0), (1, *cut[:2], figures[cut[:2]], 0)])
     hold("the report of updates", tuple(report), (len(new), sums[0][0] + sums[1][0], sums[0][1] + sums[1][1]))
     hold("the segments", deck.edges(), new)
     hold_rows("the updates", deck, fwd, bwd)
     assert open_side(new)[0] == fwd and open_side(reverse(new))[0] == bwd
+    for what, brought in (("twins that come", twins_come), ("changes of twins", twins_go)):
+        old, (changes, new) = new, brought(new)
+        sums = [mend(old, new, fwd), mend(reverse(old), reverse(new), bwd)]
+        report = deck.batch(changes)
+        hold(f"the report of {what}", tuple(report), (len(new), sums[0][0] + sums[1][0], sums[0][1] + sums[1][1]))
+        hold(f"the segments after {what}", deck.edges(), new)
+        hold_rows(what, deck, fwd, bwd)
+        assert open_side(new)[0] == fwd and open_side(reverse(new))[0] == bwd
+        for p in NAMES:
+            start, words, (n_rounds, _, _, stores) = query(new, fwd, bwd, p, 100)
+            answer = deck.query(p, 100)
+            hold(f"a query after {what}, {NAMES[p]}", (list(answer.starts), list(answer.settled), tuple(answer.tally)), (start, words, (0, n_rounds, stores)))
     total = [sum(c) for c in zip(*((a, len(b), c, d) for a, b, c, d in ahead + back))]
     print(f"counts: {held} held; an opening takes {total[0]} rounds, {total[1]} handles, {total[2]} looks and {total[3]} stores; "
           f"scans of the table would take {RECORDS * N * total[0]} looks")

@@ -63,18 +63,18 @@ class DeckA(unittest.TestCase):
         deck.open([0])
         self.assertEqual(deck.batch([(INSERT, 3, 2, 2)]).count, 5)
         self.assertEqual(values(deck, TIME, 3), [M, 6, 2, 0])
-        self.assertEqual(deck.batch([(DELETE, 0, 1, 0)])[:2], (4, 10))
+        self.assertEqual(deck.batch([(DELETE, 0, 1, 4)])[:2], (4, 10))
         self.assertEqual(values(deck, TIME, 0), [0, 15, 11, 9])
         self.assertEqual(values(deck, HEADROOM, 0), [M, 2, 2, 9])
 
     def test_updates(self):
         deck = deck_a()
-        self.assertEqual(deck.batch([(UPDATE, 0, 1, 4)]), (5, 0, 0))
-        self.assertEqual(deck.batch([(UPDATE, 0, 1, 3)]), (5, 2, 5))
+        self.assertEqual(deck.batch([(UPDATE, 0, 1, 4, 4)]), (5, 0, 0))
+        self.assertEqual(deck.batch([(UPDATE, 0, 1, 3, 4)]), (5, 2, 5))
         self.assertEqual([values(deck, p, 0) for p in (TIME, HEADROOM, WORST)], [[0, 3, 7, 9], [M, 3, 3, 9], [0, 3, 4, 9]])
         self.assertEqual(deck.edges(), [(0, 1, 3), *EDGES[1:]])
         deck = deck_a()
-        self.assertEqual(deck.batch(array("I", [DELETE, 0, 1, 0, INSERT, 0, 1, 5])), (5, 4, 5))
+        self.assertEqual(deck.batch(array("I", [DELETE, 0, 1, 4, 0, INSERT, 0, 1, 5, 0])), (5, 4, 5))
         self.assertEqual([values(deck, p, 0) for p in (TIME, HEADROOM, WORST)], [[0, 5, 9, 9], [M, 5, 4, 9], [0, 5, 5, 9]])
 
     def test_routes(self):
@@ -84,7 +84,7 @@ class DeckA(unittest.TestCase):
             self.assertEqual(deck.route(prop, 0, 2), ([0, 1, 2], [(0, 1, 4), (1, 2, 4)], wanted))
             self.assertEqual(deck.route(prop, 1, 1), ([1], [], []))
         deck.open([0])
-        deck.batch([(DELETE, 0, 1, 0)])
+        deck.batch([(DELETE, 0, 1, 4)])
         marks = {TIME: [1, 1, 1], HANDOVERS: [1, 1, 1], HEADROOM: [1, 1, 0], WORST: [1, 0, 0], REACH: [0, 0, 0]}
         for prop, wanted in marks.items():
             self.assertEqual(deck.route(prop, 0, 1), ([0, 3, 2, 1], [(0, 3, 9), (3, 2, 2), (2, 1, 4)], wanted))
@@ -93,7 +93,8 @@ class DeckA(unittest.TestCase):
 
     def test_previews(self):
         """Effects, moves, and the digest: gained, lost, better, worse, and the vertex that loses most. Best values before and after are in a comment."""
-        take, cut, join, faster = (DELETE, 0, 1, 0), (DELETE, 3, 2, 0), (INSERT, 3, 0, 5), (UPDATE, 0, 1, 3)
+        take, cut, join, faster = (DELETE, 0, 1, 4), (DELETE, 3, 2, 2), (INSERT, 3, 0, 5), (UPDATE, 0, 1, 3, 4)
+        taller = (INSERT, 0, 1, 7)
         deck = deck_a()
         before = state(deck)
         for changes, prop, source, effects, moves, digest in (
@@ -107,13 +108,15 @@ class DeckA(unittest.TestCase):
             ([faster], TIME, 0, [0, 3, 3, 0], [0, -1, -1, 0], (0, 0, 2, 0, 4)),  # 0 4 8 9, 0 3 7 9
             ([faster], HEADROOM, 0, [0, 3, 3, 0], [0, -1, -1, 0], (0, 0, 0, 2, 1)),  # M 4 4 9, M 3 3 9
             ([take, (INSERT, 0, 2, 1)], TIME, 0, [0, 3, 3, 0], [0, 1, -7, 0], (0, 0, 1, 1, 1)),  # 0 4 8 9, 0 5 1 9
-            ([(DELETE, 0, 3, 0), (UPDATE, 0, 1, 6)], TIME, 0, [0, 3, 3, 2], [0, 2, 2, 0], (0, 1, 0, 2, 3)),  # 0 4 8 9, 0 6 10 M
+            ([(DELETE, 0, 3, 9), (UPDATE, 0, 1, 6, 4)], TIME, 0, [0, 3, 3, 2], [0, 2, 2, 0], (0, 1, 0, 2, 3)),  # 0 4 8 9, 0 6 10 M
+            ([taller], HEADROOM, 0, [0, 3, 0, 0], [0, 3, 0, 0], (0, 0, 1, 0, 4)),  # M 4 4 9, M 7 4 9
+            ([taller], TIME, 0, [0] * 4, [0] * 4, (0, 0, 0, 0, 4)),
             ([take, (INSERT, 0, 1, 4)], TIME, 0, [0] * 4, [0] * 4, (0, 0, 0, 0, 4)),
             ([], TIME, 0, [0] * 4, [0] * 4, (0, 0, 0, 0, 4)),
         ):
             with self.subTest(changes=changes, prop=prop):
                 self.assertEqual(deck.preview(changes, prop, source), (effects, moves, digest))
-                lent = array("I", [word for change in changes for word in change])
+                lent = array("I", [word for change in changes for word in (*change, 0)[:5]])
                 self.assertEqual(deck.preview(lent, prop, source).effects, effects)
         self.assertEqual(state(deck), before)
         preview = deck.preview(iter([take]), property=TIME, source=0)
@@ -141,7 +144,7 @@ class DeckA(unittest.TestCase):
     def test_a_row_after_another_opening(self):
         deck = deck_a()
         row = deck.row(plate_track.FORWARD, 0, TIME)
-        deck.batch([(DELETE, 0, 1, 0)])
+        deck.batch([(DELETE, 0, 1, 4)])
         self.assertEqual(list(row), [0, 15, 11, 9])
         deck.open([3])
         deck.batch([(INSERT, 0, 1, 4)])
@@ -154,9 +157,98 @@ class DeckA(unittest.TestCase):
         self.assertEqual((deck.choose(3), deck.choose()), ([1, 2, 0], [1, 2, 0, 3]))
         self.assertEqual(deck.read_sources(b"p aux sp ss 2\ns 4\ns 1\n"), [3, 0])
 
+    def test_changes_of_four_numbers(self):
+        """An insert or a delete may leave `old` out; an update, or any other kind, may not, and nothing else is no change."""
+        for changes in ([(INSERT, 0, 1, 7)], [(INSERT, 0, 1, 7, 0)], [[INSERT, 0, 1, 7]], [iter((INSERT, 0, 1, 7))], iter([(INSERT, 0, 1, 7)])):
+            self.assertEqual(deck_a().batch(changes), (6, 0, 1))
+        deck = deck_a()
+        self.assertEqual(deck.batch([(DELETE, 0, 1, 4), (INSERT, 0, 1, 4, 0), (UPDATE, 0, 1, 5, 4)]), (5, 4, 5))
+        before = state(deck)
+        for wrong in (
+            (UPDATE, 0, 1, 7), (4, 0, 1, 7), (0, 0, 1, 7), (INSERT, 0, 1), (DELETE, 0, 1), (UPDATE, 0, 1), (), (INSERT, 0, 1, 7, 0, 0),
+            (UPDATE, 0, 1, 7, 5, 0),
+        ):  # fmt: skip
+            for changes in ([wrong], [(INSERT, 3, 1, 7), wrong]):
+                self.assertRaisesRegex(ValueError, "^changes: .* and this is", deck.batch, changes)
+                self.assertRaisesRegex(ValueError, "^changes: .* and this is", deck.preview, changes, TIME, 0)
+        self.assertEqual(state(deck), before)
+
     def test_words(self):
         self.assertEqual([plate_track.no_route(p) for p in range(1, 6)], [M, M, 0, M, 0])
         self.assertEqual(plate_track.row_words(2, 3), 30)
+
+
+class Twins(unittest.TestCase):
+    """Edges of one tail and head with different weights."""
+
+    TWO = [(0, 1, 2), (0, 1, 9), (1, 2, 5)]  # from 0: time 0 2 7, handovers 0 1 2, headroom M 9 5, worst 0 2 5, reach 1 1 1
+
+    def two_tracks(self):
+        deck = Deck(3, reversed(self.TWO))
+        deck.open([0])
+        return deck
+
+    def test_the_best_over_both(self):
+        deck = self.two_tracks()
+        wanted = {TIME: [0, 2, 7], HANDOVERS: [0, 1, 2], HEADROOM: [M, 9, 5], WORST: [0, 2, 5], REACH: [1, 1, 1]}
+        self.assertEqual({prop: values(deck, prop, 0) for prop in wanted}, wanted)
+        self.assertEqual(deck.edges(), self.TWO)
+
+    def test_a_change_names_one(self):
+        """Reports: count, affected, stores. tests/deck says how each follows."""
+        for deck, changes, report, edges in (
+            (deck_a(), [(DELETE, 0, 1, 4)], (4, 10, 10), EDGES[1:]),
+            (deck_a(), [(INSERT, 0, 1, 7)], (6, 0, 1), [(0, 1, 4), (0, 1, 7), *EDGES[1:]]),
+            (deck_a(), [(UPDATE, 0, 1, 7, 4)], (5, 4, 5), [(0, 1, 7), *EDGES[1:]]),
+            (deck_a(), [(UPDATE, 0, 1, 4, 4)], (5, 0, 0), EDGES),
+            (deck_a(), [(INSERT, 0, 1, 7), (DELETE, 0, 1, 4)], (5, 4, 5), [(0, 1, 7), *EDGES[1:]]),
+            (deck_a(), [(INSERT, 0, 1, 3), (UPDATE, 0, 1, 9, 4)], (6, 10, 11), [(0, 1, 3), (0, 1, 9), *EDGES[1:]]),
+            (self.two_tracks(), [(UPDATE, 0, 1, 1, 2), (UPDATE, 0, 1, 8, 9)], (3, 10, 11), [(0, 1, 1), (0, 1, 8), (1, 2, 5)]),
+            (self.two_tracks(), [(DELETE, 0, 1, 9)], (2, 6, 6), [(0, 1, 2), (1, 2, 5)]),
+            (self.two_tracks(), [(DELETE, 0, 1, 2)], (2, 8, 8), [(0, 1, 9), (1, 2, 5)]),
+            (self.two_tracks(), [(UPDATE, 0, 1, 12, 2)], (3, 4, 5), [(0, 1, 9), (0, 1, 12), (1, 2, 5)]),
+        ):
+            with self.subTest(changes=changes):
+                self.assertEqual((deck.batch(changes), deck.edges()), (report, edges))
+                self.assertIsNone(deck.settled())
+                fresh = Deck(deck.n, edges)
+                fresh.open([0])
+                self.assertEqual((deck.forward, deck.backward), (fresh.forward, fresh.backward))
+
+    def test_a_route_names_one(self):
+        """The lowest weight with which the route keeps its value: for headroom to 2, which 1->2 of 4 sets, 5 of 3, 5 and 9."""
+        deck = Deck(4, [(0, 1, 9), (0, 1, 3), (0, 1, 5), *EDGES[1:]])
+        for prop, to_1, to_2, mark in ((TIME, 3, 3, 1), (HANDOVERS, 3, 3, 1), (HEADROOM, 9, 5, 1), (WORST, 3, 3, 1), (REACH, 3, 3, 0)):
+            self.assertEqual(deck.route(prop, 0, 1), ([0, 1], [(0, 1, to_1)], [mark]))
+            self.assertEqual(deck.route(prop, 0, 2), ([0, 1, 2], [(0, 1, to_2), (1, 2, 4)], [mark, mark]))
+
+    def test_a_preview_of_one(self):
+        deck = self.two_tracks()
+        self.assertEqual(deck.preview([(DELETE, 0, 1, 9)], HEADROOM, 0)[:2], ([0, 3, 3], [0, -7, -3]))  # M 9 5, M 2 2
+        self.assertEqual(deck.preview([(DELETE, 0, 1, 9)], TIME, 0)[:2], ([0] * 3, [0] * 3))
+        self.assertEqual(deck.preview([(DELETE, 0, 1, 9)], REACH, 0)[:2], ([0] * 3, [0] * 3))
+        self.assertEqual(deck.preview([(DELETE, 0, 1, 9), (DELETE, 0, 1, 2)], REACH, 0)[:2], ([0, 2, 2], [0] * 3))
+        self.assertEqual(deck.edges(), self.TWO)
+
+    def test_text_and_choice(self):
+        text = b"p sp 3 3\na 1 2 2\na 1 2 9\na 2 3 5\n"
+        deck = Deck.read(b"p sp 3 3\na 1 2 9\na 2 3 5\na 1 2 2\n")
+        self.assertEqual((deck.edges(), deck.write()), (self.TWO, text))
+        # edges in plus out, each twin counted: 0 has 4, 1 has 5, 2 has 3, 3 has 2; by pairs 2 would come before 0
+        self.assertEqual(Deck(4, [(0, 1, 3), (0, 1, 5), *EDGES]).choose(), [1, 0, 2, 3])
+
+    def test_as_many_as_there_is_room_for(self):
+        """2,048 twins, of 1 to 2,048; 3,000 in the place of 1 is worse for time and worst stretch, and better for headroom."""
+        deck = Deck(2, [(0, 1, w) for w in range(1, 2049)])
+        deck.open([0])
+        self.assertEqual([values(deck, p, 0) for p in (TIME, HEADROOM, WORST)], [[0, 1], [M, 2048], [0, 1]])
+        for number, change in ((12, (INSERT, 0, 1, 3000)), (10, (INSERT, 0, 1, 2048)), (12, (INSERT, 1, 0, 1))):
+            with self.assertRaises(Refused) as caught:
+                deck.batch([change])
+            self.assertEqual((caught.exception.number, caught.exception.place), (number, 0))
+        self.assertEqual(deck.batch([(UPDATE, 0, 1, 3000, 1)]), (2048, 2, 3))
+        self.assertEqual([values(deck, p, 0) for p in (TIME, HEADROOM, WORST)], [[0, 2], [M, 3000], [0, 2]])
+        self.assertEqual(Deck.read(deck.write()).edges(), deck.edges())
 
 
 class Refusals(unittest.TestCase):
@@ -170,11 +262,38 @@ class Refusals(unittest.TestCase):
         before = state(deck)
         self.refuses(14, "text", 2, Deck.read, b"p sp 4 1\na 1 5 3\n")
         self.refuses(14, "text", 1, Deck.read, b"")
-        self.refuses(11, "absent", 1, deck.batch, [(DELETE, 0, 1, 0)] * 2)
-        self.refuses(11, "absent", 1, deck.batch, [(UPDATE, 0, 1, 3), (UPDATE, 1, 0, 3)])
-        self.refuses(9, "weight (figure)", 0, deck.batch, [(UPDATE, 0, 1, 65536)])
-        self.refuses(7, "kind", 0, deck.batch, [(4, 0, 1, 4)])
-        self.refuses(7, "kind", 0, deck.batch, [(0, 0, 1, 4)])
+        self.refuses(14, "text", 3, Deck.read, b"p sp 2 2\na 1 2 3\na 1 2 3\n")
+        self.refuses(14, "text", 5, Deck.read, b"p sp 2 3\na 1 2 3\na 1 2 4\nc\na 1 2 3\n")
+        self.refuses(14, "text", 1, Deck.read, b"p sp 1 1\n")
+        self.refuses(14, "text", 4, Deck.read, b"p sp 2 3\na 1 2 3\na 2 1 3\n")
+        for number, word, change in (
+            (9, "weight (figure)", (DELETE, 0, 1, 0)),
+            (9, "weight (figure)", (DELETE, 0, 1, 65536)),
+            (9, "weight (figure)", (DELETE, 0, 1, 4, 4)),
+            (9, "weight (figure)", (INSERT, 0, 1, 0)),
+            (9, "weight (figure)", (INSERT, 0, 1, 7, 7)),
+            (9, "weight (figure)", (UPDATE, 0, 1, 7, 0)),
+            (9, "weight (figure)", (UPDATE, 0, 1, 7, 65536)),
+            (9, "weight (figure)", (UPDATE, 0, 1, 0, 4)),
+            (9, "weight (figure)", (UPDATE, 0, 1, 65536, 4)),
+            (10, "present", (INSERT, 0, 1, 4)),
+            (10, "present", (UPDATE, 0, 1, 4, 5)),
+            (11, "absent", (DELETE, 0, 1, 5)),
+            (11, "absent", (UPDATE, 0, 1, 5, 5)),
+            (11, "absent", (UPDATE, 0, 1, 6, 5)),
+            (7, "kind", (4, 0, 1, 4, 0)),
+            (7, "kind", (0, 0, 1, 4, 0)),
+        ):
+            with self.subTest(change=change):
+                self.refuses(number, word, 0, deck.batch, [change])
+                self.refuses(number, word, 1, deck.batch, [(INSERT, 3, 0, 5), change])
+                self.refuses(number, word, 0, deck.preview, [change], TIME, 0)
+                self.refuses(number, word, 1, deck.preview, [(INSERT, 3, 0, 5), change], TIME, 0)
+        self.refuses(10, "present", 1, deck.batch, [(INSERT, 0, 1, 7), (UPDATE, 0, 1, 7, 4)])
+        self.refuses(10, "present", 1, deck.batch, [(INSERT, 0, 1, 7), (UPDATE, 0, 1, 7, 9)])
+        self.refuses(11, "absent", 1, deck.batch, [(DELETE, 0, 1, 4)] * 2)
+        self.refuses(11, "absent", 1, deck.batch, [(UPDATE, 0, 1, 3, 4), (UPDATE, 0, 1, 5, 4)])
+        self.refuses(11, "absent", 1, deck.batch, [(UPDATE, 0, 1, 3, 4), (UPDATE, 1, 0, 3, 4)])
         self.refuses(6, "vertex (station)", 0, deck.query, TIME, 4)
         self.refuses(6, "vertex (station)", 1, deck.query, TIME, 0, [1, 4])
         self.refuses(5, "property", 0, deck.query, 6, 0)
@@ -183,12 +302,10 @@ class Refusals(unittest.TestCase):
         self.refuses(6, "vertex (station)", 0, deck.route, TIME, 3, 4)
         self.refuses(6, "vertex (station)", 0, deck.route, TIME, 4, 0)
         self.refuses(5, "property", 0, deck.route, 6, 0, 4)
-        self.refuses(11, "absent", 1, deck.preview, [(DELETE, 0, 1, 0)] * 2, TIME, 0)
-        self.refuses(9, "weight (figure)", 0, deck.preview, [(UPDATE, 0, 1, 65536)], TIME, 0)
-        self.refuses(7, "kind", 0, deck.preview, [(4, 0, 1, 4)], TIME, 0)
-        self.refuses(6, "vertex (station)", 1, deck.preview, [(DELETE, 0, 1, 0), (DELETE, 4, 1, 0)], TIME, 0)
-        self.refuses(6, "vertex (station)", 0, deck.preview, [(DELETE, 0, 1, 0), (DELETE, 4, 1, 0)], TIME, 4)
-        self.refuses(5, "property", 0, deck.preview, [(4, 0, 1, 4)], 6, 4)
+        self.refuses(11, "absent", 1, deck.preview, [(DELETE, 0, 1, 4)] * 2, TIME, 0)
+        self.refuses(6, "vertex (station)", 1, deck.preview, [(DELETE, 0, 1, 4), (DELETE, 4, 1, 4)], TIME, 0)
+        self.refuses(6, "vertex (station)", 0, deck.preview, [(DELETE, 0, 1, 4), (DELETE, 4, 1, 4)], TIME, 4)
+        self.refuses(5, "property", 0, deck.preview, [(4, 0, 1, 4, 0)], 6, 4)
         self.refuses(5, "property", 0, calls.digest, 4, 0, array("I", [0] * 4), array("q", [0] * 4))
         self.refuses(1, "size", 0, calls.digest, 257, TIME, array("I", [0] * 257), array("q", [0] * 257))
         self.refuses(3, "landmarks (posts)", 0, deck.open, [0, 1, 2, 3, 0])
@@ -197,13 +314,13 @@ class Refusals(unittest.TestCase):
         self.refuses(3, "landmarks (posts)", 0, deck.open, [])
         self.refuses(3, "landmarks (posts)", 0, deck.open, range(10**9))
         self.refuses(1, "size", 0, deck.query, TIME, 0, itertools.repeat(0))
-        self.refuses(1, "size", 0, deck.batch, itertools.repeat((DELETE, 0, 1, 0)))
-        self.refuses(1, "size", 0, deck.preview, itertools.repeat((DELETE, 0, 1, 0)), TIME, 0)
+        self.refuses(1, "size", 0, deck.batch, itertools.repeat((DELETE, 0, 1, 4)))
+        self.refuses(1, "size", 0, deck.preview, itertools.repeat((DELETE, 0, 1, 4)), TIME, 0)
         self.refuses(3, "landmarks (posts)", 0, deck.choose, 5)
         self.refuses(14, "text", 1, deck.read_sources, b"")
         self.assertEqual(state(deck), before)
         self.assertEqual(values(deck, TIME, 0), [0, 4, 8, 9])
-        self.assertEqual(deck.batch([(DELETE, 0, 1, 0)])[:2], (4, 10))
+        self.assertEqual(deck.batch([(DELETE, 0, 1, 4)])[:2], (4, 10))
         self.refuses(3, "landmarks (posts)", 0, Deck.read(TEXT).query, TIME, 0)
         self.refuses(3, "landmarks (posts)", 0, Deck.read(TEXT).preview, [], TIME, 0)
         self.refuses(1, "size", 0, Deck(257).preview, [], TIME, 0)
@@ -211,7 +328,11 @@ class Refusals(unittest.TestCase):
         self.refuses(1, "size", 0, Deck(257).route, TIME, 0, 0)
         self.refuses(1, "size", 0, Deck(0).route, TIME, 0, 0)
         self.refuses(4, "table", 0, Deck(3, [(1, 1, 1)]).route, TIME, 0, 1)
-        self.refuses(4, "table", 1, Deck(3, [(0, 1, 1), (0, 1, 2)]).open, [0])
+        self.refuses(4, "table", 1, Deck(3, [(0, 1, 1), (0, 1, 1)]).open, [0])
+        self.refuses(4, "table", 2, Deck(3, [(0, 1, 1), (0, 1, 2), (0, 1, 2)]).open, [0])
+        falling = Deck(3, [(0, 1, 1), (0, 1, 2)])
+        falling.weights[0] = 3
+        self.refuses(4, "table", 1, falling.open, [0])
         self.refuses(4, "table", 0, Deck(256, [(i // 200, i % 200 + 30, 1) for i in range(2049)]).open, [0])
         self.assertEqual(str(Refused(14, 2)), "refused 14, text, at 2")
 
@@ -229,12 +350,17 @@ class Refusals(unittest.TestCase):
             self.assertRaises(OverflowError, Deck, wrong)
             self.assertRaises(OverflowError, Deck, 2, [(0, 1, wrong)])
             self.assertRaises(OverflowError, deck.open, [wrong])
-            for place in range(4):
-                change = [INSERT, 3, 1, 7]
+            for place in range(5):
+                change = [UPDATE, 0, 1, 7, 4]
                 change[place] = wrong
                 self.assertRaises(OverflowError, deck.batch, [change])
                 self.assertRaises(OverflowError, deck.preview, [change], TIME, 0)
-        self.assertRaises(OverflowError, deck.batch, [(2**32 + 2, 0, 1, 0)])
+        self.assertRaises(OverflowError, deck.batch, [(2**32 + 2, 0, 1, 4, 0)])
+        self.assertRaises(OverflowError, deck.batch, [(DELETE, 0, 1, 2**32 + 4)])
+        self.assertRaises(OverflowError, deck.batch, [(UPDATE, 0, 1, 7, 2**32 + 4)])
+        self.assertRaises(TypeError, deck.batch, [(UPDATE, 0, 1, 7, 4.0)])
+        self.assertRaises(TypeError, deck.batch, [(INSERT, 0, 1, "7")])
+        self.assertRaises(TypeError, deck.batch, [INSERT, 0, 1, 7, 0])
         self.assertRaises(TypeError, deck.query, TIME, 1.0)
         self.assertRaises(TypeError, deck.query, "1", 0)
         self.assertRaises(TypeError, deck.route, TIME, 0, 2.0)
@@ -276,22 +402,25 @@ class Lending(unittest.TestCase):
                 network, starts, settled = self.lists(of), of([7] * 5), of([7] * 5)
                 self.assertEqual(calls.query(*network, TIME, 0, of([]), starts, settled), (0, 1, 0))
                 self.assertEqual(list(settled), [0, 4, 8, 9, 7])
-                vertices, marks = of([7] * 5), of([7] * 5)
-                self.assertEqual(calls.route(4, *network[2:6], HEADROOM, 0, 2, vertices, marks), 3)
-                self.assertEqual((list(vertices), list(marks)), ([0, 1, 2, 7, 7], [1, 0, 7, 7, 7]))
+                vertices, marks, figures = of([7] * 5), of([7] * 5), of([7] * 5)
+                self.assertEqual(calls.route(4, *network[2:6], HEADROOM, 0, 2, vertices, marks, figures), 3)
+                self.assertEqual((list(vertices), list(marks), list(figures)), ([0, 1, 2, 7, 7], [1, 0, 7, 7, 7], [4, 4, 7, 7, 7]))
                 effects, moves = of([7] * 5), moves_of([-7] * 5)
-                self.assertIsNone(calls.preview(*network, of([DELETE, 0, 1, 0]), HEADROOM, 0, effects, moves))
+                self.assertIsNone(calls.preview(*network, of([DELETE, 0, 1, 4, 0]), HEADROOM, 0, effects, moves))
                 self.assertEqual((list(effects), list(moves)), ([0, 3, 3, 0, 7], [0, -2, -2, 0, -7]))
                 self.assertEqual(calls.digest(4, HEADROOM, effects, moves), (0, 0, 0, 2, 1))
-                self.assertEqual(calls.batch(*network, of([DELETE, 0, 1, 0])), (4, 10, 10))
+                self.assertEqual(calls.batch(*network, of([DELETE, 0, 1, 4, 0])), (4, 10, 10))
                 self.assertEqual(list(network[2])[:5], [0, 1, 2, 3, 0])
 
     def test_the_shape_of_changes(self):
         network = self.lists(lambda ws: array("I", ws))
-        two = memoryview(array("I", [DELETE, 0, 1, 0, DELETE, 0, 3, 0])).cast("B")
-        for shape in ((4, 2), (8, 1), (1, 8), (2, 2, 2)):
+        two = memoryview(array("I", [DELETE, 0, 1, 4, 0, DELETE, 0, 3, 9, 0])).cast("B")
+        for shape in ((5, 2), (10, 1), (1, 10), (1, 5, 2)):
             self.assertRaises(ValueError, calls.batch, *network, two.cast("I", shape))
-        self.assertEqual(calls.batch(*network, two.cast("I", (2, 4))).count, 3)
+        fours = memoryview(array("I", [DELETE, 0, 1, 4] * 5)).cast("B")  # as many words as four changes have
+        self.assertRaises(ValueError, calls.batch, *network, fours.cast("I", (5, 4)))
+        self.assertRaises(ValueError, calls.batch, *network, array("I", [DELETE, 0, 1, 4]))
+        self.assertEqual(calls.batch(*network, two.cast("I", (2, 5))).count, 3)
 
     def test_the_memory_itself_is_lent(self):
         below = bytearray(array("I", [7] * 4).tobytes())
@@ -316,7 +445,7 @@ class Lending(unittest.TestCase):
         self.assertRaises(ValueError, query, schedule=memoryview(bytearray(9))[1:].cast("I"))
         self.assertRaises(ValueError, query, starts=out)
         self.assertRaises(ValueError, query, schedule=memoryview(out)[3:])
-        self.assertRaises(ValueError, calls.batch, *network, array("I", [INSERT, 3, 1]))
+        self.assertRaises(ValueError, calls.batch, *network, array("I", [INSERT, 3, 1, 7]))
         self.assertRaises(TypeError, calls.query, *network, TIME, 0)
         self.assertRaises(TypeError, calls.read, "p sp 1 0\n", *network[2:5])
         # read twice is no harm
@@ -327,16 +456,21 @@ class Lending(unittest.TestCase):
         out = array("I", [7] * 4)
 
         def route(**changed):
-            return calls.route(n, *table, count, TIME, 0, 2, **{"vertices": array("I", [7] * 4), "marks": out, **changed})
+            lent = {"vertices": array("I", [7] * 4), "marks": out, "figures": array("I", [7] * 4), **changed}
+            return calls.route(n, *table, count, TIME, 0, 2, **lent)
 
         for wrong in ([0] * 4, array("i", [7] * 4), array("Q", [7] * 4), bytearray(16), memoryview(bytes(16)).cast("I"), None):
             self.assertRaises(TypeError, route, vertices=wrong)
             self.assertRaises(TypeError, route, marks=wrong)
+            self.assertRaises(TypeError, route, figures=wrong)
         self.assertRaises(ValueError, route, vertices=out)
+        self.assertRaises(ValueError, route, figures=out)
+        self.assertRaises(ValueError, route, figures=table[2])
         self.assertRaises(ValueError, route, vertices=memoryview(array("I", [7] * 8))[1:5], marks=table[1])
         both = memoryview(array("I", [7] * 8))
         self.assertRaises(ValueError, route, vertices=both[:5], marks=both[4:])
-        for short in ("vertices", "marks"):
+        self.assertRaises(ValueError, route, vertices=both[:5], figures=both[4:])
+        for short in ("vertices", "marks", "figures"):
             for words in (0, 3):
                 with self.assertRaises(Refused) as caught:
                     route(**{short: array("I", [7] * words)})
@@ -344,12 +478,13 @@ class Lending(unittest.TestCase):
         self.assertEqual(list(out) + list(both), [7] * 12)
         # beside each other is no overlap
         self.assertEqual((route(vertices=both[:4], marks=both[4:]), list(both)), (3, [0, 1, 2, 7, 1, 1, 7, 7]))
+        self.assertEqual((route(vertices=both[4:], figures=both[:4]), list(both)), (3, [4, 4, 2, 7, 0, 1, 2, 7]))
 
     def test_what_is_not_lent_to_a_preview(self):
         network, out = self.lists(lambda ws: array("I", ws)), array("q", [-7] * 4)
 
         def preview(**changed):
-            lent = {"changes": array("I", [DELETE, 0, 1, 0]), "effects": array("I", [7] * 4), "moves": out, **changed}
+            lent = {"changes": array("I", [DELETE, 0, 1, 4, 0]), "effects": array("I", [7] * 4), "moves": out, **changed}
             return calls.preview(*network, property=TIME, source=0, **lent)
 
         for wrong in ([0] * 4, array("i", [7] * 4), array("q", [7] * 4), bytearray(16), memoryview(bytes(16)).cast("I"), None):
@@ -358,8 +493,8 @@ class Lending(unittest.TestCase):
             self.assertRaises(TypeError, preview, moves=wrong)
             self.assertRaises(TypeError, calls.digest, 4, TIME, array("I", [7] * 4), wrong)
         self.assertRaises(TypeError, preview, moves=memoryview(bytes(32)).cast("q"))
-        self.assertRaises(TypeError, preview, changes=array("q", [DELETE, 0, 1, 0]))
-        self.assertRaises(ValueError, preview, changes=array("I", [DELETE, 0, 1]))
+        self.assertRaises(TypeError, preview, changes=array("q", [DELETE, 0, 1, 4, 0]))
+        self.assertRaises(ValueError, preview, changes=array("I", [DELETE, 0, 1, 4]))
         for name, wrong, said in (
             ("moves", array("Q", [7] * 4), "moves: signed elements of 64 bits are needed, and these are 'Q' of 64"),
             ("moves", array("i", [7] * 4), "moves: signed elements of 64 bits are needed, and these are 'i' of 32"),
@@ -370,7 +505,7 @@ class Lending(unittest.TestCase):
             self.assertEqual(str(caught.exception), said)
         both = memoryview(bytearray(48))
         self.assertRaises(ValueError, preview, effects=both[:16].cast("I"), moves=both[8:40].cast("q"))
-        self.assertRaises(ValueError, preview, effects=both[:16].cast("I"), changes=both[:16].cast("I"))
+        self.assertRaises(ValueError, preview, effects=both[:16].cast("I"), changes=both[:20].cast("I"))
         self.assertRaises(ValueError, preview, moves=both[4:36].cast("q"))
         self.assertRaises(ValueError, preview, effects=network[3])
         for short, form in (("effects", "I"), ("moves", "q")):
@@ -406,7 +541,7 @@ class Threads(unittest.TestCase):
                 for _ in range(200):
                     wrong.extend(prop for prop, right in wanted.items() if values(deck, prop, 0) != right)
                     wrong.extend(prop for prop in wanted if deck.route(prop, 0, 2).vertices != [0, 1, 2])
-                    wrong.extend(prop for prop, right in moves.items() if deck.preview([(DELETE, 0, 1, 0)], prop, 0).moves != right)
+                    wrong.extend(prop for prop, right in moves.items() if deck.preview([(DELETE, 0, 1, 4)], prop, 0).moves != right)
             except Exception as error:
                 wrong.append(error)
 
@@ -470,13 +605,32 @@ class Loading(unittest.TestCase):
 @unittest.skipUnless(networkx, "networkx is not here")
 class Graphs(unittest.TestCase):
     def found(self, graph, nodes, source):
-        """The values from a source, by property, as NetworkX has them."""
+        """The values from a source, by property, as NetworkX has them: headroom is the greatest weight such that the edges of that weight and above lead
+        to a vertex, worst stretch the least such that those of it and below do. Where there are many weights these two are left out."""
         time = networkx.single_source_dijkstra_path_length(graph, nodes[source])
         handovers = networkx.single_source_shortest_path_length(graph, nodes[source])
         reached = networkx.descendants(graph, nodes[source]) | {nodes[source]}
-        return {
+        all_of = {
             TIME: [time.get(v, M) for v in nodes], HANDOVERS: [handovers.get(v, M) for v in nodes], REACH: [int(v in reached) for v in nodes],
         }  # fmt: skip
+        edges = list(graph.edges(data="weight"))
+        weights = sorted({w for *_, w in edges})
+        if graph.is_directed() and len(weights) <= 12:
+            up, down = {nodes[source]: M}, {nodes[source]: 0}
+            for least in reversed(weights):
+                for v in self.led_to(graph, nodes[source], [(t, h) for t, h, w in edges if w >= least]):
+                    up.setdefault(v, least)
+            for most in weights:
+                for v in self.led_to(graph, nodes[source], [(t, h) for t, h, w in edges if w <= most]):
+                    down.setdefault(v, most)
+            all_of |= {HEADROOM: [up.get(v, 0) for v in nodes], WORST: [down.get(v, M) for v in nodes]}
+        return all_of
+
+    def led_to(self, graph, node, pairs):
+        part = networkx.DiGraph()
+        part.add_nodes_from(graph)
+        part.add_edges_from(pairs)
+        return networkx.descendants(part, node)
 
     def agree(self, deck, graph, nodes):
         for source in range(len(nodes)):
@@ -490,66 +644,100 @@ class Graphs(unittest.TestCase):
         effects = {(True, True): SAME, (True, False): GAINED, (False, True): LOST}
         self.assertEqual(preview.effects, [effects.get(lack, SAME if a == b else MOVED) for lack, a, b in zip(lacks, was, now)])
         self.assertEqual(preview.moves, [0 if any(lack) else b - a for lack, a, b in zip(lacks, was, now)])
-        losses = [M if e == LOST else max(0, d) for e, d in zip(preview.effects, preview.moves)]  # of time and handovers; reach never moves
-        counts = [preview.effects.count(GAINED), preview.effects.count(LOST), sum(d < 0 for d in preview.moves), sum(d > 0 for d in preview.moves)]
+        worse_by = [-d if prop == HEADROOM else d for d in preview.moves]  # reach never moves
+        losses = [M if e == LOST else max(0, d) for e, d in zip(preview.effects, worse_by)]
+        counts = [preview.effects.count(GAINED), preview.effects.count(LOST), sum(d < 0 for d in worse_by), sum(d > 0 for d in worse_by)]
         self.assertEqual(preview.digest, (*counts, losses.index(max(losses)) if any(losses) else len(was)))
+
+    def drawn(self, draw, kind, most):
+        """A graph of some vertices and weights up to `most`; twins are parallel edges, with keys that say nothing."""
+        n = draw.randrange(20, 40) if most > 12 else draw.randrange(8, 14)
+        graph = networkx.gnm_random_graph(n, 3 * n, seed=draw.randrange(10**6), directed=kind != "undirected")
+        if kind == "twins":
+            graph = networkx.MultiDiGraph(graph.edges)
+            graph.add_nodes_from(range(n))
+            graph.add_edges_from(draw.sample(sorted(graph.edges(keys=False)), n))
+        graph = networkx.relabel_nodes(graph, {v: f"station {v}" for v in range(n)})
+        for u, v in sorted(set(graph.edges())):
+            parts = graph[u][v].values() if kind == "twins" else [graph[u][v]]
+            for part, weight in zip(parts, draw.sample(range(1, most + 1), len(parts))):
+                part["weight"] = weight
+        return graph
+
+    def changed(self, draw, edges, n, most):
+        """Changes that are accepted: six deletes, inserts of new pairs and of twins, updates; and the edges after them."""
+        edges, changes = set(edges), []
+        for t, h, w in draw.sample(sorted(edges), 6):
+            changes.append((DELETE, t, h, w))
+            edges.remove((t, h, w))
+        for change in (INSERT,) * 8 + (UPDATE,) * 8:
+            t, h, w = draw.choice(sorted(edges))
+            if change == INSERT and draw.random() < 0.5:
+                t, h = draw.sample(range(n), 2)
+            if len({e for e in edges if e[:2] == (t, h)}) == most:
+                continue
+            figure = draw.choice([f for f in range(1, most + 1) if (t, h, f) not in edges])
+            changes.append((INSERT, t, h, figure) if change == INSERT else (UPDATE, t, h, figure, w))
+            edges -= {(t, h, w)} if change == UPDATE else set()
+            edges.add((t, h, figure))
+        return changes, edges
 
     def test_against_dijkstra_and_bfs(self):
         draw = random.Random(14)
-        for directed in (True, True, False):
-            n = draw.randrange(20, 40)
-            graph = networkx.gnm_random_graph(n, 3 * n, seed=draw.randrange(10**6), directed=directed)
-            graph = networkx.relabel_nodes(graph, {v: f"station {v}" for v in graph})
-            for u, v in graph.edges:
-                graph[u][v]["weight"] = draw.randrange(1, 65536)
+        for kind, most in (("directed", 65535), ("undirected", 65535), ("twins", 65535), ("directed", 12), ("twins", 12), ("twins", 4)):
+            graph = self.drawn(draw, kind, most)
             deck, nodes = plate_track.from_networkx(graph)
             deck.open(deck.choose())
             self.agree(deck, graph, nodes)
-            graph = plate_track.to_networkx(deck, nodes)
+            graph, n = plate_track.to_networkx(deck, nodes), len(nodes)
             for _ in range(5):
-                edges = deck.edges()
-                changes = [(DELETE, t, h, 0) for t, h, _ in draw.sample(edges, 6)]
-                free = sorted({(t, h) for t in range(n) for h in range(n) if t != h} - {e[:2] for e in edges})
-                changes += [(INSERT, t, h, draw.randrange(1, 65536)) for t, h in draw.sample(free, 6)]
-                stays = [e for e in edges if (DELETE, *e[:2], 0) not in changes]
-                changes += [(UPDATE, t, h, draw.randrange(1, 65536)) for t, h, _ in draw.sample(stays, 6)]
+                changes, edges = self.changed(draw, deck.edges(), n, most)
                 sources = draw.sample(range(n), 4)
                 was = {source: self.found(graph, nodes, source) for source in sources}
                 shown = [(source, prop, deck.preview(changes, prop, source)) for source in sources for prop in was[source]]
                 deck.batch(changes)
-                for kind, t, h, w in changes:
-                    graph.remove_edge(nodes[t], nodes[h]) if kind == DELETE else graph.add_edge(nodes[t], nodes[h], weight=w)
+                self.assertEqual(deck.edges(), sorted(edges))
+                for kind_of, t, h, w, *old in changes:
+                    if kind_of != INSERT:
+                        graph.remove_edge(nodes[t], nodes[h], key=old[0] if old else w)
+                    if kind_of != DELETE:
+                        graph.add_edge(nodes[t], nodes[h], key=w, weight=w)
                 self.agree(deck, graph, nodes)
                 for source, prop, preview in shown:
                     self.came_true(preview, prop, was[source][prop], self.found(graph, nodes, source)[prop])
                 now = plate_track.to_networkx(deck, nodes)
-                self.assertEqual((set(now), now.edges), (set(graph), graph.edges))
-                self.assertEqual({e: now.edges[e]["weight"] for e in now.edges}, {e: graph.edges[e]["weight"] for e in graph.edges})
+                self.assertEqual((set(now), set(now.edges(keys=True, data="weight"))), (set(graph), set(graph.edges(keys=True, data="weight"))))
+                self.assertEqual(plate_track.from_networkx(now)[0].edges(), deck.edges())
 
     def test_routes_against_all_simple_paths(self):
         """Of all best routes the one with the fewest edges, then the lowest vertex at the first place where two differ: weights are few, so that
-        many routes are best. A route with the fewest edges goes through no vertex twice."""
+        many routes are best. A route with the fewest edges goes through no vertex twice. The weight of an edge is the lowest, of those of its pair, with
+        which the route keeps its value while the others take whichever is best; taken all at once these keep it too."""
         costs = {  # of a route by its weights, less is better
             TIME: sum, HANDOVERS: len, HEADROOM: lambda ws: -min(ws, default=M), WORST: lambda ws: max(ws, default=0), REACH: lambda ws: -1,
         }  # fmt: skip
         draw = random.Random(15)
-        for _ in range(6):
-            n = draw.randrange(6, 10)
-            graph = networkx.gnm_random_graph(n, 2 * n, seed=draw.randrange(10**6), directed=True)
-            for u, v in graph.edges:
-                graph[u][v]["weight"] = draw.randrange(1, 5)
-            deck, _ = plate_track.from_networkx(graph)
-            for (source, target), (prop, cost) in itertools.product(itertools.product(graph, graph), costs.items()):
-                paths = [[source]] if source == target else list(networkx.all_simple_paths(graph, source, target))
-                routes = [(path, [graph[u][v]["weight"] for u, v in zip(path, path[1:])]) for path in paths]
-                if not routes:
+        for twins in (0, 0, 0, 5, 5, 8):
+            n = draw.randrange(5, 7) if twins else draw.randrange(6, 10)
+            plain = networkx.gnm_random_graph(n, 2 * n, seed=draw.randrange(10**6), directed=True)
+            pairs = [*plain.edges, *(draw.choice(sorted(plain.edges)) for _ in range(twins))]
+            weights = {pair: sorted(draw.sample(range(1, 8 if twins else 5), pairs.count(pair))) for pair in plain.edges}
+            deck = Deck(n, [(u, v, w) for (u, v), ws in weights.items() for w in ws])
+            for (source, target), (prop, cost) in itertools.product(itertools.product(plain, plain), costs.items()):
+                paths = [[source]] if source == target else list(networkx.all_simple_paths(plain, source, target))
+                if not paths:
                     with self.assertRaises(Refused) as caught:
                         deck.route(prop, source, target)
                     self.assertEqual((caught.exception.number, caught.exception.place), (plate_track.NO_ROUTE, 0))
                     continue
-                best, ws = min(routes, key=lambda route: (cost(route[1]), len(route[0]), route[0]))
+                choices = {tuple(path): [weights[pair] for pair in zip(path, path[1:])] for path in paths}
+                least = {path: min(map(cost, itertools.product(*of))) for path, of in choices.items()}
+                best = min(choices, key=lambda path: (least[path], len(path), path))
+                kept = [ws for ws in itertools.product(*choices[best]) if cost(ws) == least[best]]
+                ws = [min(column) for column in zip(*kept)]
+                self.assertEqual(cost(ws), least[best])
                 marks = [int(prop in (TIME, HANDOVERS) or cost(ws[: i + 1]) != cost(ws[:i])) for i in range(len(ws))]
-                self.assertEqual(deck.route(prop, source, target), (best, list(zip(best, best[1:], ws)), marks))
+                self.assertEqual(deck.route(prop, source, target), (list(best), list(zip(best, best[1:], ws)), marks))
 
     def test_forms(self):
         graph = networkx.DiGraph([("b", "a")])
@@ -558,10 +746,28 @@ class Graphs(unittest.TestCase):
         graph = networkx.DiGraph()
         graph.add_edge(5, 6, cost=3)
         self.assertEqual(plate_track.from_networkx(graph, weight="cost")[0].edges(), [(0, 1, 3)])
-        self.assertEqual(list(plate_track.to_networkx(deck).edges(data="weight")), [(0, 1, 1)])
-        self.assertRaises(ValueError, plate_track.from_networkx, networkx.MultiDiGraph())
         graph.add_edge(5, 6, weight=1.5)
         self.assertRaises(TypeError, plate_track.from_networkx, graph)
+
+    def test_multigraphs(self):
+        """Parallel edges are twins; the key of an edge of a deck is its weight."""
+        for form, wanted in ((networkx.MultiDiGraph, [(0, 1, 1), (0, 1, 9)]), (networkx.MultiGraph, [(0, 1, 1), (0, 1, 9), (1, 0, 1), (1, 0, 9)])):
+            graph = form()
+            graph.add_edge("b", "a", key="tall", weight=9)
+            graph.add_edge("b", "a", key="fast")
+            deck, nodes = plate_track.from_networkx(graph)
+            self.assertEqual((deck.edges(), nodes), (wanted, ["b", "a"]))
+            deck.open([0])
+            self.assertEqual([values(deck, p, 0) for p in (TIME, HEADROOM, WORST)], [[0, 1], [M, 9], [0, 1]])
+            back = plate_track.to_networkx(deck, nodes, weight="cost")
+            self.assertEqual((type(back), list(back)), (networkx.MultiDiGraph, ["b", "a"]))
+            self.assertEqual(sorted(back.edges(keys=True, data="cost")), sorted((nodes[t], nodes[h], w, w) for t, h, w in wanted))
+            self.assertTrue(back.has_edge("b", "a", 9) and not back.has_edge("b", "a", 5))
+        self.assertEqual(list(plate_track.to_networkx(Deck(2, [(0, 1, 4)])).edges(keys=True, data="weight")), [(0, 1, 4, 4)])
+        graph.add_edge("b", "a", weight=9)
+        with self.assertRaises(Refused) as caught:
+            plate_track.from_networkx(graph)[0].open([0])
+        self.assertEqual((caught.exception.number, caught.exception.place), (plate_track.TABLE, 2))
 
 
 if __name__ == "__main__":
