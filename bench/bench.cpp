@@ -1,14 +1,16 @@
 // Times of the calls beside the same rounds in plain Rust (plain.rs) and Boost.Graph, on the same networks in the same process. Every
 // result that is timed is compared first. Usage: bench [REPEATS]; bench boost WHAT runs Boost alone, to count instructions:
-// rows, query1 to query5, better1 to worse100 (its rows on each retuned table).
+// rows, query1 to query5, better1 to worse100 (its rows on each retuned table), and on the network with twins twinrows, twinquery1 to twinquery5.
 #include "boost.h"
 #include "times.h"
 
 #include <cstring>
 
-extern "C" __attribute__((noinline)) void boost_rows(const void *both, const void *network, uint32_t *forward, uint32_t *backward)
+namespace {
+
+template <class G> void rows(const void *both, const void *network, uint32_t *forward, uint32_t *backward)
 {
-    const Both &g = *static_cast<const Both *>(both);
+    const BothOf<G> &g = *static_cast<const BothOf<G> *>(both);
     const Network &w = *static_cast<const Network *>(network);
     for (uint32_t l : w.landmarks)
         for (uint32_t p = 1; p <= 5; p++, forward += w.n, backward += w.n) {
@@ -17,43 +19,73 @@ extern "C" __attribute__((noinline)) void boost_rows(const void *both, const voi
         }
 }
 
+} // namespace
+
+extern "C" __attribute__((noinline)) void boost_rows(const void *both, const void *network, uint32_t *forward, uint32_t *backward)
+{
+    rows<Graph>(both, network, forward, backward);
+}
+
+extern "C" __attribute__((noinline)) void boost_twin_rows(const void *both, const void *network, uint32_t *forward, uint32_t *backward)
+{
+    rows<Multigraph>(both, network, forward, backward);
+}
+
 extern "C" __attribute__((noinline)) void boost_query(const void *network, uint32_t property, uint32_t source, uint32_t *out)
 {
     boost_row(build(*static_cast<const Network *>(network), false), property, source, out);
 }
 
+extern "C" __attribute__((noinline)) void boost_twin_query(const void *network, uint32_t property, uint32_t source, uint32_t *out)
+{
+    boost_row(build<Multigraph>(*static_cast<const Network *>(network), false), property, source, out);
+}
+
 namespace {
+
+// Boost's rows and query on either kind of graph, and how a line names the network.
+template <class G> struct Of;
+template <> struct Of<Graph> {
+    static void rows(const Both &g, Network &w) { boost_rows(&g, &w, w.forward.data(), w.backward.data()); }
+    static const uint32_t twins = 0;
+    static constexpr const char *name = "";
+};
+template <> struct Of<Multigraph> {
+    static void rows(const BothOf<Multigraph> &g, Network &w) { boost_twin_rows(&g, &w, w.forward.data(), w.backward.data()); }
+    static const uint32_t twins = fifth;
+    static constexpr const char *name = ", a fifth twins";
+};
 
 // ---- time
 
-void open_times(int repeats, uint32_t n, uint32_t edges)
+template <class G = Graph> void open_times(int repeats, uint32_t n, uint32_t edges)
 {
     const int networks = 8;
     std::vector<Network> ours, theirs;
-    std::vector<Both> graphs;
+    std::vector<BothOf<G>> graphs;
     for (int i = 0; i < networks; i++) {
-        ours.push_back(make(n, edges, 100 + i));
+        ours.push_back(make(n, edges, 100 + i, Of<G>::twins));
         theirs.push_back(ours.back());
-        graphs.push_back(build(ours.back()));
+        graphs.push_back(build<G>(ours.back()));
         open(ours[i]);
         plain(theirs[i]);
         same("open, plain Rust", ours[i].forward, theirs[i].forward);
         same("open, plain Rust", ours[i].backward, theirs[i].backward);
-        boost_rows(&graphs[i], &theirs[i], theirs[i].forward.data(), theirs[i].backward.data());
+        Of<G>::rows(graphs[i], theirs[i]);
         same("open, Boost", ours[i].forward, theirs[i].forward);
         same("open, Boost", ours[i].backward, theirs[i].backward);
     }
     double a = best(repeats, networks, [&](int i) { open(ours[i]); });
     double b = best(repeats, networks, [&](int i) { plain(theirs[i]); });
-    double c = best(repeats, networks, [&](int i) { boost_rows(&graphs[i], &theirs[i], theirs[i].forward.data(), theirs[i].backward.data()); });
-    std::printf("open %3u %4u: ours %8.1f us, plain Rust %8.1f us (ours/plain %.2f), Boost 40 rows %8.1f us (ours/Boost %.2f)\n", n, edges, a, b, a / b, c, a / c);
+    double c = best(repeats, networks, [&](int i) { Of<G>::rows(graphs[i], theirs[i]); });
+    std::printf("open %3u %4u%s: ours %8.1f us, plain Rust %8.1f us (ours/plain %.2f), Boost 40 rows %8.1f us (ours/Boost %.2f)\n", n, edges, Of<G>::name, a, b, a / b, c, a / c);
 }
 
-void query_times(int repeats, uint32_t n, uint32_t edges)
+template <class G = Graph> void query_times(int repeats, uint32_t n, uint32_t edges)
 {
-    Network w = make(n, edges, 100);
+    Network w = make(n, edges, 100, Of<G>::twins);
     open(w);
-    Both g = build(w);
+    BothOf<G> g = build<G>(w);
     for (uint32_t p = 1; p <= 5; p++) {
         // rows that say nothing: the run starts from no route
         Network blank = w;
@@ -71,15 +103,15 @@ void query_times(int repeats, uint32_t n, uint32_t edges)
         double a = best(repeats, n, [&](int s) { query(w, p, s, starts, settled); });
         double b = best(repeats, n, [&](int s) { query(blank, p, s, starts, settled); });
         double c = best(repeats, n, [&](int s) { boost_row(g.ahead, p, s, found.data()); });
-        std::printf("query %3u %4u %-9s: with landmarks %6.1f us, %6.1f stores; without %6.1f us, %6.1f stores; Boost %6.1f us\n", n, edges, names[p - 1], a,
-                    double(with) / n, b, double(without) / n, c);
+        std::printf("query %3u %4u%s %-9s: with landmarks %6.1f us, %6.1f stores; without %6.1f us, %6.1f stores; Boost %6.1f us\n", n, edges, Of<G>::name,
+                    names[p - 1], a, double(with) / n, b, double(without) / n, c);
     }
 }
 
-void batch_times(int repeats, uint32_t n, uint32_t edges, uint32_t size)
+template <class G = Graph> void batch_times(int repeats, uint32_t n, uint32_t edges, uint32_t size)
 {
     const int rounds = 50;
-    Network w = make(n, edges, 100);
+    Network w = make(n, edges, 100, Of<G>::twins);
     open(w);
     Network before = w;
     Random r{7};
@@ -93,9 +125,9 @@ void batch_times(int repeats, uint32_t n, uint32_t edges, uint32_t size)
         open(anew);
         same("batch, opened anew", w.forward, anew.forward);
         same("batch, opened anew", w.backward, anew.backward);
-        Both left = build(w);
-        boost_rows(&left, &anew, anew.forward.data(), anew.backward.data());
+        Of<G>::rows(build<G>(w), anew);
         same("batch, Boost", w.forward, anew.forward);
+        same("batch, Boost", w.backward, anew.backward);
         batch(w, c.second);
         same("batch, there and back", w.forward, before.forward);
     }
@@ -103,11 +135,11 @@ void batch_times(int repeats, uint32_t n, uint32_t edges, uint32_t size)
     double a = best(repeats, rounds, [&](int i) { batch(w, list[i].first); batch(w, list[i].second); }) / 2;
     Network other = w;
     double b = best(repeats, 4, [&](int) { open(other); });
-    Both g = build(w);
-    double c = best(repeats, 4, [&](int) { boost_rows(&g, &other, other.forward.data(), other.backward.data()); });
-    double d = best(repeats, 4, [&](int) { Both h = build(w); boost_rows(&h, &other, other.forward.data(), other.backward.data()); });
-    std::printf("batch %3u %4u of %3u: ours %8.1f us; opened anew %8.1f us (%.1fx); Boost 40 rows %8.1f us (%.1fx), with its graphs built %8.1f us (%.1fx)\n", n, edges, size, a, b,
-                b / a, c, c / a, d, d / a);
+    BothOf<G> g = build<G>(w);
+    double c = best(repeats, 4, [&](int) { Of<G>::rows(g, other); });
+    double d = best(repeats, 4, [&](int) { Of<G>::rows(build<G>(w), other); });
+    std::printf("batch %3u %4u%s of %3u: ours %8.1f us; opened anew %8.1f us (%.1fx); Boost 40 rows %8.1f us (%.1fx), with its graphs built %8.1f us (%.1fx)\n", n, edges,
+                Of<G>::name, size, a, b, b / a, c, c / a, d, d / a);
 }
 
 void same_network(const char *what, const Network &a, const Network &b)
@@ -214,10 +246,12 @@ void boost_retunes(const Network &w, uint32_t size, bool faster)
 // judges and indexes what it is lent.
 int boost_once(const std::string &what)
 {
-    Network w = make(256, 2048, 100);
-    Both g = build(w);
-    if (what == "rows") {
-        boost_rows(&g, &w, w.forward.data(), w.backward.data());
+    Network w = first_network(what);
+    if (what == "rows" || what == "twinrows") {
+        if (is_twin(what))
+            Of<Multigraph>::rows(build<Multigraph>(w), w);
+        else
+            Of<Graph>::rows(build(w), w);
         return 0;
     }
     if (what[0] == 'b' || what[0] == 'w') {
@@ -227,7 +261,7 @@ int boost_once(const std::string &what)
     }
     std::vector<uint32_t> out(w.n);
     for (uint32_t s = 0; s < w.n; s++)
-        boost_query(&w, number_in(what), s, out.data());
+        (is_twin(what) ? boost_twin_query : boost_query)(&w, number_in(what), s, out.data());
     return 0;
 }
 
@@ -248,5 +282,9 @@ int main(int argc, char **argv)
         for (uint32_t size : {1u, 10u, 100u})
             retune_times(repeats, 256, 2048, size, faster);
     text_times(repeats, 256, 2048);
+    open_times<Multigraph>(repeats, 256, 2048);
+    query_times<Multigraph>(repeats, 256, 2048);
+    for (uint32_t size : {1u, 10u, 100u})
+        batch_times<Multigraph>(repeats, 256, 2048, size);
     return 0;
 }

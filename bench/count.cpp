@@ -1,10 +1,10 @@
-// Runs one thing alone on the first network of 256 vertices and 2,048 edges, to count its instructions: open, plain, batch1, batch10,
-// batch100, better1 to better100 and worse1 to worse100 (updates), bettertake1 to worsetake100 (a delete and an insert of the same pairs),
-// fixed (an update that changes nothing), each and eachtake (every edge alone, then the drawn retunes), query1 to query5 (from each vertex
-// in turn), route1 to route5 (of each drawn pair), routefixed (from a vertex to itself), preview1, preview10, preview100 (of the batches of batch1 ..,
-// each before it, for time from the vertices in turn), digest (of each preview of 10), asked1, asked10, asked100 (the two queries that each of these
-// previews stands for, before and after the batch), read, readany, readplain, readanyplain, write, writeplain. drawn prints the network and the pairs
-// for route.py.
+// Runs one thing alone on the first network of 256 vertices and 2,048 edges, to count its instructions: open, plain, batch1, batch10, batch100, better1 to
+// better100 and worse1 to worse100 (updates), bettertake1 to worsetake100 (a delete and an insert of the same edges), fixed (an update that changes
+// nothing), each and eachtake (every edge alone, then the drawn retunes), query1 to query5 (from each vertex in turn), route1 to route5 (of each drawn
+// pair), routefixed (from a vertex to itself), preview1, preview10, preview100 (of the batches of batch1 .., each before it, for time from the vertices in
+// turn), digest (of each preview of 10), asked1, asked10, asked100 (the two queries that each of these previews stands for, before and after the batch),
+// read, readany, readplain, readanyplain, write, writeplain. Of these open, plain, batch1 .., query1 .. and route1 .. with `twin` before them, as in twinopen,
+// are on the network with twins. drawn prints the network and the pairs for route.py.
 #include "network.h"
 
 #include <cstdio>
@@ -111,9 +111,10 @@ void print_drawn(const Network &w)
         std::printf("%u %u\n", pair.source, pair.target);
 }
 
-int once(const std::string &what)
+int once(const std::string &word)
 {
-    Network w = make(256, 2048, 100);
+    Network w = first_network(word);
+    const std::string what = is_twin(word) ? word.substr(4) : word;
     if (text_once(what, w))
         return 0;
     if (what == "plain") {
@@ -128,7 +129,7 @@ int once(const std::string &what)
     else if (starts_with(what, "each"))
         retunes_once(w, every_retune(w), what == "eachtake");
     else if (what == "fixed")
-        batch(w, {{PLATE_TRACK_UPDATE, w.tails[0], w.heads[0], w.weights[0]}});
+        batch(w, {{PLATE_TRACK_UPDATE, w.tails[0], w.heads[0], w.weights[0], w.weights[0]}});
     else if (starts_with(what, "preview"))
         previews_once(w, number_in(what));
     else if (what == "digest")

@@ -8,6 +8,7 @@
 #include <cstring>
 #include <set>
 #include <string>
+#include <tuple>
 #include <utility>
 #include <vector>
 
@@ -45,23 +46,32 @@ struct Network {
     std::vector<uint32_t> landmarks, tails, heads, weights, forward, backward;
 };
 
-// Random pairs, weights 1 to 1,000; the landmarks are chosen by plate_track_choose.
-Network make(uint32_t n, uint32_t edges, uint64_t seed)
+// Random pairs, weights 1 to 1,000; the last `twins` of the edges are of pairs that are there, with other weights. The landmarks are chosen by
+// plate_track_choose.
+Network make(uint32_t n, uint32_t edges, uint64_t seed, uint32_t twins = 0)
 {
     Random r{seed};
     std::set<std::pair<uint32_t, uint32_t>> pairs;
-    while (pairs.size() < edges) {
+    while (pairs.size() < edges - twins) {
         uint32_t t = r.below(n), h = r.below(n);
         if (t != h)
             pairs.insert({t, h});
     }
+    std::set<std::tuple<uint32_t, uint32_t, uint32_t>> records;
+    for (auto &p : pairs)
+        records.insert({p.first, p.second, 1 + r.below(1000)});
+    const std::vector<std::pair<uint32_t, uint32_t>> list(pairs.begin(), pairs.end());
+    while (records.size() < edges) {
+        auto &p = list[r.below(static_cast<uint32_t>(list.size()))];
+        records.insert({p.first, p.second, 1 + r.below(1000)});
+    }
     Network w;
     w.n = n;
     w.count = edges;
-    for (auto &p : pairs) {
-        w.tails.push_back(p.first);
-        w.heads.push_back(p.second);
-        w.weights.push_back(1 + r.below(1000));
+    for (auto &e : records) {
+        w.tails.push_back(std::get<0>(e));
+        w.heads.push_back(std::get<1>(e));
+        w.weights.push_back(std::get<2>(e));
     }
     for (auto *list : {&w.tails, &w.heads, &w.weights})
         list->resize(PLATE_TRACK_MOST_EDGES);
@@ -73,6 +83,14 @@ Network make(uint32_t n, uint32_t edges, uint64_t seed)
     w.backward.resize(w.landmarks.size() * 5 * n);
     return w;
 }
+
+// Of 2,048 edges a fifth, which the deck with twins has.
+const uint32_t fifth = 410;
+
+// The first network of 256 vertices and 2,048 edges, or where a word such as twinopen begins with `twin` the one with twins.
+bool is_twin(const std::string &what) { return what.rfind("twin", 0) == 0; }
+
+Network first_network(const std::string &what) { return make(256, 2048, 100, is_twin(what) ? fifth : 0); }
 
 void open(Network &w)
 {
@@ -122,15 +140,16 @@ struct Pair {
 // The lists that are lent for a route, and how many vertices it has: 0 where there is none.
 struct Route {
     uint32_t count = 0;
-    std::vector<uint32_t> vertices, marks;
-    explicit Route(uint32_t n) : vertices(n), marks(n) {}
+    std::vector<uint32_t> vertices, marks, figures;
+    explicit Route(uint32_t n) : vertices(n), marks(n), figures(n) {}
 };
 
 void route(const Network &w, uint32_t property, Pair pair, Route &r)
 {
     uint64_t reply[8];
     uint32_t number = plate_track_route(w.n, w.tails.data(), w.tails.size(), w.heads.data(), w.heads.size(), w.weights.data(), w.weights.size(), w.count,
-                                        property, pair.source, pair.target, r.vertices.data(), r.vertices.size(), r.marks.data(), r.marks.size(), reply, 8);
+                                        property, pair.source, pair.target, r.vertices.data(), r.vertices.size(), r.marks.data(), r.marks.size(),
+                                        r.figures.data(), r.figures.size(), reply, 8);
     if (number && number != PLATE_TRACK_NO_ROUTE)
         std::abort();
     r.count = number ? 0 : static_cast<uint32_t>(reply[PLATE_TRACK_ROUTE_VERTICES]);
@@ -217,8 +236,8 @@ std::pair<Changes, Changes> there_and_back(const Network &w, uint32_t size, Rand
         picked.insert(r.below(w.count));
     Changes away, again;
     for (uint32_t i : picked) {
-        away.push_back({PLATE_TRACK_DELETE, w.tails[i], w.heads[i], 0});
-        again.push_back({PLATE_TRACK_INSERT, w.tails[i], w.heads[i], w.weights[i]});
+        away.push_back({PLATE_TRACK_DELETE, w.tails[i], w.heads[i], w.weights[i], 0});
+        again.push_back({PLATE_TRACK_INSERT, w.tails[i], w.heads[i], w.weights[i], 0});
     }
     return {away, again};
 }
@@ -279,11 +298,11 @@ bool add_retune(const Network &w, uint32_t i, Random &r, bool faster, Retune &c)
 {
     if (w.weights[i] == (faster ? 1 : PLATE_TRACK_GREATEST_WEIGHT))
         return false;
-    uint32_t t = w.tails[i], h = w.heads[i], weight = moved(w.weights[i], r, faster);
-    c.updates.push_back({PLATE_TRACK_UPDATE, t, h, weight});
-    c.undo.push_back({PLATE_TRACK_UPDATE, t, h, w.weights[i]});
-    c.exchange.push_back({PLATE_TRACK_DELETE, t, h, 0});
-    c.exchange.push_back({PLATE_TRACK_INSERT, t, h, weight});
+    uint32_t t = w.tails[i], h = w.heads[i], old = w.weights[i], weight = moved(old, r, faster);
+    c.updates.push_back({PLATE_TRACK_UPDATE, t, h, weight, old});
+    c.undo.push_back({PLATE_TRACK_UPDATE, t, h, old, weight});
+    c.exchange.push_back({PLATE_TRACK_DELETE, t, h, old, 0});
+    c.exchange.push_back({PLATE_TRACK_INSERT, t, h, weight, 0});
     return true;
 }
 

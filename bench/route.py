@@ -39,12 +39,13 @@ class Ours:
             return (ctypes.c_uint32 * length)(*values)
 
         columns = [words(column, max(LEAST_TABLE, len(edges))) for column in zip(*edges)]
-        self.function = ctypes.CDLL(library).plate_track_route
+        self.function = ctypes.CDLL(library).plate_track_route_v2
         self.function.restype = ctypes.c_uint32
-        self.vertices, self.marks, self.reply = words([], n), words([], n), (ctypes.c_uint64 * 8)()
+        self.vertices, self.marks, self.figures = (words([], n) for _ in range(3))
+        self.reply = (ctypes.c_uint64 * 8)()
         size = ctypes.c_size_t
         self.table = [ctypes.c_uint32(n), *(x for c in columns for x in (c, size(len(c)))), ctypes.c_uint32(len(edges))]
-        self.lists = [x for c in (self.vertices, self.marks, self.reply) for x in (c, size(len(c)))]
+        self.lists = [x for c in (self.vertices, self.marks, self.figures, self.reply) for x in (c, size(len(c)))]
 
     def call(self, p, s, t):
         word = ctypes.c_uint32
@@ -54,7 +55,7 @@ class Ours:
     def route(self, p, s, t):
         self.call(p, s, t)
         count = self.reply[0]
-        return self.vertices[:count], self.marks[: count - 1]
+        return self.vertices[:count], self.marks[: count - 1], self.figures[: count - 1]
 
 
 # ---- NetworkX
@@ -94,19 +95,20 @@ def eligible(graph, p, s, t):
 
 
 def theirs(graph, p, s, t):
-    """The vertices and marks of the route."""
+    """The vertices, marks and figures of the route: there are no twins."""
     best = networkx.DiGraph(eligible(graph, p, s, t))
     left = dict(networkx.single_source_shortest_path_length(best.reverse(copy=False), t))
-    vertices, marks = [s], []
+    vertices, marks, figures = [s], [], []
     value = M if p == 3 else 0
     while vertices[-1] != t:
         u = vertices[-1]
         v = min(v for v in best.adj[u] if left.get(v, M) == left[u] - 1)
-        after = {3: min, 4: max}.get(p, lambda a, b: a)(value, graph.adj[u][v]["weight"])
+        figures.append(graph.adj[u][v]["weight"])
+        after = {3: min, 4: max}.get(p, lambda a, b: a)(value, figures[-1])
         marks.append(int(p <= 2 or after != value))
         value = after
         vertices.append(v)
-    return vertices, marks
+    return vertices, marks, figures
 
 
 # ---- time

@@ -1,4 +1,4 @@
-//! Cases worked by hand from document 01 and from requests One, Two and Four of document 02, one a line, in networks.txt and texts.txt; README.md has their
+//! Cases worked by hand from document 01 and from requests One, Two, Four and Five of document 02, one a line, in networks.txt and texts.txt; README.md has their
 //! layout. Each is made through the archive and through the reference of tests/differential: either must answer what the line says, and both must leave
 //! the same in every lent list. Prints how many cases of each group did, and each line that did not.
 
@@ -19,7 +19,7 @@ use reference::{Network, M};
 const FILES: [(&str, &str); 2] = [("networks.txt", include_str!("networks.txt")), ("texts.txt", include_str!("texts.txt"))];
 
 /// The words that a line may say of what is lent; those of the second list have an index.
-const NAMES: &str = " full widest ascending descending n count landmarks tails heads weights forward backward rows open delete property source schedule starts settled changes k side landmark room said lines sources target vertices marks effects moves reply ";
+const NAMES: &str = " full widest twins ascending descending n count landmarks tails heads weights forward backward rows open delete property source schedule starts settled changes k side landmark room said lines sources target vertices marks figures effects moves reply ";
 const PLACED: &str = " record change forward backward effects moves ";
 
 // ---- lines
@@ -215,6 +215,8 @@ impl Line {
             (0..2_049).map(full_record).collect()
         } else if self.has("widest") {
             (99..256).flat_map(|t| (99..256).filter(move |&h| h != t).map(move |h| [t, h, 65_535])).take(2_048).collect()
+        } else if self.has("twins") {
+            (1..2_050).map(|w| [0, 1, w]).collect()
         } else if self.has("ascending") {
             (0..255).map(|t| [t, t + 1, 65_535]).collect()
         } else if self.has("descending") {
@@ -229,13 +231,13 @@ impl Line {
         records
     }
 
-    /// Deck A with landmark 0, or the table of 256 vertices that the line names, but for what it says beside. Row words are 7.
+    /// Deck A with landmark 0, or the table that the line names, but for what it says beside. Row words are 7.
     fn network(&self) -> Network {
-        let named = |names: [&str; 2]| names.iter().any(|name| self.has(name));
-        let (n, count, rows) = match (named(["full", "widest"]), named(["ascending", "descending"])) {
-            (true, _) => (256, 2_048, 1_280),
-            (_, true) => (256, 255, 1_280),
-            _ => (4, 5, 20),
+        let (n, count, rows) = match ["full", "widest", "ascending", "descending", "twins"].iter().position(|name| self.has(name)) {
+            Some(0 | 1) => (256, 2_048, 1_280),
+            Some(2 | 3) => (256, 255, 1_280),
+            Some(_) => (2, 2_048, 10),
+            None => (4, 5, 20),
         };
         let records = self.records();
         let column = |name: &str, i: usize| records.iter().map(|r| r[i]).take(self.number(name, 2_048) as usize).collect();
@@ -252,10 +254,10 @@ impl Line {
         }
     }
 
-    /// Deletes and inserts of 0→1 in turn, but for those that the line says.
-    fn changes(&self) -> Vec<[u32; 4]> {
-        let turn = |i| if i % 2 == 0 { [2, 0, 1, 0] } else { [1, 0, 1, 4] };
-        let mut changes: Vec<[u32; 4]> = (0..self.number("changes", 2)).map(turn).collect();
+    /// Deletes and inserts of record 0 in turn, but for those that the line says.
+    fn changes(&self) -> Vec<[u32; 5]> {
+        let [t, h, w] = self.records()[0];
+        let mut changes: Vec<[u32; 5]> = (0..self.number("changes", 2)).map(|i| [2 - i % 2, t, h, w, 0]).collect();
         for (i, c) in self.placed("change") {
             changes[i] = c.try_into().unwrap();
         }
@@ -281,9 +283,9 @@ impl Line {
         if self.has("open") {
             w = accepted(side, &Case::new(Call::Open, w))?.network;
         }
-        if let Some(pair) = self.value("delete").map(numbers) {
+        if let Some(edge) = self.value("delete").map(numbers) {
             let mut first = Case::new(Call::Batch, w);
-            first.changes = vec![[2, pair[0], pair[1], 0]];
+            first.changes = vec![[2, edge[0], edge[1], edge[2], 0]];
             let after = accepted(side, &first)?;
             w = Network { count: after.reply[0] as u32, ..after.network };
         }
@@ -294,10 +296,10 @@ impl Line {
             w.backward[i] = word[0];
         }
         let length = |name: &str| self.number(name, w.n.min(257)) as usize;
-        let lists = ["starts", "settled", "vertices", "marks", "effects"].map(|name| vec![7; length(name)]);
+        let lists = ["starts", "settled", "vertices", "marks", "figures", "effects"].map(|name| vec![7; length(name)]);
         let moves = vec![-7; length("moves")];
         let mut c = Case::new(self.call, w);
-        [c.starts, c.settled, c.vertices, c.marks, c.effects] = lists;
+        [c.starts, c.settled, c.vertices, c.marks, c.figures, c.effects] = lists;
         c.moves = moves;
         for (i, entries) in self.placed("effects") {
             c.effects[i..i + entries.len()].copy_from_slice(&entries);
@@ -388,6 +390,7 @@ fn list(c: &Case, name: &str) -> Vec<i64> {
         "sources" => &c.sources,
         "vertices" => &c.vertices,
         "marks" => &c.marks,
+        "figures" => &c.figures,
         "tails" => &w.tails,
         "heads" => &w.heads,
         "weights" => &w.weights,

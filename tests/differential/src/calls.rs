@@ -48,11 +48,12 @@ pub fn call(case: &Case, salt: u32) -> Result<(u32, Case), String> {
     let mut schedule = Lent::new(&case.schedule, salt);
     let mut starts = Lent::new(&case.starts, !salt);
     let mut settled = Lent::new(&case.settled, salt);
-    let mut changes = Lent::new(&case.changes, [salt, !salt, salt, !salt]);
+    let mut changes = Lent::new(&case.changes, [salt, !salt, salt, !salt, salt]);
     let mut text = Lent::new(&case.text, salt as u8);
     let mut sources = Lent::new(&case.sources, salt);
     let mut vertices = Lent::new(&case.vertices, !salt);
     let mut marks = Lent::new(&case.marks, salt);
+    let mut figures = Lent::new(&case.figures, !salt);
     let mut effects = Lent::new(&case.effects, !salt);
     let mut moves = Lent::new(&case.moves, -1 - i64::from(salt));
     let mut reply = Lent::new(&case.reply, u64::from(salt) << 20);
@@ -61,7 +62,7 @@ pub fn call(case: &Case, salt: u32) -> Result<(u32, Case), String> {
     }
     let answer = {
         let (n, count) = (w.n, w.count);
-        lend!(landmarks tails heads weights forward backward schedule starts settled changes text sources vertices marks effects moves reply);
+        lend!(landmarks tails heads weights forward backward schedule starts settled changes text sources vertices marks figures effects moves reply);
         match case.call {
             Call::Open => plate_track::open(n, landmarks, tails, heads, weights, count, forward, backward, reply),
             Call::Query => plate_track::query(
@@ -74,7 +75,9 @@ pub fn call(case: &Case, salt: u32) -> Result<(u32, Case), String> {
             Call::Read => plate_track::read(text, tails, heads, weights, reply),
             Call::Write => plate_track::write(n, tails, heads, weights, count, text, reply),
             Call::ReadSources => plate_track::read_sources(text, n, sources, reply),
-            Call::Route => plate_track::route(n, tails, heads, weights, count, case.property, case.source, case.target, vertices, marks, reply),
+            Call::Route => plate_track::route(
+                n, tails, heads, weights, count, case.property, case.source, case.target, vertices, marks, figures, reply,
+            ),
             Call::Preview => plate_track::preview(
                 n, landmarks, tails, heads, weights, count, forward, backward, changes, case.property, case.source, effects, moves, reply,
             ),
@@ -87,7 +90,7 @@ pub fn call(case: &Case, salt: u32) -> Result<(u32, Case), String> {
             return Err(format!("words beside the list {} were touched", stringify!($list)));
         })* };
     }
-    guarded!(landmarks tails heads weights forward backward schedule starts settled changes text sources vertices marks effects moves reply);
+    guarded!(landmarks tails heads weights forward backward schedule starts settled changes text sources vertices marks figures effects moves reply);
     let mut after = case.clone();
     after.network.landmarks.copy_from_slice(landmarks.list());
     after.network.tails.copy_from_slice(tails.list());
@@ -103,6 +106,7 @@ pub fn call(case: &Case, salt: u32) -> Result<(u32, Case), String> {
     after.sources.copy_from_slice(sources.list());
     after.vertices.copy_from_slice(vertices.list());
     after.marks.copy_from_slice(marks.list());
+    after.figures.copy_from_slice(figures.list());
     after.effects.copy_from_slice(effects.list());
     after.moves.copy_from_slice(moves.list());
     after.reply.copy_from_slice(reply.list());

@@ -37,6 +37,7 @@ pub struct Case {
     pub target: u32,
     pub vertices: Vec<u32>,
     pub marks: Vec<u32>,
+    pub figures: Vec<u32>,
     pub effects: Vec<u32>,
     pub moves: Vec<i64>,
     pub reply: Vec<u64>,
@@ -61,6 +62,7 @@ impl Case {
             target: 0,
             vertices: vec![],
             marks: vec![],
+            figures: vec![],
             effects: vec![],
             moves: vec![],
             reply: vec![7; 8],
@@ -84,7 +86,7 @@ impl Case {
             Call::Read => reference::read(&c.text, &mut c.network.tails, &mut c.network.heads, &mut c.network.weights),
             Call::Write => reference::write(&c.network, &mut c.text),
             Call::ReadSources => reference::read_sources(&c.text, c.network.n, &mut c.sources),
-            Call::Route => reference::route(&c.network, c.property, c.source, c.target, &mut c.vertices, &mut c.marks),
+            Call::Route => reference::route(&c.network, c.property, c.source, c.target, &mut c.vertices, &mut c.marks, &mut c.figures),
             Call::Preview => reference::preview(&c.network, &c.changes, c.property, c.source, &mut c.effects, &mut c.moves),
             Call::Digest => reference::digest(c.network.n, c.property, &c.effects, &c.moves),
         };
@@ -131,6 +133,7 @@ pub fn difference(expected: &(u32, Case), real: &(u32, Case)) -> Option<String> 
     list(&mut told, "sources", &a.sources, &b.sources);
     list(&mut told, "vertices", &a.vertices, &b.vertices);
     list(&mut told, "marks", &a.marks, &b.marks);
+    list(&mut told, "figures", &a.figures, &b.figures);
     list(&mut told, "effects", &a.effects, &b.effects);
     list(&mut told, "moves", &a.moves, &b.moves);
     Some(told.join("; "))
@@ -159,7 +162,9 @@ pub fn describe(c: &Case) -> String {
     s += &format!("schedule ({}) {}\n", c.schedule.len(), short(&c.schedule));
     s += &format!("changes ({}) {}\n", c.changes.len(), short(&c.changes));
     s += &format!("starts ({}), settled ({}), sources ({}), reply ({}) {:?}\n", c.starts.len(), c.settled.len(), c.sources.len(), c.reply.len(), c.reply);
-    s += &format!("vertices ({}) {}\nmarks ({}) {}\n", c.vertices.len(), short(&c.vertices), c.marks.len(), short(&c.marks));
+    for (name, list) in [("vertices", &c.vertices), ("marks", &c.marks), ("figures", &c.figures)] {
+        s += &format!("{name} ({}) {}\n", list.len(), short(list));
+    }
     s += &format!("effects ({}) {}\nmoves ({}) {}\n", c.effects.len(), short(&c.effects), c.moves.len(), short(&c.moves));
     s += &format!("text ({} bytes) {:?}\n", c.text.len(), String::from_utf8_lossy(&c.text));
     s

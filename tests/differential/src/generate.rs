@@ -43,7 +43,53 @@ fn weigher(r: &mut Random) -> Box<dyn Fn(&mut Random) -> u32> {
     }
 }
 
-/// Edges of a sound table.
+/// The place of an edge in a list that ascends, or where it would stand.
+fn place_of(edges: &[Edge], e: Edge) -> Result<usize, usize> {
+    edges.binary_search_by_key(&e.words(), Edge::words)
+}
+
+fn is_there(edges: &[Edge], tail: u32, head: u32, weight: u32) -> bool {
+    place_of(edges, Edge { tail, head, weight }).is_ok()
+}
+
+pub fn has_twins(edges: &[Edge]) -> bool {
+    edges.windows(2).any(|two| (two[0].tail, two[0].head) == (two[1].tail, two[1].head))
+}
+
+/// Twins for some of the pairs: from one to three times as many records as there are, and on a few vertices a full table of them at times. Where there is no
+/// more room another record makes it.
+fn add_twins(r: &mut Random, n: u32, edges: &mut Vec<Edge>) {
+    let weigh = weigher(r);
+    let wanted = match r.below(6) {
+        _ if n <= 4 && r.one_in(100) => MOST_EDGES - edges.len() - r.below(2) as usize,
+        0 | 1 => 1,
+        2 => edges.len() / 5 + 1,
+        3 | 4 => edges.len(),
+        _ => 3 * edges.len(),
+    };
+    let (mut made, mut tried) = (0, 0);
+    while made < wanted && tried < 8 * wanted {
+        tried += 1;
+        let e = r.pick(edges);
+        let weight = match r.below(3) {
+            0 => weigh(r),
+            1 => retuned(r, e.weight),
+            _ => 1 + r.below(65_535),
+        };
+        let twin = Edge { weight, ..e };
+        if place_of(edges, twin).is_ok() {
+            continue;
+        }
+        if edges.len() >= MOST_EDGES {
+            edges.remove(r.below(edges.len() as u32) as usize);
+        }
+        let at = place_of(edges, twin).unwrap_err();
+        edges.insert(at, twin);
+        made += 1;
+    }
+}
+
+/// Edges of a sound table; in a third of them some pairs have twins.
 fn edges(r: &mut Random, n: u32) -> Vec<Edge> {
     let weigh = weigher(r);
     let most = (n as usize * (n as usize - 1)).min(MOST_EDGES);
@@ -80,7 +126,11 @@ fn edges(r: &mut Random, n: u32) -> Vec<Edge> {
             }
         }
     }
-    pairs.into_iter().map(|(tail, head)| Edge { tail, head, weight: weigh(r) }).collect()
+    let mut edges: Vec<Edge> = pairs.into_iter().map(|(tail, head)| Edge { tail, head, weight: weigh(r) }).collect();
+    if !edges.is_empty() && r.one_in(3) {
+        add_twins(r, n, &mut edges);
+    }
+    edges
 }
 
 /// Words to a list's end: past what a call may look at.
@@ -130,16 +180,22 @@ pub fn network(r: &mut Random) -> Network {
     lent(r, n, &edges, landmarks)
 }
 
-/// 256 vertices, 2,048 edges and four landmarks.
+/// 256 vertices, 2,048 edges of weights up to 500, a fifth of them twins, and four landmarks.
 pub fn full_network(r: &mut Random) -> Network {
-    let mut pairs = std::collections::BTreeSet::new();
-    while pairs.len() < MOST_EDGES {
-        let (t, h) = (r.below(256), r.below(256));
-        if t != h {
-            pairs.insert((t, h));
+    let mut edges: Vec<Edge> = Vec::new();
+    while edges.len() < MOST_EDGES {
+        let (tail, head) = match edges.len() {
+            k if k > 0 && r.one_in(5) => {
+                let e = edges[r.below(k as u32) as usize];
+                (e.tail, e.head)
+            }
+            _ => (r.below(256), r.below(256)),
+        };
+        let e = Edge { tail, head, weight: 1 + r.below(500) };
+        if let (true, Err(at)) = (tail != head, place_of(&edges, e)) {
+            edges.insert(at, e);
         }
     }
-    let edges: Vec<Edge> = pairs.into_iter().map(|(tail, head)| Edge { tail, head, weight: 1 + r.below(500) }).collect();
     let landmarks = landmarks(r, 256, 4);
     lent(r, 256, &edges, landmarks)
 }
@@ -175,55 +231,102 @@ fn retuned(r: &mut Random, weight: u32) -> u32 {
     .clamp(1, 65_535)
 }
 
-/// A change that is good where the edges are as given: a third of them updates.
-fn good_change(r: &mut Random, n: u32, edges: &[Edge]) -> Option<Change> {
-    if !edges.is_empty() && r.one_in(3) {
-        let e = r.pick(edges);
-        return Some([3, e.tail, e.head, retuned(r, e.weight)]);
-    }
-    let add = edges.is_empty() || (edges.len() < MOST_EDGES && r.one_in(2));
-    if !add {
-        let e = r.pick(edges);
-        return Some([2, e.tail, e.head, 0]);
-    }
+/// An edge for a pair that has none with this weight.
+fn insertion(r: &mut Random, n: u32, edges: &[Edge]) -> Option<Change> {
+    let twin = !edges.is_empty() && r.one_in(if has_twins(edges) { 2 } else { 10 });
     for _ in 0..20 {
-        let (t, h) = (r.below(n), r.below(n));
-        if t != h && edges.binary_search_by_key(&(t, h), |e| (e.tail, e.head)).is_err() {
-            let w = match r.below(3) {
-                0 => r.pick(&[1, 4, 65_535]),
-                1 => 1 + r.below(20),
-                _ => 1 + r.below(65_535),
-            };
-            return Some([1, t, h, w]);
+        let (t, h, was) = if twin {
+            let e = r.pick(edges);
+            (e.tail, e.head, e.weight)
+        } else {
+            (r.below(n), r.below(n), 4)
+        };
+        let w = match r.below(3) {
+            0 if twin => retuned(r, was),
+            0 => r.pick(&[1, 4, 65_535]),
+            1 => 1 + r.below(20),
+            _ => 1 + r.below(65_535),
+        };
+        let paired = edges.binary_search_by_key(&(t, h), |e| (e.tail, e.head)).is_ok();
+        if t != h && paired == twin && !is_there(edges, t, h, w) {
+            return Some([1, t, h, w, 0]);
         }
     }
     None
 }
 
+/// An update of an edge that is there, to a weight that its pair does not have beside.
+fn update(r: &mut Random, edges: &[Edge], e: Edge) -> Change {
+    let weight = retuned(r, e.weight);
+    [3, e.tail, e.head, if is_there(edges, e.tail, e.head, weight) { e.weight } else { weight }, e.weight]
+}
+
+/// A change that is good where the edges are as given: a third of them updates.
+fn good_change(r: &mut Random, n: u32, edges: &[Edge]) -> Option<Change> {
+    if !edges.is_empty() && r.one_in(3) {
+        let e = r.pick(edges);
+        return Some(update(r, edges, e));
+    }
+    if edges.is_empty() || (edges.len() < MOST_EDGES && r.one_in(2)) {
+        return insertion(r, n, edges);
+    }
+    let e = r.pick(edges);
+    Some([2, e.tail, e.head, e.weight, 0])
+}
+
+/// A change of a pair that is there, with weights that it has and weights that it has not.
+fn wrong_weights(r: &mut Random, edges: &[Edge]) -> Change {
+    let e = r.pick(edges);
+    let (t, h) = (e.tail, e.head);
+    let twins: Vec<u32> = edges.iter().filter(|f| (f.tail, f.head) == (t, h)).map(|f| f.weight).collect();
+    let lacked = |r: &mut Random| (0..99).map(|_| retuned(r, e.weight)).find(|w| !twins.contains(w)).unwrap_or(65_535);
+    let (absent, other) = (lacked(r), lacked(r));
+    match r.below(10) {
+        // 11, though the pair is there
+        0 => [2, t, h, absent, 0],
+        1 => [3, t, h, other, absent],
+        2 => [3, t, h, absent, absent],
+        // 10, with the old weight absent; and with it there, where the pair has another
+        3 | 4 => [3, t, h, e.weight, absent],
+        5 => [3, t, h, r.pick(&twins), e.weight],
+        6 => [1, t, h, e.weight, 0],
+        // 9
+        7 => [2, t, h, e.weight, r.pick(&[1, e.weight, 65_536])],
+        8 => [3, t, h, absent, r.pick(&[0, 65_536, M])],
+        _ => [1, t, h, absent, r.pick(&[1, e.weight, 65_536])],
+    }
+}
+
 fn bad_change(r: &mut Random, n: u32, edges: &[Edge]) -> Change {
     let absent = |&(t, h): &(u32, u32)| t != h && edges.binary_search_by_key(&(t, h), |e| (e.tail, e.head)).is_err();
     if edges.len() >= MOST_EDGES && r.one_in(2) {
-        // an insert into a full table: of a pair that is there, or that is not
+        // an insert into a full table: of an edge that is there, of a twin, or of a pair that is not there
         let e = r.pick(edges);
-        if r.one_in(3) {
-            return [1, e.tail, e.head, 1];
+        match r.below(3) {
+            0 => return [1, e.tail, e.head, e.weight, 0],
+            1 => return [1, e.tail, e.head, retuned(r, e.weight), 0],
+            _ => {}
         }
         let (t, h) = (0..2_000).map(|_| (r.below(n), r.below(n))).find(absent).unwrap_or((0, 1));
-        return [1, t, h, 1];
+        return [1, t, h, 1, 0];
+    }
+    if !edges.is_empty() && r.one_in(3) {
+        return wrong_weights(r, edges);
     }
     if r.one_in(6) {
         // an update or a delete of a pair that is not there
         let pair = (0..40).map(|_| (r.below(n), r.below(n))).find(absent);
         if let Some((t, h)) = pair {
-            return if r.one_in(2) { [3, t, h, 1 + r.below(9)] } else { [2, t, h, 0] };
+            let (w, o) = (1 + r.below(9), 1 + r.below(9));
+            return if r.one_in(2) { [3, t, h, w, o] } else { [2, t, h, w, 0] };
         }
     }
     let mut c = match good_change(r, n, edges) {
         Some(c) if r.one_in(2) => c,
-        _ => [1 + r.below(3), r.below(n), r.below(n), r.below(4)],
+        _ => [1 + r.below(3), r.below(n), r.below(n), r.below(4), r.below(3)],
     };
     for _ in 0..1 + r.below(2) {
-        let i = r.below(4) as usize;
+        let i = r.below(5) as usize;
         c[i] = match i {
             0 => r.pick(&[0, 1, 2, 3, 4, M]),
             1 | 2 => r.pick(&[n, n.wrapping_sub(1), 0, n + 1, M]),
@@ -235,22 +338,40 @@ fn bad_change(r: &mut Random, n: u32, edges: &[Edge]) -> Change {
 
 /// Makes a change, and says whether it could.
 fn patch(edges: &mut Vec<Edge>, c: Change) -> bool {
-    let at = edges.binary_search_by_key(&(c[1], c[2]), |e| (e.tail, e.head));
-    match (c[0], at) {
-        (1, Err(i)) => edges.insert(i, Edge { tail: c[1], head: c[2], weight: c[3] }),
-        (2, Ok(i)) => {
-            edges.remove(i);
-        }
-        (3, Ok(i)) => edges[i].weight = c[3],
-        _ => return false,
+    let [kind, tail, head, weight, old] = c;
+    let at = |w: u32| place_of(edges, Edge { tail, head, weight: w });
+    let good = match kind {
+        1 => at(weight).is_err() && edges.len() < MOST_EDGES,
+        2 => at(weight).is_ok(),
+        _ => at(old).is_ok() && (weight == old || at(weight).is_err()),
+    };
+    if !good {
+        return false;
+    }
+    if let (2 | 3, Ok(i)) = (kind, at(if kind == 3 { old } else { weight })) {
+        edges.remove(i);
+    }
+    let e = Edge { tail, head, weight };
+    if let (1 | 3, Err(i)) = (kind, place_of(edges, e)) {
+        edges.insert(i, e);
     }
     true
 }
 
+/// Another change of the pair that the last one named: one of its edges is updated or goes, or a twin comes.
+fn same_pair(r: &mut Random, edges: &[Edge], tail: u32, head: u32, last: u32) -> Change {
+    let twins: Vec<Edge> = edges.iter().filter(|e| (e.tail, e.head) == (tail, head)).copied().collect();
+    let was = if twins.is_empty() { Edge { tail, head, weight: last } } else { r.pick(&twins) };
+    match r.below(3) {
+        0 => update(r, edges, was),
+        1 => [2, tail, head, was.weight, 0],
+        _ => [1, tail, head, retuned(r, was.weight), 0],
+    }
+}
+
 /// Changes in order, each good against what the earlier ones leave; one bad one among them at times.
 pub fn changes(r: &mut Random, w: &Network, bad: bool) -> Vec<Change> {
-    let old = w.edges();
-    let mut edges = old.clone();
+    let mut edges = w.edges();
     let wanted = match r.below(400) {
         0 => r.pick(&[1_023, 1_024, 1_025]),
         1..=40 => 0,
@@ -271,21 +392,18 @@ pub fn changes(r: &mut Random, w: &Network, bad: bool) -> Vec<Change> {
         // the edge that has just gone comes back, as it was or with another weight; one that has just come or been updated is updated or goes
         let last = list.last().copied();
         let c = match last {
-            Some([2, t, h, _]) if r.one_in(3) => {
-                let was = old.iter().find(|e| (e.tail, e.head) == (t, h)).map_or(4, |e| e.weight);
-                [1, t, h, retuned(r, was)]
-            }
-            Some([1 | 3, t, h, _]) if r.one_in(16) => [2, t, h, 0],
-            Some([1 | 3, t, h, weight]) if r.one_in(16) => [3, t, h, retuned(r, weight)],
+            Some([2, t, h, was, _]) if r.one_in(3) => [1, t, h, retuned(r, was), 0],
+            Some([1 | 3, t, h, weight, _]) if r.one_in(16) => [2, t, h, weight, 0],
+            Some([1 | 3, t, h, weight, _]) if r.one_in(16) => [3, t, h, retuned(r, weight), weight],
+            Some([_, t, h, weight, _]) if r.one_in(6) => same_pair(r, &edges, t, h, weight),
             _ => match good_change(r, w.n, &edges) {
                 Some(c) => c,
                 None => break,
             },
         };
-        if !patch(&mut edges, c) {
-            break;
+        if patch(&mut edges, c) {
+            list.push(c);
         }
-        list.push(c);
     }
     list
 }
@@ -355,7 +473,7 @@ fn spoil(r: &mut Random, mut lines: Vec<Vec<u8>>, bad: bool) -> Vec<u8> {
             }
             3 => {
                 let i = some(r, &lines);
-                let extra = r.pick(&[&b""[..], b"cc", b"c\t", b"p sp 3 2", b"a 1 2 3", b"s 1", b"p aux sp ss 1", b"a 1 2", b"a 1 2 3 4", b"b", b" ", b"A 1 2 3", b"p max 3 2"]);
+                let extra = r.pick(&[&b""[..], b"cc", b"c\t", b"p sp 3 2", b"a 1 2 3", b"s 1", b"p aux sp ss 1", b"a 1 2", b"a 1 2 3 4", b"b", b" ", b"A 1 2 3", b"p max 3 2", b"p sp 1 1", b"p sp 2 3"]);
                 lines.insert(i, extra.to_vec());
             }
             4..=6 => {
@@ -509,6 +627,7 @@ pub fn case(r: &mut Random, call: Call, w: &Network, bad: bool) -> Case {
             c.target = if r.one_in(12) { c.source } else { r.below(n) };
             c.vertices = out_list(r, n as usize);
             c.marks = out_list(r, n as usize);
+            c.figures = out_list(r, n as usize);
         }
         Call::Preview => {
             c.changes = changes(r, w, bad);
@@ -533,7 +652,7 @@ fn spoil_record(r: &mut Random, w: &mut Network) {
         return;
     }
     let i = r.below(count as u32) as usize;
-    match r.below(8) {
+    match r.below(12) {
         0 => w.weights[i] = r.pick(&[0, 65_536, M]),
         1 => w.tails[i] = r.pick(&[w.n, M, 0]),
         2 => w.heads[i] = r.pick(&[w.n, M, 0]),
@@ -542,10 +661,14 @@ fn spoil_record(r: &mut Random, w: &mut Network) {
             w.tails.swap(i, i - 1);
             w.heads.swap(i, i - 1);
         }
-        6 if i > 0 => {
+        // one pair for two records: twins in order or out of it, or the same three words
+        6..=8 if i > 0 => {
             w.tails[i] = w.tails[i - 1];
             w.heads[i] = w.heads[i - 1];
+            let was = w.weights[i - 1];
+            w.weights[i] = r.pick(&[w.weights[i], was, was.wrapping_add(1), was.wrapping_sub(1)]);
         }
+        9 | 10 if i > 0 => w.weights.swap(i, i - 1),
         _ => w.tails.swap(0, i),
     }
 }
@@ -601,7 +724,7 @@ pub fn damage(r: &mut Random, c: &mut Case) {
                     shorten(r, &mut c.settled, least);
                 }
             }
-            12 => c.changes = vec![[r.pick(&[1, 2, 3]), 0, 1, r.pick(&[0, 4])]; r.pick(&[1_024, 1_025, 1_100])],
+            12 => c.changes = vec![[r.pick(&[1, 2, 3]), 0, 1, r.pick(&[0, 4]), r.pick(&[0, 4])]; r.pick(&[1_024, 1_025, 1_100])],
             13 => c.reply.truncate(r.below(8) as usize),
             14 => c.k = r.pick(&[0, 5, M, 4]),
             15 => {
@@ -614,10 +737,10 @@ pub fn damage(r: &mut Random, c: &mut Case) {
             16 => c.target = r.pick(&[n, M, n.wrapping_sub(1), 0]),
             17 => {
                 let least = n.min(300) as usize;
-                if r.one_in(2) {
-                    shorten(r, &mut c.vertices, least);
-                } else {
-                    shorten(r, &mut c.marks, least);
+                match r.below(3) {
+                    0 => shorten(r, &mut c.vertices, least),
+                    1 => shorten(r, &mut c.marks, least),
+                    _ => shorten(r, &mut c.figures, least),
                 }
             }
             18 => {
@@ -630,7 +753,7 @@ pub fn damage(r: &mut Random, c: &mut Case) {
             }
             19 => {
                 // a bad change beside a source that may be bad
-                c.changes.insert(0, [r.pick(&[0, 4, 9]), 0, n.wrapping_sub(1).min(1), 4]);
+                c.changes.insert(0, [r.pick(&[0, 4, 9]), 0, n.wrapping_sub(1).min(1), 4, 0]);
                 c.source = r.pick(&[n, M, 0]);
             }
             _ => shorten(r, &mut c.sources, 256),

@@ -182,6 +182,7 @@ impl Followed<'_> {
         let good = c.changes.iter().enumerate().all(|(i, &change)| reference::apply(self.w.n, &mut next, change, i).is_ok());
         hold(&c, good == (number == 0) || c.changes.len() > reference::MOST_CHANGES, "the batch's changes say otherwise")?;
         if number == 0 {
+            self.counts.twins += u64::from(generate::has_twins(&self.now));
             self.w = Network { count: after.reply[0] as u32, ..after.network };
             self.now = next;
             self.counts.batches += 1;
@@ -214,22 +215,36 @@ fn drawn(mut r: Random, counts: &mut Counts) -> Held {
     Ok(())
 }
 
-/// 256 vertices, 2,048 edges and four landmarks, opened; then 1,024 deletes, 1,024 inserts of the same pairs, and 1,024 updates of the others in the
-/// table that is full again: each third to more, to less and to what it is.
+/// 256 vertices, 2,048 edges with twins and four landmarks, opened; then 1,024 deletes; as many inserts of the pairs that went, every third of a twin of an
+/// edge that stayed; and 1,024 updates in the table that is full again: each third to more, to less and to what it is, which the others get too where their
+/// pair has the weight already.
 fn full(mut r: Random, counts: &mut Counts) -> Held {
     let w = generate::full_network(&mut r);
     let mut f = Followed { now: w.edges(), r, w, counts };
-    let pairs: Vec<(u32, u32)> = f.now.iter().step_by(2).map(|e| (e.tail, e.head)).collect();
+    let before = f.counts.batches;
+    let (gone, stayed): (Vec<Edge>, Vec<Edge>) = f.now.chunks(2).map(|two| (two[0], two[1])).unzip();
     let sources = [77, f.w.landmarks[3]];
     let targets: Vec<u32> = (0..256).step_by(15).collect();
     f.open()?;
     f.state(&sources, &targets)?;
-    f.batch(pairs.iter().map(|&(t, h)| [2, t, h, 0]).collect())?;
+    f.batch(gone.iter().map(|e| [2, e.tail, e.head, e.weight, 0]).collect())?;
     f.state(&sources, &targets)?;
-    f.batch(pairs.iter().map(|&(t, h)| [1, t, h, 7 + t]).collect())?;
+    let again = gone.iter().zip(&stayed).enumerate().map(|(i, (a, b))| (501 + i as u32, if i % 3 == 0 { b } else { a }));
+    f.batch(again.map(|(weight, e)| [1, e.tail, e.head, weight, 0]).collect())?;
     f.state(&sources, &targets)?;
-    let others: Vec<Edge> = f.now.iter().skip(1).step_by(2).copied().collect();
-    f.batch(others.iter().enumerate().map(|(i, e)| [3, e.tail, e.head, [2 * e.weight, 1 + e.weight / 2, e.weight][i % 3]]).collect())?;
+    let mut next = f.now.clone();
+    let mut updates: Vec<Change> = Vec::new();
+    for i in (1..next.len()).step_by(2) {
+        let e = next[i];
+        let other = Edge { weight: [2 * e.weight, 1 + e.weight / 2, e.weight][updates.len() % 3], ..e };
+        if !next.contains(&other) {
+            next[i] = other;
+        }
+        updates.push([3, e.tail, e.head, next[i].weight, e.weight]);
+    }
+    f.batch(updates)?;
+    let accepted = f.counts.batches - before;
+    hold(&f.drawn(Call::Settled), accepted == 3 && f.now.len() == reference::MOST_EDGES, "a good batch is refused")?;
     f.state(&sources, &targets)
 }
 

@@ -26,8 +26,8 @@ use std::time::Instant;
 /// The calls of the gate: about a minute.
 const SHORT: u64 = 1_500_000;
 
-/// The most vertices at which every walk is listed.
-const LISTED: u32 = 5;
+/// The most vertices and the most edges at which every walk is listed.
+const LISTED: (u32, u32) = (5, 24);
 
 /// How many calls of each kind were accepted or refused with each number.
 #[derive(Default)]
@@ -36,6 +36,8 @@ struct Counts {
     calls: u64,
     histories: u64,
     batches: u64,
+    /// of these, on tables with twins
+    twins: u64,
     updates: u64,
     listed: u64,
     previews: u64,
@@ -58,7 +60,7 @@ fn check(case: &Case, salt: u32, counts: &mut Counts) -> Result<(u32, Case), Box
         return Err(fail(said));
     }
     if case.call == Call::Route && matches!(real.0, 0 | 15) {
-        let few = case.network.n <= LISTED;
+        let few = case.network.n <= LISTED.0 && case.network.count <= LISTED.1;
         if let Some(said) = unlike_best(real.0, &real.1, few) {
             return Err(fail(said.into()));
         }
@@ -72,17 +74,16 @@ fn check(case: &Case, salt: u32, counts: &mut Counts) -> Result<(u32, Case), Box
     Ok(real)
 }
 
-/// What a call of a route that is accepted or refused with 15 says the value to be: that along the vertices it wrote, none where they are no route from
-/// source to target; or the no-route word.
+/// What a call of a route that is accepted or refused with 15 says the value to be: that along the vertices and figures it wrote, none where these are no
+/// edges of the table that lead from source to target; or the no-route word.
 fn value_told(number: u32, after: &Case) -> Option<u32> {
     if number == 15 {
         return Some(reference::no_route(after.property));
     }
     let edges = after.network.edges();
     let vertices = &after.vertices[..after.reply[0] as usize];
-    let joined = |pair: &[u32]| edges.iter().find(|e| [e.tail, e.head] == *pair).copied();
-    let route: Vec<reference::Edge> = vertices.windows(2).map(joined).collect::<Option<_>>()?;
-    let leads = vertices.first() == Some(&after.source) && vertices.last() == Some(&after.target);
+    let route = reference::edges_along(vertices, &after.figures);
+    let leads = vertices.first() == Some(&after.source) && vertices.last() == Some(&after.target) && route.iter().all(|e| edges.contains(e));
     leads.then(|| reference::value_along(after.property, &route))
 }
 
@@ -93,8 +94,13 @@ fn unlike_best(number: u32, after: &Case, few: bool) -> Option<&'static str> {
     if value_told(number, after) != Some(best) {
         return Some("the value along the route is not the best value");
     }
-    let ways = [reference::route_by_lengths, reference::route_by_listing].map(|way| few.then(|| way(p, n, &edges, after.source, after.target)));
-    (ways[0] != ways[1]).then_some("the route by lengths is not the one by listing every walk")
+    if !few {
+        return None;
+    }
+    let by_lengths = reference::route_by_lengths(p, n, &edges, after.source, after.target);
+    let with_figures = by_lengths.map(|vertices| (reference::figures_by_parts(p, &edges, &vertices), vertices)).map(|(figures, vertices)| (vertices, figures));
+    let listed = reference::route_by_listing(p, n, &edges, after.source, after.target);
+    (with_figures != listed).then_some("the route by lengths is not the one by listing every walk")
 }
 
 fn kind(r: &mut Random) -> Call {
@@ -179,13 +185,13 @@ fn session(seed: u64, number: u64, counts: &mut Counts, tell: bool) -> Result<()
         }
         let fail = |said: &str| Box::new(Failure { case: c.clone(), said: said.into() });
         if call == Call::Batch {
-            if let ([[3, t, h, weight]], false) = (&c.changes[..], arbitrary) {
-                let was = now.iter().find(|e| (e.tail, e.head) == (*t, *h)).map_or(0, |e| e.weight);
-                if drifts(&w, &after.network, was.abs_diff(*weight)) {
+            if let ([[3, _, _, weight, old]], false) = (&c.changes[..], arbitrary) {
+                if drifts(&w, &after.network, old.abs_diff(*weight)) {
                     return Err(fail("an update moved a word by more than its weight moved"));
                 }
             }
             counts.updates += c.changes.iter().filter(|change| change[0] == 3).count() as u64;
+            counts.twins += u64::from(generate::has_twins(&now));
             for (i, &change) in c.changes.iter().enumerate() {
                 if reference::apply(w.n, &mut now, change, i).is_err() {
                     return Err(fail("an accepted batch has a change that is to be turned back"));
@@ -213,8 +219,8 @@ fn session(seed: u64, number: u64, counts: &mut Counts, tell: bool) -> Result<()
 fn report(counts: &Counts, began: Instant) {
     let took = began.elapsed().as_secs_f64();
     println!(
-        "{} calls on {} networks, {} batches accepted with {} updates, {} routes listed, {} previews borne out, moves from {} to {}, {:.1} s, {:.0} calls a second",
-        counts.calls, counts.histories, counts.batches, counts.updates, counts.listed, counts.previews, counts.moves.0, counts.moves.1, took, counts.calls as f64 / took
+        "{} calls on {} networks, {} batches accepted with {} updates, {} of tables with twins, {} routes listed, {} previews borne out, moves from {} to {}, {:.1} s, {:.0} calls a second",
+        counts.calls, counts.histories, counts.batches, counts.updates, counts.twins, counts.listed, counts.previews, counts.moves.0, counts.moves.1, took, counts.calls as f64 / took
     );
     let mut kinds: Vec<&str> = counts.by.keys().map(|k| k.0.as_str()).collect();
     kinds.dedup();

@@ -1,4 +1,4 @@
-//! An independent implementation of document 01 with requests One, Two and Four of document 02, written from the documents alone (the digest of a preview, which
+//! An independent implementation of document 01 with requests One, Two, Four and Five of document 02, written from the documents alone (the digest of a preview, which
 //! they don't have, from include/plate_track.h) and for plainness: no bit words, no index beyond a list of edges for each vertex, no scratch that is shared.
 //! Each call takes what the call takes and answers number and place, or the words of its reply; what it lends is changed only where it accepts.
 
@@ -33,6 +33,11 @@ pub struct Edge {
 impl Edge {
     fn reversed(self) -> Edge {
         Edge { tail: self.head, head: self.tail, weight: self.weight }
+    }
+
+    /// "A segment is now its three words: the table ascends by tail, head, figure."
+    pub fn words(&self) -> (u32, u32, u32) {
+        (self.tail, self.head, self.weight)
     }
 }
 
@@ -137,7 +142,7 @@ impl Network {
             let e = edges[i];
             let placed = e.tail < self.n && e.head < self.n && e.tail != e.head;
             let weighed = (1..=65_535).contains(&e.weight);
-            let ascends = i == 0 || (edges[i - 1].tail, edges[i - 1].head) < (e.tail, e.head);
+            let ascends = i == 0 || edges[i - 1].words() < e.words();
             !(placed && weighed && ascends)
         })
     }
@@ -316,13 +321,12 @@ pub fn query(w: &Network, p: u32, source: u32, schedule: &[u32], starts: &mut [u
 
 // ---- batch
 
-/// Kind, tail, head, weight.
-pub type Change = [u32; 4];
+/// Kind, tail, head, weight, old weight.
+pub type Change = [u32; 5];
 
 /// One change against the edges as earlier ones left them: its lowest number from 6 to 12, or the edges after it.
 pub fn apply(n: u32, edges: &mut Vec<Edge>, c: Change, place: usize) -> Answer<()> {
-    let [kind, tail, head, weight] = c;
-    let at = edges.iter().position(|e| (e.tail, e.head) == (tail, head));
+    let [kind, tail, head, weight, old] = c;
     if tail >= n || head >= n {
         return refuse(6, place);
     }
@@ -332,29 +336,36 @@ pub fn apply(n: u32, edges: &mut Vec<Edge>, c: Change, place: usize) -> Answer<(
     if tail == head {
         return refuse(8, place);
     }
-    if if kind == 2 { weight != 0 } else { weight < 1 || weight > 65_535 } {
+    let is_weight = |w: u32| (1..=65_535).contains(&w);
+    if !is_weight(weight) || !(if kind == 3 { is_weight(old) } else { old == 0 }) {
         return refuse(9, place);
     }
-    match (kind, at) {
-        (1, Some(_)) => refuse(10, place),
-        (1, None) => {
-            if edges.len() >= MOST_EDGES {
-                return refuse(12, place);
-            }
-            let i = edges.iter().take_while(|e| (e.tail, e.head) < (tail, head)).count();
-            edges.insert(i, Edge { tail, head, weight });
-            Ok(())
-        }
-        (_, None) => refuse(11, place),
-        (3, Some(i)) => {
-            edges[i].weight = weight;
-            Ok(())
-        }
-        (_, Some(i)) => {
-            edges.remove(i);
-            Ok(())
-        }
+    let at = |w: u32| edges.iter().position(|e| e.words() == (tail, head, w));
+    // "a new figure that the pair already has is 10, even with the old one absent, unless the two are equal"
+    let comes = kind == 1 || (kind == 3 && weight != old);
+    if comes && at(weight).is_some() {
+        return refuse(10, place);
     }
+    let goes = match kind {
+        1 => None,
+        2 => Some(at(weight)),
+        _ => Some(at(old)),
+    };
+    if goes == Some(None) {
+        return refuse(11, place);
+    }
+    if kind == 1 && edges.len() >= MOST_EDGES {
+        return refuse(12, place);
+    }
+    if let Some(Some(i)) = goes {
+        edges.remove(i);
+    }
+    if kind != 2 {
+        let e = Edge { tail, head, weight };
+        let i = edges.iter().take_while(|f| f.words() < e.words()).count();
+        edges.insert(i, e);
+    }
+    Ok(())
 }
 
 struct Side {
@@ -390,14 +401,50 @@ struct Net {
     new: Vec<Edge>,
 }
 
+/// What becomes of an edge that one of two tables has: it stays, it is retuned from or to a weight, or it plainly goes or comes.
+#[derive(Clone, Copy, PartialEq)]
+enum Fate {
+    Stays,
+    Retuned(u32),
+    Alone,
+}
+
+/// Each edge of a table with its fate, pair by pair: "triples in both old and new table count as neither; where a pair has just one other old and one other
+/// new triple they are a retune, else all others are plainly removed or added".
+fn fates(own: &[Edge], other: &[Edge]) -> Vec<(Edge, Fate)> {
+    let mut pairs: std::collections::BTreeMap<(u32, u32), [Vec<u32>; 2]> = Default::default();
+    for (side, (list, against)) in [(own, other), (other, own)].into_iter().enumerate() {
+        let there: std::collections::BTreeSet<(u32, u32, u32)> = against.iter().map(Edge::words).collect();
+        for e in list.iter().filter(|e| !there.contains(&e.words())) {
+            pairs.entry((e.tail, e.head)).or_default()[side].push(e.weight);
+        }
+    }
+    let fate = |e: &Edge| match pairs.get(&(e.tail, e.head)) {
+        Some([left, right]) if left.contains(&e.weight) => match (&left[..], &right[..]) {
+            ([_], [weight]) => Fate::Retuned(*weight),
+            _ => Fate::Alone,
+        },
+        _ => Fate::Stays,
+    };
+    own.iter().map(|e| (*e, fate(e))).collect()
+}
+
 impl Net {
-    fn of(p: u32, old: &[Edge], new: &[Edge]) -> Net {
-        // both ascend, so a record is found by its pair
-        let weight_in = |list: &[Edge], e: &Edge| list.binary_search_by_key(&(e.tail, e.head), |f| (f.tail, f.head)).ok().map(|i| list[i].weight);
-        let goes = |e: &Edge| weight_in(new, e).is_none_or(|is| got_worse(p, e.weight, is));
-        let comes = |e: &Edge| weight_in(old, e).is_none_or(|was| got_better(p, was, e.weight));
-        let (removed, kept) = old.iter().partition(|&e| goes(e));
-        Net { removed, kept, added: new.iter().filter(|&e| comes(e)).copied().collect(), new: new.to_vec() }
+    fn of(p: u32, old: &[(Edge, Fate)], new: &[(Edge, Fate)]) -> Net {
+        let goes = |e: &Edge, fate: Fate| match fate {
+            Fate::Stays => false,
+            Fate::Retuned(is) => got_worse(p, e.weight, is),
+            Fate::Alone => true,
+        };
+        let comes = |e: &Edge, fate: Fate| match fate {
+            Fate::Stays => false,
+            Fate::Retuned(was) => got_better(p, was, e.weight),
+            Fate::Alone => true,
+        };
+        let (removed, kept) = old.iter().partition::<Vec<_>, _>(|(e, fate)| goes(e, *fate));
+        let added = new.iter().filter(|(e, fate)| comes(e, *fate)).copied().collect();
+        let [removed, kept, added, new] = [removed, kept, added, new.to_vec()].map(|list: Vec<(Edge, Fate)>| list.into_iter().map(|(e, _)| e).collect());
+        Net { removed, kept, added, new }
     }
 
     fn reversed(&self) -> Net {
@@ -451,7 +498,8 @@ pub fn batch(w: &mut Network, changes: &[Change]) -> Answer<Vec<u64>> {
     for (i, &c) in changes.iter().enumerate() {
         apply(w.n, &mut new, c, i)?;
     }
-    let nets: Vec<Net> = (1..=5).map(|p| Net::of(p, &old, &new)).collect();
+    let (gone, come) = (fates(&old, &new), fates(&new, &old));
+    let nets: Vec<Net> = (1..=5).map(|p| Net::of(p, &gone, &come)).collect();
     let turned: Vec<Net> = nets.iter().map(Net::reversed).collect();
     let ahead = batch_rows(w, &nets, &w.forward)?;
     let back = batch_rows(w, &turned, &w.backward)?;
@@ -552,28 +600,64 @@ fn exact_lengths(p: u32, n: u32, edges: &[Edge], target: u32) -> Vec<Vec<Option<
     table
 }
 
-/// The edges of the route, or none where no route leads to the target. Its length is the least at which the best value of all lengths is met; each step
+/// The vertices of the route, or none where no route leads to the target. Its length is the least at which the best value of all lengths is met; each step
 /// then goes to the lowest vertex from which the edges that are left can still end with that value: the best they have by themselves, joined with the
-/// running value, is the best they can end with.
-pub fn route_by_lengths(p: u32, n: u32, edges: &[Edge], source: u32, target: u32) -> Option<Vec<Edge>> {
+/// best that the edges up to there can have, is the best they can end with.
+pub fn route_by_lengths(p: u32, n: u32, edges: &[Edge], source: u32, target: u32) -> Option<Vec<u32>> {
     let table = exact_lengths(p, n, edges, target);
     let of_length = |k: usize| table[k][source as usize];
-    let best = (0..n as usize).filter_map(of_length).reduce(|a, b| if better(p, b, a) { b } else { a })?;
+    let best = best_of(p, (0..n as usize).filter_map(of_length))?;
     let length = (0..n as usize).find(|&k| of_length(k) == Some(best))?;
     let (mut at, mut value) = (source, source_value(p));
-    let mut route = Vec::new();
+    let mut route = vec![source];
     for left in (0..length).rev() {
         let keeps = |e: &&Edge| table[left][e.head as usize].is_some_and(|rest| join(p, along(p, value, e.weight), rest) == best);
-        let step = *edges.iter().filter(|e| e.tail == at).filter(keeps).min_by_key(|e| e.head)?;
-        (at, value) = (step.head, along(p, value, step.weight));
-        route.push(step);
+        let next = edges.iter().filter(|e| e.tail == at).filter(keeps).map(|e| e.head).min()?;
+        value = best_of(p, weights_of(edges, at, next).into_iter().map(|weight| along(p, value, weight)))?;
+        at = next;
+        route.push(next);
     }
     Some(route)
 }
 
-/// The vertices of a route: the source, then the head of each edge.
-fn visited(source: u32, route: &[Edge]) -> Vec<u32> {
-    std::iter::once(source).chain(route.iter().map(|e| e.head)).collect()
+/// The weights from one vertex to the next, ascending.
+fn weights_of(edges: &[Edge], tail: u32, head: u32) -> Vec<u32> {
+    let mut list: Vec<u32> = edges.iter().filter(|e| (e.tail, e.head) == (tail, head)).map(|e| e.weight).collect();
+    list.sort();
+    list
+}
+
+fn best_of(p: u32, values: impl Iterator<Item = u32>) -> Option<u32> {
+    values.reduce(|a, b| if better(p, b, a) { b } else { a })
+}
+
+/// For each segment of a route the least weight such that some choice of weights along its vertices that has it there has the route's value. The best
+/// choice before a segment and the best one after it decide that, since no choice betters the value; both are met segment by segment.
+pub fn figures_by_parts(p: u32, edges: &[Edge], vertices: &[u32]) -> Vec<u32> {
+    let twins: Vec<Vec<u32>> = vertices.windows(2).map(|pair| weights_of(edges, pair[0], pair[1])).collect();
+    let on = |value: &u32, list: &Vec<u32>| best_of(p, list.iter().map(|&weight| along(p, *value, weight))).unwrap();
+    let mut ahead = vec![source_value(p)];
+    for list in &twins {
+        ahead.push(on(ahead.last().unwrap(), list));
+    }
+    let mut behind = vec![source_value(p)];
+    for list in twins.iter().rev() {
+        behind.push(on(behind.last().unwrap(), list));
+    }
+    let value = *ahead.last().unwrap();
+    let (before, after) = (ahead.iter(), behind.iter().rev().skip(1));
+    let keeps = |a: u32, b: u32, weight: u32| join(p, along(p, a, weight), b) == value;
+    twins.iter().zip(before).zip(after).map(|((list, &a), &b)| *list.iter().find(|&&weight| keeps(a, b, weight)).unwrap()).collect()
+}
+
+/// The vertices of a walk: the source, then the head of each edge.
+fn visited(source: u32, walk: &[Edge]) -> Vec<u32> {
+    std::iter::once(source).chain(walk.iter().map(|e| e.head)).collect()
+}
+
+/// The edges along these vertices with these weights.
+pub fn edges_along(vertices: &[u32], figures: &[u32]) -> Vec<Edge> {
+    vertices.windows(2).zip(figures).map(|(pair, &weight)| Edge { tail: pair[0], head: pair[1], weight }).collect()
 }
 
 /// The value of a route: "starts at the source's and goes along".
@@ -581,9 +665,10 @@ pub fn value_along(p: u32, route: &[Edge]) -> u32 {
     route.iter().fold(source_value(p), |value, e| along(p, value, e.weight))
 }
 
-/// The same route by listing every walk of fewer than n edges and choosing in document 02's words: a best one, "the fewest segments, then the lowest
-/// station at the first place where two differ". For a few vertices only.
-pub fn route_by_listing(p: u32, n: u32, edges: &[Edge], source: u32, target: u32) -> Option<Vec<Edge>> {
+/// The same route and its figures by listing every walk of fewer than n edges and choosing in document 02's words: a best one, "the fewest segments, then the
+/// lowest station at the first place where two differ"; and of all best walks along the same vertices, at each segment "the lowest figure with which the
+/// route keeps its value". For a few vertices only.
+pub fn route_by_listing(p: u32, n: u32, edges: &[Edge], source: u32, target: u32) -> Option<(Vec<u32>, Vec<u32>)> {
     let mut walks: Vec<Vec<Edge>> = vec![vec![]];
     let mut longest = 0..walks.len();
     for _ in 1..n {
@@ -596,9 +681,12 @@ pub fn route_by_listing(p: u32, n: u32, edges: &[Edge], source: u32, target: u32
         longest = longest.end..walks.len();
     }
     let mut there: Vec<Vec<Edge>> = walks.into_iter().filter(|walk| visited(source, walk).last() == Some(&target)).collect();
-    let values: Vec<u32> = there.iter().map(|walk| value_along(p, walk)).collect();
-    there.retain(|walk| !values.iter().any(|&v| better(p, v, value_along(p, walk))));
-    there.into_iter().min_by_key(|walk| (walk.len(), visited(source, walk)))
+    let best = best_of(p, there.iter().map(|walk| value_along(p, walk)))?;
+    there.retain(|walk| value_along(p, walk) == best);
+    let vertices = there.iter().min_by_key(|walk| (walk.len(), visited(source, walk))).map(|walk| visited(source, walk))?;
+    there.retain(|walk| visited(source, walk) == vertices);
+    let figures = (1..vertices.len()).map(|i| there.iter().map(|walk| walk[i - 1].weight).min().unwrap()).collect();
+    Some((vertices, figures))
 }
 
 /// For each edge of a route 1 where it set the value and 0 where it passed it on: "for headroom and worst stretch it sets where the running value changes,
@@ -620,12 +708,12 @@ pub fn marks_of(p: u32, route: &[Edge]) -> Vec<u32> {
 }
 
 /// Only n, the table and the count of `w` are taken.
-pub fn route(w: &Network, p: u32, source: u32, target: u32, vertices: &mut [u32], marks: &mut [u32]) -> Answer<Vec<u64>> {
+pub fn route(w: &Network, p: u32, source: u32, target: u32, vertices: &mut [u32], marks: &mut [u32], figures: &mut [u32]) -> Answer<Vec<u64>> {
     let n = w.n as usize;
     if w.bad_size() {
         return refuse(1, 0);
     }
-    if w.short_table() || vertices.len() < n || marks.len() < n {
+    if w.short_table() || vertices.len() < n || marks.len() < n || figures.len() < n {
         return refuse(2, 0);
     }
     if let Some(place) = w.bad_table() {
@@ -638,16 +726,15 @@ pub fn route(w: &Network, p: u32, source: u32, target: u32, vertices: &mut [u32]
         return refuse(6, 0);
     }
     let edges = w.edges();
-    let Some(found) = route_by_lengths(p, w.n, &edges, source, target) else {
+    let Some(through) = route_by_lengths(p, w.n, &edges, source, target) else {
         return refuse(15, 0);
     };
-    let through = visited(source, &found);
-    for (word, v) in vertices.iter_mut().zip(&through) {
-        *word = *v;
-    }
-    for (word, mark) in marks.iter_mut().zip(marks_of(p, &found)) {
-        *word = mark;
-    }
+    let named = figures_by_parts(p, &edges, &through);
+    // "its marks go by these"
+    let set = marks_of(p, &edges_along(&through, &named));
+    vertices[..through.len()].copy_from_slice(&through);
+    marks[..set.len()].copy_from_slice(&set);
+    figures[..named.len()].copy_from_slice(&named);
     Ok(vec![through.len() as u64])
 }
 
@@ -771,14 +858,14 @@ pub fn parse_network(text: &[u8]) -> Result<(u32, Vec<Edge>), usize> {
         let good = if is_comment(line) {
             true
         } else if let Some([n, m]) = fields::<2>(line, &[b"p", b"sp"]) {
-            let fits = header.is_none() && (1..=256).contains(&n) && m <= 2_048 && m <= n * (n - 1);
+            let fits = header.is_none() && (1..=256).contains(&n) && m <= 2_048 && (n > 1 || m == 0);
             header = Some((n, m));
             fits
         } else if let (Some([t, h, x]), Some((n, m))) = (fields::<3>(line, &[b"a"]), header) {
             let fits = (edges.len() as u64) < m && (1..=n).contains(&t) && (1..=n).contains(&h) && t != h && (1..=65_535).contains(&x);
             if fits {
                 let e = Edge { tail: t as u32 - 1, head: h as u32 - 1, weight: x as u32 };
-                let twice = edges.iter().any(|f| (f.tail, f.head) == (e.tail, e.head));
+                let twice = edges.contains(&e);
                 edges.push(e);
                 !twice
             } else {
@@ -793,7 +880,7 @@ pub fn parse_network(text: &[u8]) -> Result<(u32, Vec<Edge>), usize> {
     }
     match header {
         Some((n, m)) if !cut && edges.len() as u64 == m => {
-            edges.sort_by_key(|e| (e.tail, e.head));
+            edges.sort_by_key(Edge::words);
             Ok((n as u32, edges))
         }
         _ => Err(complete.len() + 1),
