@@ -7,7 +7,8 @@
  *
  * WORDS. Here, and in document 01: vertex = station, edge = segment, weight = figure, landmark = post, forward = outward, backward =
  * homeward, schedule = picks, affected = suspect, unsettled = restless, refused = turned back, insert = add, delete = take; update is document
- * 02's kind 3, a retuned segment; twins are its twin tracks. Words have 32 bits, those of a reply 64; moves of a preview are signed numbers of 64 bits.
+ * 02's kind 3, a retuned segment; twins are its twin tracks, and figures the weights that a
+ * route names. Words have 32 bits, those of a reply 64; moves of a preview are signed numbers of 64 bits.
  *
  * LISTS. A list is a pointer and a length in elements, in that order. With length 0 it is empty, and any pointer will do, null too; with
  * another length the pointer points to that many elements, aligned as C aligns them. A list that a call may write (not const here) overlaps no
@@ -52,8 +53,8 @@
  * VERSION. PLATE_TRACK_VERSION here and plate_track_version() of the archive are the same number. It rises by one where a program that was
  * compiled against the header before would call something else than it meant: parameters or the change record change. A changed function then
  * has a symbol with the version in it, and the header maps the plain name to it (#define plate_track_batch plate_track_batch_v2): a program
- * compiled against another version fails to link. In version 2 the change record has grown from four words to five, of which `old` is the last, and a
- * delete names the weight of its edge; a route has a third list, `figures`. Records of four words are none of this version: make them anew. */
+ * compiled against another version that calls it fails to link. In version 2 the change record has grown from four words to five, of which `old` is the
+ * last, and a delete names the weight of its edge; a route has a third list, `figures`. Records of four words are none of this version: make them anew. */
 #ifndef PLATE_TRACK_H
 #define PLATE_TRACK_H
 
@@ -108,8 +109,8 @@ enum {
     PLATE_TRACK_SHORT = 2,      /* a list or buffer is too short */
     PLATE_TRACK_LANDMARKS = 3,  /* none, over 4, no vertex, repeated; k not 1 to 4; a look-up's landmark is not in the list */
     PLATE_TRACK_TABLE = 4,      /* count over 2,048 (place 0), or a record breaks the rules (its index): a tail or head is no vertex, or both are one; a
-                                   weight is not 1 to 65,535; or it does not come after the record before it by tail, head, weight, as one with
-                                   the same three words */
+                                   weight is not 1 to 65,535; or it does not come after the record before it by tail, head, weight: one with
+                                   the same three words does not */
     PLATE_TRACK_PROPERTY = 5,   /* not 1 to 5; a side neither 0 nor 1 */
     PLATE_TRACK_VERTEX = 6,     /* a source or target (place 0), then an entry of a schedule (its index); a tail or head of a change: n or more */
     PLATE_TRACK_KIND = 7,       /* a change is none of insert, delete and update */

@@ -9,7 +9,7 @@ use Prim.Native.Nat.{ℕ}
 use lib.ListN.{getD}
 use Rattle.batch.specs.declared.Change as slice
 use Rattle.network.specs.Change.{Change}
-use Rattle.items.specs.Code.{change, filled}
+use Rattle.items.specs.Code.{change, laidAll}
 
 abbrev pub recorded : slice.Change → Change
 recorded c = change (c .kind) (c .tail) (c .head) (c .weight) (c .old)
@@ -21,4 +21,4 @@ abbrev pub recordAt : List slice.Change → ℕ → Change
 recordAt ys i = recorded (getD ys i noChange)
 
 abbrev pub copied : List slice.Change → List ℕ → ℕ → List ℕ
-copied ys xs k = filled (recordAt ys) xs k
+copied ys xs k = laidAll (recordAt ys) xs k

@@ -16,7 +16,7 @@ use Rattle.graph.proofs.Arcs.{fit-arc, own-reads}
 use Rattle.graph.proofs.Copies.{paste-over}
 use Rattle.affected.specs.Net.{counterpart}
 use Rattle.affected.proofs.Net.{kept-weight}
-use Rattle.compare.specs.Code.{before, pairs, Inside, Differences, tellsOf, Faces}
+use Rattle.compare.specs.Code.{before, changesIn, Inside, Differences, tellsOf, Faces}
 
 -- ---- the places of a change
 
@@ -101,7 +101,7 @@ module _ (xs is os : List ℕ) where
       let e = ap (λ (l : List ℕ). getD l j 0) (q ∙ paste-over os₀ is (length is) refl) ∙ List·getD-append is (drop (length is) os₀) 0 j (fit-arc f u j h a b .0) in
       inr (ap arcWeight (sym e), λ k l. absurd (omega arith))
 
-  pub aligned-turn : (ys : List ℕ) (k : ℕ) → k < pairs xs → ((j : ℕ) → getD ys j 0 ≡ cond (tellsOf xs is k j) (getD xs (2 * k + 1) 0) (getD os j 0)) → Aligned xs is k os → Aligned xs is (k + 1) ys
+  pub aligned-turn : (ys : List ℕ) (k : ℕ) → k < changesIn xs → ((j : ℕ) → getD ys j 0 ≡ cond (tellsOf xs is k j) (getD xs (2 * k + 1) 0) (getD os j 0)) → Aligned xs is k os → Aligned xs is (k + 1) ys
   aligned-turn ys k l q s n es fs i f o d u j h a b = by-test (tellsOf xs is k j)
       (λ e.
       let z = told-edge xs is k u j a b i f (omega arith) h e in
@@ -117,7 +117,7 @@ module _ (xs is os : List ℕ) where
         ],
       )) (s n es fs i f o d u j h a b))
 
-  pub aligned-done : (k : ℕ) → pairs xs ≤ k → Aligned xs is k os → (n : ℕ) (es fs : List Edge) → Inside n xs → Fit n is → Own n is es → Differences es fs xs → Faces n es fs is os
+  pub aligned-done : (k : ℕ) → changesIn xs ≤ k → Aligned xs is k os → (n : ℕ) (es fs : List Edge) → Inside n xs → Fit n is → Own n is es → Differences es fs xs → Faces n es fs is os
   aligned-done k g s n es fs i f o d u j h a b = ⊎-elim (λ p. p) (λ p. by-test (among fs (edgeOf is u j)) (λ e. kept-weight es fs (edgeOf is u j) e ∙ p .0) (λ e.
       let (m, l, q) = d .old .lacks .all (edgeOf is u j) (own-reads n is es o u j h a b) e in
       absurd (p .1 m (omega arith) q))) (s n es fs i f o d u j h a b)

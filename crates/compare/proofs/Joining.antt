@@ -15,7 +15,7 @@ use Rattle.graph.proofs.Tests.{both, and-true}
 use Rattle.graph.proofs.Edges.{pair-ends}
 use Rattle.graph.proofs.Arcs.{head-arc, weight-arc}
 use Rattle.affected.proofs.Net.{rules-plain}
-use Rattle.compare.specs.Code.{before, after, pairs, changed, Inside, Unpaired, isRetune, put, joined, Lists, Differences}
+use Rattle.compare.specs.Code.{before, after, changesIn, changed, Inside, Unjoined, isRetune, put, joined, Lists, Differences}
 use Rattle.compare.proofs.Ruled.{length-put, put-other, put-first, put-second}
 use Rattle.compare.proofs.Retunes.{Split, Retunes, Told, Made, split-flip, retunes-flip, retunes-back, told-flip, made-flip, made-lists}
 
@@ -283,7 +283,7 @@ module _ (xs ys : List ℕ) (g k : ℕ) (t : Joined xs ys g k) where
 
 -- ---- the list in the end
 
-module _ (es fs : List Edge) (g : ℕ) (xs : List ℕ) (u : Unpaired es fs g xs) where
+module _ (es fs : List Edge) (g : ℕ) (xs : List ℕ) (u : Unjoined es fs g xs) where
   told : Told g (λ k. before xs k .tail) (λ k. before xs k .head) (λ k. before xs k .weight) (λ k. after xs k .weight) (changed xs) (isOld xs)
   told = record {
     old = λ k l q. let z = not-true (eqb (before xs k .weight) 0) q in (rw z, eqb-true _ _ (not-false _ (sym (u .one k l) ∙ z)));
@@ -323,12 +323,12 @@ module _ (xs ys : List ℕ) (g : ℕ) (t : Joined xs ys g g) where
     word-taken : (i : ℕ) → i < 2 * g → getD (take (2 * g) ys) i 0 ≡ getD ys i 0
     word-taken i l = getD-take (2 * g) ys i 0 l
 
-    pub joined-differences : (n : ℕ) (es fs : List Edge) → rules n es ≡ accept → rules n fs ≡ accept → Unpaired es fs g xs → Differences es fs (take (2 * g) ys)
+    pub joined-differences : (n : ℕ) (es fs : List Edge) → rules n es ≡ accept → rules n fs ≡ accept → Unjoined es fs g xs → Differences es fs (take (2 * g) ys)
     joined-differences n es fs a b u =
         let old = rules-plain n es a in
         let new = rules-plain n fs b in
         let z = length-take-le (2 * g) ys long in
-        let q : pairs (take (2 * g) ys) ≡ g = omega arith in
+        let q : changesIn (take (2 * g) ys) ≡ g = omega arith in
         record {
           old = lists-as q (λ i l. rw (word-taken (2 * i) (omega arith), word-taken (2 * i + 1) (omega arith), t .ends i .0, t .ends i .1)) (λ i l. ap arcWeight (word-taken (2 * i + 1) (omega arith)))
               (made-lists old new (split es fs g xs u) (told es fs g xs u) made (retunes-of xs g) (of-retunes xs g) (u .old .weighs));

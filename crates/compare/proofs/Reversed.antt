@@ -5,7 +5,7 @@ use Rattle.graph.proofs.Arcs.{head-arc, weight-arc}
 use Rattle.graph.specs.Edge.{Edge, reverse}
 use Rattle.graph.proofs.Edges.{mem-reverse, reverse-mem}
 use Rattle.affected.proofs.Net.{among-reverse, net-reverse}
-use Rattle.compare.specs.Code.{before, after, pairs, Inside, Lacks, Lists, Differences, put}
+use Rattle.compare.specs.Code.{before, after, changesIn, Inside, Lacks, Lists, Differences, put}
 use Rattle.compare.proofs.Ruled.{put-other, put-first, put-second}
 
 -- the same edges, reversed
@@ -65,25 +65,25 @@ turned-turn xs ys k a b t l p q = record {
     weigh i (no d) (yes e) = rw e (ap arcWeight (two ∙ q) ∙ weight-arc _ _ (low-weight _))
     weigh i (no d) (no e) = ap arcWeight (put-other ys k a b i d e)
 
-module _ (xs ys : List ℕ) (t : Turned xs ys (pairs xs)) where
-  turned-before : (i : ℕ) → i < pairs xs → before ys i ≡ reverse (before xs i)
+module _ (xs ys : List ℕ) (t : Turned xs ys (changesIn xs)) where
+  turned-before : (i : ℕ) → i < changesIn xs → before ys i ≡ reverse (before xs i)
   turned-before i l = rw (t .heads i l .0, t .heads i l .1, t .weights (2 * i))
 
-  turned-after : (i : ℕ) → i < pairs xs → after ys i ≡ reverse (after xs i)
+  turned-after : (i : ℕ) → i < changesIn xs → after ys i ≡ reverse (after xs i)
   turned-after i l = rw (t .heads i l .0, t .heads i l .1, t .weights (2 * i + 1))
 
   pub turned-net : (es fs : List Edge) → Differences es fs xs → Differences (map reverse es) (map reverse fs) ys
   turned-net es fs d =
-      let q : pairs ys ≡ pairs xs = ap (λ (l : ℕ). l / 2) (t .size) in
+      let q : changesIn ys ≡ changesIn xs = ap (λ (l : ℕ). l / 2) (t .size) in
       record {
-        old = lists-reverse es fs (pairs xs) _ _ _ _ _ q turned-before (λ i l. t .weights (2 * i + 1)) (d .old);
-        new = lists-reverse fs es (pairs xs) _ _ _ _ _ q turned-after (λ i l. t .weights (2 * i)) (d .new);
+        old = lists-reverse es fs (changesIn xs) _ _ _ _ _ q turned-before (λ i l. t .weights (2 * i + 1)) (d .old);
+        new = lists-reverse fs es (changesIn xs) _ _ _ _ _ q turned-after (λ i l. t .weights (2 * i)) (d .new);
       }
 
   pub turned-inside : (n : ℕ) → Inside n xs → Inside n ys
-  turned-inside n h k l = let z = t .size in pick (k / 2) (omega arith) (omega arith) (decLt (k / 2) (pairs xs)) (ℕ-discrete k (2 * (k / 2)))
+  turned-inside n h k l = let z = t .size in pick (k / 2) (omega arith) (omega arith) (decLt (k / 2) (changesIn xs)) (ℕ-discrete k (2 * (k / 2)))
     where
-      pick : (i : ℕ) → 2 * i ≤ k → k ≤ 2 * i + 1 → Dec (i < pairs xs) → Dec (k ≡ 2 * i) → arcHead (getD ys k 0) < n
+      pick : (i : ℕ) → 2 * i ≤ k → k ≤ 2 * i + 1 → Dec (i < changesIn xs) → Dec (k ≡ 2 * i) → arcHead (getD ys k 0) < n
       pick i a b (no d) e = let z = t .size in rw (t .rest k (omega arith)) (h k (omega arith))
       pick i a b (yes d) (yes e) = rw (e, t .heads i d .0) (h (2 * i + 1) (omega arith))
       pick i a b (yes d) (no e) = let o : k ≡ 2 * i + 1 = omega arith in rw (o, t .heads i d .1) (h (2 * i) (omega arith))

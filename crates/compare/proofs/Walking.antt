@@ -24,7 +24,7 @@ use Rattle.graph.proofs.Sorted.{before-asym}
 use Rattle.graph.proofs.Order.{EdgeFacts, table-ordered}
 use Rattle.graph.proofs.Arcs.{head-arc, weight-arc}
 use Rattle.graph.proofs.Records.{edges-mem}
-use Rattle.compare.specs.Code.{before, after, Inside, Lacks, Unpaired, put, Tables}
+use Rattle.compare.specs.Code.{before, after, Inside, Lacks, Unjoined, put, Tables}
 use Rattle.compare.proofs.Ruled.{Ruled, all, at, Past, at-facts, all-index, rises, passed-none, passed-more, passed-absent, put-other, put-first, put-second}
 
 -- ---- which edge comes first
@@ -367,7 +367,7 @@ module _ {n : ℕ} (s s′ : Ruled n) (xs : List ℕ) (i j g : ℕ) (wk : Listed
   pub walk-inside : 2 * g ≤ length xs → Inside n (take (2 * g) xs)
   walk-inside long k l = let z = length-take-le (2 * g) xs long in rw (getD-take (2 * g) xs k 0 (omega arith)) (wk .1 k (omega arith))
 
-  pub walk-done : (i < s .count → ⊥) → (j < s′ .count → ⊥) → Unpaired (all s) (all s′) g xs
+  pub walk-done : (i < s .count → ⊥) → (j < s′ .count → ⊥) → Unjoined (all s) (all s′) g xs
   walk-done a b =
       let w = wk .0 in
       let ei : i ≡ s .count = (let z = w .old .low in omega arith) in

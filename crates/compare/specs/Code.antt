@@ -2,10 +2,10 @@
 --
 --   before xs k, after xs k == change k of a list: its pair, with the weight before the batch and with that after it, 0 where there is none
 --   changed xs k            == the edge of change k, where it has one weight: the old one, or the new one
---   pairs xs                == how many changes a list has: two words for each
+--   changesIn xs            == how many changes a list has: two words for each
 --   Inside n xs             == the tails and heads of a list of changes are vertices below n
 --   Lacks es fs g f         == the edges f i, of i below g, that have a weight are those of es that fs lacks; and each edge of es has a weight
---   Unpaired es fs g xs     == the first g changes of a list are the edges of es that fs lacks and those of fs that es lacks, each with its one weight, in
+--   Unjoined es fs g xs     == the first g changes of a list are the edges of es that fs lacks and those of fs that es lacks, each with its one weight, in
 --                              table order
 --   isRetune xs g k         == changes k and k + 1, of g, are all of their pair, one of an old edge and one of a new
 --   put xs k a b            == xs with the words a and b for change k
@@ -40,8 +40,8 @@ before xs k = edge (arcHead (getD xs (2 * k) 0)) (arcHead (getD xs (2 * k + 1) 0
 abbrev pub after : List ℕ → ℕ → Edge
 after xs k = edge (arcHead (getD xs (2 * k) 0)) (arcHead (getD xs (2 * k + 1) 0)) (arcWeight (getD xs (2 * k + 1) 0))
 
-abbrev pub pairs : List ℕ → ℕ
-pairs xs = length xs / 2
+abbrev pub changesIn : List ℕ → ℕ
+changesIn xs = length xs / 2
 
 abbrev pub Inside : ℕ → List ℕ → Type 0
 Inside n xs = (k : ℕ) → k < length xs → arcHead (getD xs k 0) < n
@@ -56,7 +56,7 @@ pub record Lacks (es fs : List Edge) (g : ℕ) (f : ℕ → Edge) : Type 0 where
   pub all : (e : Edge) → List·Memᴰ e es → among fs e ≡ false → (k : ℕ) × (k < g) × (f k ≡ e)
   pub weighs : (e : Edge) → List·Memᴰ e es → 0 < e .weight
 
-pub record Unpaired (es fs : List Edge) (g : ℕ) (xs : List ℕ) : Type 0 where
+pub record Unjoined (es fs : List Edge) (g : ℕ) (xs : List ℕ) : Type 0 where
   pub old : Lacks es fs g (before xs)
   pub new : Lacks fs es g (after xs)
   pub one : (k : ℕ) → k < g → eqb (before xs k .weight) 0 ≡ not (eqb (after xs k .weight) 0)
@@ -87,8 +87,8 @@ pub record Lists (es fs : List Edge) (g : ℕ) (f : ℕ → Edge) (o : ℕ → �
   pub other : (k : ℕ) → k < g → 0 < f k .weight → counterpart es fs (f k) ≡ o k
 
 pub record Differences (es fs : List Edge) (xs : List ℕ) : Type 0 where
-  pub old : Lists es fs (pairs xs) (before xs) (λ k. after xs k .weight)
-  pub new : Lists fs es (pairs xs) (after xs) (λ k. before xs k .weight)
+  pub old : Lists es fs (changesIn xs) (before xs) (λ k. after xs k .weight)
+  pub new : Lists fs es (changesIn xs) (after xs) (λ k. before xs k .weight)
 
 -- ---- beside an index
 

@@ -18,7 +18,7 @@ ghost use Rattle.graph.specs.Edge.{Edge, reverse, samePair, edges, precedes};
 ghost use Rattle.graph.specs.Table.{rules};
 ghost use Rattle.graph.specs.Index.{Fit, Own};
 ghost use Rattle.graph.specs.Code.{Room, edgeAt};
-ghost use Rattle.compare.specs.Code.{Tables, Inside, Unpaired, before, isRetune, joined, Differences, tellsOf, Faces};
+ghost use Rattle.compare.specs.Code.{Tables, Inside, Unjoined, before, isRetune, joined, Differences, tellsOf, Faces};
 
 // Words of a list of changes: two for each edge of both tables, at most.
 pub const NET_WORDS: usize = 4 * graph::MAX_EDGES;
@@ -106,7 +106,7 @@ fn list_changes(
 ) -> usize
     requires { ⌜ ((n : ℕ) × Tables n count1 (now tails1) (now heads1) (now weights1) count2 (now tails2) (now heads2) (now weights2)) × (2 * (count1 + count2) ≤ length (now list)) ⌝ }
     ensures { λ r. ⌜ (2 * r ≤ length (now (list .exit))) × (r ≤ 2 * maxEdges) × ((n : ℕ) → Tables n count1 (now (tails1 .entry)) (now (heads1 .entry)) (now (weights1 .entry)) count2 (now (tails2 .entry)) (now (heads2 .entry)) (now (weights2 .entry)) → Inside n (take (2 * r) (now (list .exit)))) ⌝ }
-    ensures { λ r. ⌜ Unpaired (edges (now (tails1 .entry)) (now (heads1 .entry)) (now (weights1 .entry)) count1) (edges (now (tails2 .entry)) (now (heads2 .entry)) (now (weights2 .entry)) count2) r (now (list .exit)) ⌝ }
+    ensures { λ r. ⌜ Unjoined (edges (now (tails1 .entry)) (now (heads1 .entry)) (now (weights1 .entry)) count1) (edges (now (tails2 .entry)) (now (heads2 .entry)) (now (weights2 .entry)) count2) r (now (list .exit)) ⌝ }
 {
     let mut size = 0;
     let mut i = 0;
@@ -188,7 +188,7 @@ fn chosen(first: bool, a: u32, b: u32) -> u32
 }
 
 // Where changes `k` and `k + 1` are a retune, the first gets both weights, and the second none.
-fn pair_change(list: &mut [u32], size: usize, k: usize)
+fn join_retune(list: &mut [u32], size: usize, k: usize)
     requires { ⌜ (k < size) × (2 * size ≤ length (now list)) ⌝ }
     ensures { λ _. ⌜ now (list .exit) ≡ cond (isRetune (now (list .entry)) size k) (joined (now (list .entry)) k) (now (list .entry)) ⌝ }
 {
@@ -208,14 +208,14 @@ fn pair_change(list: &mut [u32], size: usize, k: usize)
 }
 
 // Each retune among the `size` changes as one change.
-fn pair_changes(list: &mut [u32], size: usize)
+fn join_retunes(list: &mut [u32], size: usize)
     requires { ⌜ 2 * size ≤ length (now list) ⌝ }
     ensures { λ _. ⌜ (length (now (list .exit)) ≡ length (now (list .entry))) × ((n : ℕ) → Inside n (take (2 * size) (now (list .entry))) → Inside n (take (2 * size) (now (list .exit)))) ⌝ }
-    ensures { λ _. ⌜ ((n : ℕ) (es fs : List Edge) → rules n es ≡ accept → rules n fs ≡ accept → Unpaired es fs size (now (list .entry)) → Differences es fs (take (2 * size) (now (list .exit)))) ⌝ }
+    ensures { λ _. ⌜ ((n : ℕ) (es fs : List Edge) → rules n es ≡ accept → rules n fs ≡ accept → Unjoined es fs size (now (list .entry)) → Differences es fs (take (2 * size) (now (list .exit)))) ⌝ }
 {
     let mut k = 0;
     while k < size {
-        pair_change(list, size, k);
+        join_retune(list, size, k);
         k += 1;
     }
 }
@@ -248,7 +248,7 @@ pub fn differences(
         weights2,
         list,
     );
-    pair_changes(list, size);
+    join_retunes(list, size);
     2 * size
 }
 

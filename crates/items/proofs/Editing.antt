@@ -17,7 +17,7 @@ use Rattle.graph.proofs.Edges.{same-eq}
 use Rattle.graph.proofs.Seek.{find-below, found-has, found-same, absent-has}
 use Rattle.items.specs.declared.Edited.{Edited}
 use Rattle.items.specs.declared.Edited.the-variants.{Count, Refused}
-use Rattle.network.specs.Change.{Change, named, struck, inserts, comes, edit, edits, item, items, words, against}
+use Rattle.network.specs.Change.{Change, brought, struck, inserts, comes, edit, edits, item, items, words, against}
 use Rattle.items.specs.Code.{change, verdict, Leaves}
 use Rattle.calls.specs.Code.{Tabled}
 use Rattle.network.proofs.Items.{item-good}
@@ -82,7 +82,7 @@ module _ (es : List Edge) (t h w i : ℕ) where
   update-taken o e = rw e
 
 -- a delete, and an update that brings no edge that is there, ask for the edge that they strike
-module _ (es : List Edge) (c : Change) (i : ℕ) (z : inserts c ≡ false) (y : (comes c && among es (named c)) ≡ false) where
+module _ (es : List Edge) (c : Change) (i : ℕ) (z : inserts c ≡ false) (y : (comes c && among es (brought c)) ≡ false) where
   pub against-absent : find (struck c) es ≡ Absent → refuse 11 i ≡ against i es c
   unfolding against refuseIf _▷_
   against-absent e = rw (y, z, absent-has tableOrder (struck c) es e)

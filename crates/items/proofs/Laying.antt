@@ -6,7 +6,7 @@ use Rattle.property.proofs.Basics.{_≡_, refl, sym, ap, _∙_, List, [], _∷_
 use Rattle.property.proofs.Tests.{by-test}
 use Rattle.graph.specs.Limits.{maxBatch}
 use Rattle.network.specs.Change.{Change}
-use Rattle.items.specs.Code.{change, changeOf, changesOf, changeAt, Laid, putChange, filled}
+use Rattle.items.specs.Code.{change, changeOf, changesOf, changeAt, Laid, putChange, laidAll}
 
 -- what is read past the last of them
 abbrev none : Change
@@ -42,31 +42,31 @@ module _ (xs : List ℕ) (i : ℕ) (c : Change) (f : i < maxBatch) where
 
 -- ---- all changes
 
-pub filled-length : (c : ℕ → Change) (xs : List ℕ) (k : ℕ) → length (filled c xs k) ≡ length xs
+pub filled-length : (c : ℕ → Change) (xs : List ℕ) (k : ℕ) → length (laidAll c xs k) ≡ length xs
 filled-length c xs zero = refl
 filled-length c xs (suc k) = simp (length-set, filled-length c xs k)
 
-pub filled-more : (c : ℕ → Change) (xs : List ℕ) (k : ℕ) → putChange (filled c xs k) k (c k) ≡ filled c xs (k + 1)
-filled-more c xs k = sym (ap (filled c xs) (add-one k))
+pub filled-more : (c : ℕ → Change) (xs : List ℕ) (k : ℕ) → putChange (laidAll c xs k) k (c k) ≡ laidAll c xs (k + 1)
+filled-more c xs k = sym (ap (laidAll c xs) (add-one k))
 
 module _ (c : ℕ → Change) (xs : List ℕ) (e : length xs ≡ 5 * maxBatch) where
   -- the words of change i, below k, are read at place i: the last is put there now, an earlier one is left there
-  filled-words : (k : ℕ) → k ≤ maxBatch → (j i : ℕ) → j < 5 → i < k → getD (filled c xs k) (j * maxBatch + i) 0 ≡ wordOf (c i) j
+  filled-words : (k : ℕ) → k ≤ maxBatch → (j i : ℕ) → j < 5 → i < k → getD (laidAll c xs k) (j * maxBatch + i) 0 ≡ wordOf (c i) j
   filled-words zero f j i a b = absurd (omega arith)
   filled-words (suc k) f j i a b =
-      let ys = filled c xs k in
+      let ys = laidAll c xs k in
       let y = filled-length c xs k in
       rw (stored-all ys k (c k) (omega arith))
       (by-test (ltb i k)
       (λ q. let h = ltb-true i k q in stored-elsewhere ys k (c k) (omega arith) 5 j i (omega arith) (λ z. omega arith) ∙ filled-words k (omega arith) j i a h)
       (λ q. let h = ltb-false i k q in let z : i ≡ k = omega arith in rw z (stored-there ys k (c k) (omega arith) 5 j a (omega arith))))
 
-  pub filled-laid : (cs : List Change) (m k : ℕ) → length cs ≡ m → k ≡ min m maxBatch → ((i : ℕ) → i < m → c i ≡ getD cs i none) → {us : List ℕ} → us ≡ filled c xs k → Laid m cs us
+  pub filled-laid : (cs : List Change) (m k : ℕ) → length cs ≡ m → k ≡ min m maxBatch → ((i : ℕ) → i < m → c i ≡ getD cs i none) → {us : List ℕ} → us ≡ laidAll c xs k → Laid m cs us
   filled-laid cs m k l s h q = record {
     size = l;
     words = λ i a b.
-        let w : (j : ℕ) → j < 5 → getD (filled c xs k) (j * maxBatch + i) 0 ≡ wordOf (c i) j = λ j n. filled-words k (omega arith) j i n (omega arith) in
-        rw (q, ap (λ (p : ℕ). getD (filled c xs k) p 0) (sym (zero-add i)) ∙ w 0 (omega arith), w 1 (omega arith), w 2 (omega arith), w 3 (omega arith), w 4 (omega arith)) (h i a);
+        let w : (j : ℕ) → j < 5 → getD (laidAll c xs k) (j * maxBatch + i) 0 ≡ wordOf (c i) j = λ j n. filled-words k (omega arith) j i n (omega arith) in
+        rw (q, ap (λ (p : ℕ). getD (laidAll c xs k) p 0) (sym (zero-add i)) ∙ w 0 (omega arith), w 1 (omega arith), w 2 (omega arith), w 3 (omega arith), w 4 (omega arith)) (h i a);
   }
 
 -- the size changes from index from on

@@ -86,6 +86,7 @@ module _ {A B : Type 0} (f : A → B) where
 
 -- ---- the position in a list of which one is struck
 
+-- before the position each element comes before a, and the one at it does not; where one before it is struck it is one less
 module _ {A : Type 0} (O : Order A) (d a : A) where
   position-before : (xs : List A) (k : ℕ) → k < order.position O a xs → O .before (getD xs k d) a ≡ true
   unfolding order.position
@@ -104,6 +105,7 @@ module _ {A : Type 0} (O : Order A) (d a : A) where
   position-struck zero (x ∷ xs) l = by-test (O .before x a) (λ q. rw q) (λ q. absurd (omega (arith, rw q at l)))
   position-struck (suc i) (x ∷ xs) l = by-test (O .before x a) (λ q. rw q (ap suc (position-struck i xs (omega (arith, rw q at l))))) (λ q. absurd (omega (arith, rw q at l)))
 
+-- .. and where one at or after it is, it stays
 position-kept : {A : Type 0} {O : Order A} → Ordered O → (t : A → Bool) (a : A) (i : ℕ) (xs : List A) → Sorted O t xs → order.position O a xs ≤ i → order.position O a (deleteAt i xs) ≡ order.position O a xs
 unfolding order.position deleteAt
 position-kept L t a i [] s l = refl
@@ -129,8 +131,8 @@ between x o e p q h k =
 abbrev pub Goes : ℕ → ℕ → ℕ → Type 0
 Goes i p j = ((i < p) × (suc j ≡ p)) ⊎ ((p ≤ i) × (j ≡ p))
 
-abbrev edgeIn : List Edge → ℕ → Edge
-edgeIn es k = getD es k (edge 0 0 0)
+abbrev ith : List Edge → ℕ → Edge
+ith es k = getD es k (edge 0 0 0)
 
 module _ (n : ℕ) (es : List Edge) (s : Sound n es) (e : Edge) (i j : ℕ) (l : i < length es) (g : Goes i (position e es) j) where
   pub goes-below : j < length es
@@ -143,26 +145,26 @@ module _ (n : ℕ) (es : List Edge) (s : Sound n es) (e : Edge) (i j : ℕ) (l :
       place = ⊎-elim (λ a. omega (arith, position-struck tableOrder (edge 0 0 0) e i es (a .0), a .1)) (λ a. position-kept table-ordered (isEdge n) e i es s (a .0) ∙ sym (a .1)) g
 
   -- where the edge at i is of the pair of e, so are all from i to j: any other of them comes after it and before e, or the other way round
-  pair-at : edgeIn es i .tail ≡ e .tail → edgeIn es i .head ≡ e .head → (k : ℕ) → min i j ≤ k → k ≤ max i j → (edgeIn es k .tail ≡ e .tail) × (edgeIn es k .head ≡ e .head)
+  pair-at : ith es i .tail ≡ e .tail → ith es i .head ≡ e .head → (k : ℕ) → min i j ≤ k → k ≤ max i j → (ith es k .tail ≡ e .tail) × (ith es k .head ≡ e .head)
   pair-at p q k a b = by-test (eqb k i) (λ z. rw (eqb-true k i z) (p, q)) (λ z. ⊎-elim (up (eqb-false k i z)) (down (eqb-false k i z)) g)
     where
-      before : (x y : ℕ) → x < y → y < length es → precedes (edgeIn es x) (edgeIn es y) ≡ true
+      before : (x y : ℕ) → x < y → y < length es → precedes (ith es x) (ith es y) ≡ true
       before = sorted-before table-ordered (isEdge n) (edge 0 0 0) es s
 
-      up : (k ≡ i → ⊥) → (i < position e es) × (suc j ≡ position e es) → (edgeIn es k .tail ≡ e .tail) × (edgeIn es k .head ≡ e .head)
+      up : (k ≡ i → ⊥) → (i < position e es) × (suc j ≡ position e es) → (ith es k .tail ≡ e .tail) × (ith es k .head ≡ e .head)
       up z (x, y) =
           let o = position-le tableOrder e es in
-          let f = before-asym table-ordered (edgeIn es i) (edgeIn es k) (before i k (omega arith) (omega arith)) in
-          let (u, v) = between (edgeIn es k) e (edgeIn es i) (sym p) (sym q) (position-before tableOrder (edge 0 0 0) e es k (omega arith)) f in
+          let f = before-asym table-ordered (ith es i) (ith es k) (before i k (omega arith) (omega arith)) in
+          let (u, v) = between (ith es k) e (ith es i) (sym p) (sym q) (position-before tableOrder (edge 0 0 0) e es k (omega arith)) f in
           (u ∙ p, v ∙ q)
 
-      down : (k ≡ i → ⊥) → (position e es ≤ i) × (j ≡ position e es) → (edgeIn es k .tail ≡ e .tail) × (edgeIn es k .head ≡ e .head)
+      down : (k ≡ i → ⊥) → (position e es ≤ i) × (j ≡ position e es) → (ith es k .tail ≡ e .tail) × (ith es k .head ≡ e .head)
       down z (x, y) =
           let f = position-stop tableOrder (edge 0 0 0) e es (omega arith) in
-          between (edgeIn es k) (edgeIn es i) e p q (before k i (omega arith) (omega arith)) (sorted-onward table-ordered (isEdge n) (edge 0 0 0) es s e (position e es) (omega arith) f k (omega arith) (omega arith))
+          between (ith es k) (ith es i) e p q (before k i (omega arith) (omega arith)) (sorted-onward table-ordered (isEdge n) (edge 0 0 0) es s e (position e es) (omega arith) f k (omega arith) (omega arith))
 
   -- what all from i to j have in common stays where it is
-  column-stays : (f : Edge → ℕ) → ((k : ℕ) → min i j ≤ k → k ≤ max i j → f (edgeIn es k) ≡ f e) → map f (insertAt j e (deleteAt i es)) ≡ map f es
+  column-stays : (f : Edge → ℕ) → ((k : ℕ) → min i j ≤ k → k ≤ max i j → f (ith es k) ≡ f e) → map f (insertAt j e (deleteAt i es)) ≡ map f es
   column-stays f h =
       let z = length-map es f in
       let b = goes-below in
@@ -179,6 +181,8 @@ edges-are : (m : ℕ) (ts hs ws : List ℕ) (fs : List Edge) → take m ts ≡ t
 unfolding edges
 edges-are m ts hs ws fs x y z = rw (x, y, z) (columns-back fs)
 
+-- The edge goes in at index j of the list from which the one at i is struck. In each column that is a move of one word from i to j over those between; and
+-- since all of them are of one pair, the columns of tails and heads are as before. So the move of the weights alone leaves the table of the update.
 pub retuned : (n m : ℕ) (ts hs ws : List ℕ) → Room m ts hs ws → Sound n (edges ts hs ws m) → (i w : ℕ) → i < m → (j : ℕ)
     → Goes i (position (edge (getD ts i 0) (getD hs i 0) w) (edges ts hs ws m)) j
     → among (deleteAt i (edges ts hs ws m)) (edge (getD ts i 0) (getD hs i 0) w) ≡ false

@@ -6,7 +6,7 @@
 --   changeAt xs i                == the change record whose words are at place i of five lists of 1,024 words, one after the other in xs
 --   Laid k cs xs                 == cs are k changes, whose words are in the five lists as far as these have places
 --   putChange xs i c             == the five lists after the words of c went to place i of each
---   filled c xs k                == the five lists after the changes c 0 to c (k - 1) went there, each to its own place
+--   laidAll c xs k               == the five lists after the changes c 0 to c (k - 1) went there, each to its own place
 --   verdict r                    == an Edited as a verdict
 --   Leaves n r ts hs ws fs       == where r tells a count, the three lists hold the edges fs below it
 use mathlib.Core.Path.{_≡_}
@@ -42,9 +42,9 @@ pub record Laid (k : ℕ) (cs : List Change) (xs : List ℕ) : Type 0 where
 abbrev pub putChange : List ℕ → ℕ → Change → List ℕ
 putChange xs i c = set (set (set (set (set xs i (c .kind)) (maxBatch + i) (c .tail)) (2 * maxBatch + i) (c .head)) (3 * maxBatch + i) (c .weight)) (4 * maxBatch + i) (c .old)
 
-abbrev pub filled : (ℕ → Change) → List ℕ → ℕ → List ℕ
-filled c xs zero = xs
-filled c xs (suc i) = putChange (filled c xs i) i (c i)
+abbrev pub laidAll : (ℕ → Change) → List ℕ → ℕ → List ℕ
+laidAll c xs zero = xs
+laidAll c xs (suc i) = putChange (laidAll c xs i) i (c i)
 
 -- ---- the scratch table
 

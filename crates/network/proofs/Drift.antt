@@ -18,7 +18,7 @@ use Rattle.graph.proofs.Order.{Sound, rules-accept, within}
 use Rattle.theory.specs.Best.{Weighed}
 use Rattle.theory.proofs.Drift.{moved-retuned, answered-route, moved-near, moves-near, retuned-near, zone-moves, zone-retuned}
 use Rattle.network.specs.Network.{Network, faults}
-use Rattle.network.specs.Change.{Change, named, struck, updates, edit, item, items}
+use Rattle.network.specs.Change.{Change, brought, struck, updates, edit, item, items}
 use Rattle.network.specs.Batch.{longBatch}
 use Rattle.network.specs.Current.{turnedBack, after}
 use Rattle.network.specs.History.{moment, edgesNow}
@@ -79,20 +79,20 @@ words-near d n ls w g bs cs m =
 update-moved : (d n : ℕ) (es : List Edge) (c : Change) → Sound n es → Taken n es c → updates c ≡ true → Near d (c .old) (c .weight) → Moved d es (edit es c)
 update-moved d n es c s t u near = record {
   old = struck c;
-  new = named c;
-  pair = ends-pair (struck c) (named c) refl refl;
+  new = brought c;
+  pair = ends-pair (struck c) (brought c) refl refl;
   near = rw u near;
   gone = there;
-  come = arrived (named c) (rw (same-own (named c)));
-  kept = λ e m. by-test (same e (struck c)) (λ q. inl (same-eq e (struck c) q)) (λ q. inr (arrived e (or-right (same e (named c)) (and-true (mem-among m) (ap not q)))));
-  back = λ e m. by-test (same e (named c)) (λ q. inl (same-eq e (named c) q))
+  come = arrived (brought c) (rw (same-own (brought c)));
+  kept = λ e m. by-test (same e (struck c)) (λ q. inl (same-eq e (struck c) q)) (λ q. inr (arrived e (or-right (same e (brought c)) (and-true (mem-among m) (ap not q)))));
+  back = λ e m. by-test (same e (brought c)) (λ q. inl (same-eq e (brought c) q))
       (λ q. inr (among-mem es e (both (among es e) (not (same e (struck c))) (rw q at (sym (updated n es s c e u) ∙ mem-among m)) .0)));
 }
   where
     there : List·Memᴰ (struck c) es
     there = among-mem es (struck c) (t .present (update-kind c u))
 
-    arrived : (e : Edge) → (same e (named c) || (among es e && not (same e (struck c)))) ≡ true → List·Memᴰ e (edit es c)
+    arrived : (e : Edge) → (same e (brought c) || (among es e && not (same e (struck c)))) ≡ true → List·Memᴰ e (edit es c)
     arrived e h = among-mem (edit es c) e (updated n es s c e u ∙ h)
 
 -- The network after the update is the one before it with one weight moved.

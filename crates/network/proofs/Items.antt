@@ -17,7 +17,7 @@ use Rattle.graph.proofs.Edges.{same-own}
 use Rattle.graph.proofs.Sorted.{length-insert, insert-sorted, delete-sorted}
 use Rattle.graph.proofs.Order.{table-ordered, Sound, rules-accept, accept-rules}
 use Rattle.graph.proofs.Keeps.{among-delete}
-use Rattle.network.specs.Change.{Change, named, struck, inserts, deletes, updates, comes, edit, edits, words, against, item, items}
+use Rattle.network.specs.Change.{Change, brought, struck, inserts, deletes, updates, comes, edit, edits, words, against, item, items}
 use Rattle.network.specs.Batch.{column, rewritten}
 
 pub refuse-if : {b : Bool} {k i : ℕ} → b ≡ true → refuseIf b k i ≡ refuse k i
@@ -35,9 +35,9 @@ chain-accept a b d j k l i h =
 
 pub record Taken (n : ℕ) (es : List Edge) (c : Change) : Type 0 where
   -- numbers 6, 8 and 9
-  pub fits : isEdge n (named c) ≡ true
+  pub fits : isEdge n (brought c) ≡ true
   -- 10
-  pub absent : comes c ≡ true → among es (named c) ≡ false
+  pub absent : comes c ≡ true → among es (brought c) ≡ false
   -- 11
   pub present : inserts c ≡ false → among es (struck c) ≡ true
   -- 12
@@ -53,7 +53,7 @@ item-taken n i es c h =
     let f = chain-accept _ _ _ _ _ _ i (o .1) in
     let u = f .0 in
     let v = f .1 in
-    let ten : (comes c && among es (named c)) ≡ false = search in
+    let ten : (comes c && among es (brought c)) ≡ false = search in
     let eleven : (not (inserts c) && not (among es (struck c))) ≡ false = search in
     let z = both (ltb (c .tail) n) (ltb (c .head) n) (not-false _ (if-accept _ _ _ (a .0))) in
     let x = both (isWeight (c .weight)) _ (not-false _ (if-accept _ _ _ (d .1))) in
@@ -74,11 +74,11 @@ pub delete-kind : (c : Change) → deletes c ≡ true → (inserts c ≡ false) 
 delete-kind c h = let k = eqb-true (c .kind) 2 h in (ap (λ k. eqb k 1) k, ap (λ k. eqb k 3) k)
 
 module _ (es : List Edge) (c : Change) where
-  pub edit-insert : inserts c ≡ true → edit es c ≡ insert (named c) es
+  pub edit-insert : inserts c ≡ true → edit es c ≡ insert (brought c) es
   unfolding edit
   edit-insert p = rw p
 
-  pub edit-update : updates c ≡ true → edit es c ≡ update (struck c) (named c) es
+  pub edit-update : updates c ≡ true → edit es c ≡ update (struck c) (brought c) es
   unfolding edit
   edit-update p = rw (update-kind c p, p)
 
@@ -95,15 +95,15 @@ length-struck e [] h = absurd (false≢true h)
 length-struck e (x ∷ es) h = by-test (same e x) (λ q. rw q) (λ q. rw q (ap suc (length-struck e es (rw q at h))))
 
 -- an update by the same weight names one edge twice
-pub same-struck : (c : Change) → updates c ≡ true → c .old ≡ c .weight → struck c ≡ named c
+pub same-struck : (c : Change) → updates c ≡ true → c .old ≡ c .weight → struck c ≡ brought c
 same-struck c u q = rw (u, q)
 
 module _ (n : ℕ) (es : List Edge) (c : Change) (t : Taken n es c) (s : Sound n es) where
   -- What an update leaves is not there once its old edge is struck: it was not there before, by number 10, or it is that edge.
-  pub update-clears : updates c ≡ true → among (delete (struck c) es) (named c) ≡ false
-  update-clears u = among-delete n es s (struck c) (named c) ∙ by-test (eqb (c .weight) (c .old))
-      (λ q. and-false (among es (named c)) _ (inr (ap (λ (e : Edge). not (same (named c) e)) (same-struck c u (sym (eqb-true _ _ q))) ∙ ap not (same-own (named c)))))
-      (λ q. and-false (among es (named c)) _ (inl (t .absent (or-right (inserts c) (and-true u (ap not q))))))
+  pub update-clears : updates c ≡ true → among (delete (struck c) es) (brought c) ≡ false
+  update-clears u = among-delete n es s (struck c) (brought c) ∙ by-test (eqb (c .weight) (c .old))
+      (λ q. and-false (among es (brought c)) _ (inr (ap (λ (e : Edge). not (same (brought c) e)) (same-struck c u (sym (eqb-true _ _ q))) ∙ ap not (same-own (brought c)))))
+      (λ q. and-false (among es (brought c)) _ (inl (t .absent (or-right (inserts c) (and-true u (ap not q))))))
 
   -- An accepted insert names an edge that is not there: put in at its place it keeps the order. What an update leaves is an edge too, and is not there
   -- once its old edge is struck. A delete strikes an edge, which keeps the order.
@@ -111,17 +111,17 @@ module _ (n : ℕ) (es : List Edge) (c : Change) (t : Taken n es c) (s : Sound n
   edit-sound =
       let less = delete-sorted table-ordered (isEdge n) (struck c) es s in
       by-test (inserts c)
-      (λ p. rw (edit-insert es c p) (insert-sorted table-ordered (isEdge n) (named c) es s (t .fits) (t .absent (rw p))))
+      (λ p. rw (edit-insert es c p) (insert-sorted table-ordered (isEdge n) (brought c) es s (t .fits) (t .absent (rw p))))
       (λ p. by-test (updates c)
-      (λ q. rw (edit-update es c q) (insert-sorted table-ordered (isEdge n) (named c) (delete (struck c) es) less (t .fits) (update-clears q)))
+      (λ q. rw (edit-update es c q) (insert-sorted table-ordered (isEdge n) (brought c) (delete (struck c) es) less (t .fits) (update-clears q)))
       (λ q. rw (edit-delete es c p q) less))
 
   -- an insert adds one edge, by number 12 to fewer than 2,048; an update leaves as many as there were, a delete one less
   pub edit-length : length es ≤ maxEdges → length (edit es c) ≤ maxEdges
   edit-length l = by-test (inserts c)
-      (λ p. let q = t .room p in let r = length-insert tableOrder (named c) es in rw (edit-insert es c p) (omega arith))
+      (λ p. let q = t .room p in let r = length-insert tableOrder (brought c) es in rw (edit-insert es c p) (omega arith))
       (λ p. let k = length-struck (struck c) es (t .present p) in by-test (updates c)
-      (λ q. let r = length-insert tableOrder (named c) (delete (struck c) es) in rw (edit-update es c q) (omega arith))
+      (λ q. let r = length-insert tableOrder (brought c) (delete (struck c) es) in rw (edit-update es c q) (omega arith))
       (λ q. rw (edit-delete es c p q) (omega arith)))
 
 pub item-good : (n i : ℕ) (es : List Edge) (c : Change) → item n i es c ≡ accept → Sound n es → length es ≤ maxEdges

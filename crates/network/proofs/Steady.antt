@@ -27,7 +27,7 @@ use Rattle.affected.specs.Prepared.{cleared, reopened, prepared}
 use Rattle.affected.proofs.Net.{Weighs, rules-weigh, weighs-reverse, kept-stays}
 use Rattle.affected.proofs.Hunt.{unaffected-unmarked}
 use Rattle.network.specs.Network.{Network, edgesIn, rowCount, shortRows, landmarks, faults, row, propertyOf, landmarkOf, rowsOf, flat, unsettled, storesOf}
-use Rattle.network.specs.Change.{Change, named, updates, edit, words, against, item, items}
+use Rattle.network.specs.Change.{Change, brought, updates, edit, words, against, item, items}
 use Rattle.network.specs.Batch.{batchRow, batchRows, affectedOver, rewritten, newForward, newBackward, batchFaults, batchVerdict, batchMemory, report, batchCall}
 use Rattle.network.specs.Settled.{settled, Check, inRecords, inRows, check, settledCall}
 use Rattle.network.specs.Caller.{reported, handOn}
@@ -196,15 +196,15 @@ empty-batch n ls w h = (
 
 -- ---- an update by the weight that is there
 
-own-item : (n : ℕ) (es : List Edge) → rules n es ≡ accept → (c : Change) → updates c ≡ true → c .old ≡ c .weight → List·Memᴰ (named c) es → item n 0 es c ≡ accept
+own-item : (n : ℕ) (es : List Edge) → rules n es ≡ accept → (c : Change) → updates c ≡ true → c .old ≡ c .weight → List·Memᴰ (brought c) es → item n 0 es c ≡ accept
 unfolding item words against _▷_ refuseIf
 own-item n es h c u o m =
-    let f = sound-fit n es (rules-accept n es h) (named c) m in
+    let f = sound-fit n es (rules-accept n es h) (brought c) m in
     let k : c .kind ≡ 3 = eqb-true _ _ u in
     rw (k, o, lt-ltb (c .tail) n (f .tail-below), lt-ltb (c .head) n (f .head-below), ne-eqb (c .tail) (c .head) (f .no-loop), lt-ltb 0 (c .weight) (f .some-weight), le-leb (c .weight) maxWeight (f .weight-most), eq-eqb (c .weight) (c .weight) refl, mem-among m)
 
-own-edit : (n : ℕ) (es : List Edge) → rules n es ≡ accept → (c : Change) → updates c ≡ true → c .old ≡ c .weight → List·Memᴰ (named c) es → edit es c ≡ es
-own-edit n es h c u o m = edit-update es c u ∙ ap (λ e. update e (named c) es) (same-struck c u o) ∙ update-own n es (rules-accept n es h) (named c) m
+own-edit : (n : ℕ) (es : List Edge) → rules n es ≡ accept → (c : Change) → updates c ≡ true → c .old ≡ c .weight → List·Memᴰ (brought c) es → edit es c ≡ es
+own-edit n es h c u o m = edit-update es c u ∙ ap (λ e. update e (brought c) es) (same-struck c u o) ∙ update-own n es (rules-accept n es h) (brought c) m
 
 -- The update is accepted and leaves the edges as they are, as no change does; and nothing else of a batch goes into its outcome.
 pub own-weight : OwnWeight

@@ -15,7 +15,7 @@ use Rattle.graph.proofs.Keeps.{ahead-mem}
 use Rattle.graph.proofs.Simple.{simple-once, precedes-pair, insert-pair}
 use Rattle.network.specs.Change.{Change, struck, comes, edit, edits, words, against, item, items}
 use Rattle.network.proofs.Items.{refuse-if, Taken, item-taken}
-use Rattle.network.specs.Upgrade.{Before, namedBefore, paired, wordsBefore, againstBefore, itemBefore, reweigh, editBefore, editsBefore, itemsBefore, weightNamed, renamed, renamedAll, OrderConserved, BatchConserved}
+use Rattle.network.specs.Upgrade.{ChangeBefore, edgeBefore, paired, wordsBefore, againstBefore, itemBefore, reweigh, editBefore, editsBefore, itemsBefore, weightNamed, renamed, renamedAll, OrderConserved, BatchConserved}
 
 -- ---- the order by pair keeps the laws: it is the table's order of edges without their weights
 
@@ -154,12 +154,12 @@ module _ (t : Edge → Bool) where
 
 -- ---- a change
 
-module _ (n : ℕ) (es : List Edge) (h : Sorted pairOrder (isEdge n) es) (c : Before) where
+module _ (n : ℕ) (es : List Edge) (h : Sorted pairOrder (isEdge n) es) (c : ChangeBefore) where
   abbrev now : Change
   now = renamed es c
 
-  stands : isWeight (weightNamed es (namedBefore c)) ≡ true
-  stands = pair-edge-weighs n es h (namedBefore c)
+  stands : isWeight (weightNamed es (edgeBefore c)) ≡ true
+  stands = pair-edge-weighs n es h (edgeBefore c)
 
   -- what number 9 asks of its weights
   weighed : (isWeight (now .weight) && cond (eqb (c .kind) 3) (isWeight (now .old)) (eqb (now .old) 0)) ≡ cond (eqb (c .kind) 2) (eqb (c .weight) 0) (isWeight (c .weight))
@@ -184,17 +184,17 @@ module _ (n : ℕ) (es : List Edge) (h : Sorted pairOrder (isEdge n) es) (c : Be
       (λ p. by-test (eqb (c .kind) 2) (λ q. g (eqb-true (c .kind) 2 q) (eqb-true (c .weight) 0 (rw q at y))) (λ q. k (eqb-true (c .kind) 3 (rw (p, q) at x))))
 
   -- an update brings no edge that stands: its pair stands with its own weight alone
-  own-weight : (not (eqb (c .weight) (weightNamed es (namedBefore c))) && among es (namedBefore c)) ≡ false
-  own-weight = by-test (among es (namedBefore c))
-      (λ m. let p = pair-edge-own es (sorted-distinct pairs-ordered (isEdge n) es h) (namedBefore c) m in rw (m, eq-eqb (c .weight) (weightNamed es (namedBefore c)) (sym p)))
-      (λ m. rw m (and-false (not (eqb (c .weight) (weightNamed es (namedBefore c)))) false (inr refl)))
+  own-weight : (not (eqb (c .weight) (weightNamed es (edgeBefore c))) && among es (edgeBefore c)) ≡ false
+  own-weight = by-test (among es (edgeBefore c))
+      (λ m. let p = pair-edge-own es (sorted-distinct pairs-ordered (isEdge n) es h) (edgeBefore c) m in rw (m, eq-eqb (c .weight) (weightNamed es (edgeBefore c)) (sym p)))
+      (λ m. rw m (and-false (not (eqb (c .weight) (weightNamed es (edgeBefore c)))) false (inr refl)))
 
-  against-conserved : (i : ℕ) → wordsBefore n i c ≡ accept → (eqb (c .kind) 1 && paired es (namedBefore c)) ≡ false → against i es now ≡ againstBefore i es c
+  against-conserved : (i : ℕ) → wordsBefore n i c ≡ accept → (eqb (c .kind) 1 && paired es (edgeBefore c)) ≡ false → against i es now ≡ againstBefore i es c
   unfolding against againstBefore
   against-conserved i w d = by-kind i w
-      (λ k. let g : paired es (namedBefore c) ≡ false = rw k at d in rw (k, pair-gone es (namedBefore c) (c .weight) g, g))
+      (λ k. let g : paired es (edgeBefore c) ≡ false = rw k at d in rw (k, pair-gone es (edgeBefore c) (c .weight) g, g))
       (λ k z. rw (k, z, among-pair-edge es (edge (c .tail) (c .head) 0)))
-      (λ k. rw (k, own-weight, among-pair-edge es (namedBefore c)))
+      (λ k. rw (k, own-weight, among-pair-edge es (edgeBefore c)))
 
   -- number 10 is not what turns it back
   item-conserved : (i : ℕ) → ((j : ℕ) → itemBefore n i es c ≢ refuse 10 j) → item n i es now ≡ itemBefore n i es c
@@ -210,37 +210,37 @@ module _ (n : ℕ) (es : List Edge) (h : Sorted pairOrder (isEdge n) es) (c : Be
     taken : Taken n es now
     taken = item-taken n i es now (item-conserved i judged ∙ a)
 
-    parts : (wordsBefore n i c ≡ accept) × ((eqb (c .kind) 1 && paired es (namedBefore c)) ≡ false)
+    parts : (wordsBefore n i c ≡ accept) × ((eqb (c .kind) 1 && paired es (edgeBefore c)) ≡ false)
     unfolding itemBefore againstBefore
     parts =
         let z = then-accept (wordsBefore n i c) (againstBefore i es c) a in
-        (z .0, if-accept _ 10 i ((then-accept (refuseIf (eqb (c .kind) 1 && paired es (namedBefore c)) 10 i) _ (z .1)) .0))
+        (z .0, if-accept _ 10 i ((then-accept (refuseIf (eqb (c .kind) 1 && paired es (edgeBefore c)) 10 i) _ (z .1)) .0))
 
     -- the pair of an update stands, by number 11
-    update-stands : c .kind ≡ 3 → paired es (namedBefore c) ≡ true
-    update-stands k = sym (among-pair-edge es (namedBefore c)) ∙ (rw k at (taken .present (rw k)))
+    update-stands : c .kind ≡ 3 → paired es (edgeBefore c) ≡ true
+    update-stands k = sym (among-pair-edge es (edgeBefore c)) ∙ (rw k at (taken .present (rw k)))
 
     edit-conserved : edit es now ≡ editBefore es c
     unfolding edit editBefore
     edit-conserved = by-kind i (parts .0)
-        (λ k. rw k (insert-pair (namedBefore c) es (rw k at (parts .1))))
+        (λ k. rw k (insert-pair (edgeBefore c) es (rw k at (parts .1))))
         (λ k z. rw (k, z) (delete-pair-edge es (edge (c .tail) (c .head) 0)))
-        (λ k. rw k (update-conserved (isEdge n) (namedBefore c) es h (update-stands k)))
+        (λ k. rw k (update-conserved (isEdge n) (edgeBefore c) es h (update-stands k)))
 
     edit-sorted : Sorted pairOrder (isEdge n) (editBefore es c)
     unfolding editBefore
     edit-sorted = by-kind i (parts .0)
-        (λ k. rw k (insert-sorted pairs-ordered (isEdge n) (namedBefore c) es h (rw k at (taken .fits)) (rw k at (parts .1))))
-        (λ k z. rw k (delete-sorted pairs-ordered (isEdge n) (namedBefore c) es h))
-        (λ k. rw k (reweigh-sorted (isEdge n) (namedBefore c) es h (rw k at (taken .fits))))
+        (λ k. rw k (insert-sorted pairs-ordered (isEdge n) (edgeBefore c) es h (rw k at (taken .fits)) (rw k at (parts .1))))
+        (λ k z. rw k (delete-sorted pairs-ordered (isEdge n) (edgeBefore c) es h))
+        (λ k. rw k (reweigh-sorted (isEdge n) (edgeBefore c) es h (rw k at (taken .fits))))
 
 -- ---- changes
 
-abbrev Conserved : ℕ → ℕ → List Edge → List Before → Type 0
+abbrev Conserved : ℕ → ℕ → List Edge → List ChangeBefore → Type 0
 Conserved n i es cs = (items n i es (renamedAll es cs) ≡ itemsBefore n i es cs)
     × (itemsBefore n i es cs ≡ accept → (edits es (renamedAll es cs) ≡ editsBefore es cs) × Sorted pairOrder (isEdge n) (editsBefore es cs))
 
-items-conserved : (n i : ℕ) (es : List Edge) (cs : List Before) → Sorted pairOrder (isEdge n) es → ((j : ℕ) → itemsBefore n i es cs ≢ refuse 10 j) → Conserved n i es cs
+items-conserved : (n i : ℕ) (es : List Edge) (cs : List ChangeBefore) → Sorted pairOrder (isEdge n) es → ((j : ℕ) → itemsBefore n i es cs ≢ refuse 10 j) → Conserved n i es cs
 unfolding items itemsBefore renamedAll
 items-conserved n i es [] h d = (refl, λ a. (refl, h))
 items-conserved n i es (c ∷ cs) h d =

@@ -1,14 +1,14 @@
 -- The changes of a batch: document 01, "Batch" and numbers 6 to 12; document 02, One and Five. Assumes nothing.
 --
 --   Change              == a change record: kind (1 add, 2 take, 3 update), tail, head, weight, old weight; an add inserts, a take deletes
---   named c             == the edge of a change's tail, head and weight: the one that an insert puts in, and that an update leaves
+--   brought c           == the edge of a change's tail, head and weight: the one that an insert puts in, and that an update leaves
 --   struck c            == the edge that a delete or an update names: an update by its old weight, a delete by its weight
 --   inserts c           == c is of kind 1
 --   deletes c           == c is of kind 2
 --   updates c           == c is of kind 3
 --   edit es c           == the edges after a change: an insert puts in its edge, an update sets the weight of the one it names, a delete strikes
 --                          that one; the list stays in table order
---   comes c             == c brings an edge that may not be there: an insert, or an update to another weight
+--   comes c             == c brings an edge that must not be there yet: an insert, or an update to another weight
 --   edits es cs         == the edges after changes, in order
 --   words n i c         == numbers 6 to 9 of the change c, at place i: those of its own words
 --   against i es c      == numbers 10 to 12: those against the edges es
@@ -31,8 +31,8 @@ pub record Change : Type 0 where
   pub weight : ℕ
   pub old : ℕ
 
-abbrev pub named : Change → Edge
-named c = edge (c .tail) (c .head) (c .weight)
+abbrev pub brought : Change → Edge
+brought c = edge (c .tail) (c .head) (c .weight)
 
 abbrev pub inserts : Change → Bool
 inserts c = eqb (c .kind) 1
@@ -47,7 +47,7 @@ abbrev pub struck : Change → Edge
 struck c = edge (c .tail) (c .head) (cond (updates c) (c .old) (c .weight))
 
 unfoldable pub edit : List Edge → Change → List Edge
-edit es c = cond (inserts c) (insert (named c) es) (cond (updates c) (update (struck c) (named c) es) (delete (struck c) es))
+edit es c = cond (inserts c) (insert (brought c) es) (cond (updates c) (update (struck c) (brought c) es) (delete (struck c) es))
 
 abbrev pub edits : List Edge → List Change → List Edge
 edits es cs = foldl edit es cs
@@ -65,7 +65,7 @@ comes c = inserts c || (updates c && not (eqb (c .weight) (c .old)))
 
 unfoldable pub against : ℕ → List Edge → Change → Verdict
 against i es c =
-    refuseIf (comes c && among es (named c)) 10 i
+    refuseIf (comes c && among es (brought c)) 10 i
     ▷ refuseIf (not (inserts c) && not (among es (struck c))) 11 i
     ▷ refuseIf (inserts c && not (ltb (length es) maxEdges)) 12 i
 

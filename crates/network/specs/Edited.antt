@@ -2,9 +2,9 @@
 -- network as it is now" ("the list stays in table order"). Assumes nothing.
 --
 --   ofPair c w   == the edge from the tail to the head of the change c, of weight w
---   EditExact    == after a change that is accepted, the edges keep the table's rules. An edge x is among them where it was among them before, or is
---                   the one of an add; where it was there and is not the one that a take names; where it is the one that an update leaves, or was there and
---                   is not the one that it names by its old weight. So a take strikes the edge that it names and no other: proved as edit-exact
+--   EditExact    == after a change that is accepted the edges keep the table's rules. After an add an edge is there exactly where it is the add's or was there;
+--                   after a take, exactly where it was there and is not the one named; after an update, exactly where it is that of the new weight, or was
+--                   there and is not that of the old. So a take strikes the edge that it names and no other: proved as edit-exact
 --   PresentFirst == an update to another weight, which the pair has already, is number 10, whether the old one is there or not: proved as present-first
 use mathlib.Core.Path.{_≡_}
 use mathlib.Core.Logic.{_≢_}

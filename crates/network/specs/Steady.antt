@@ -23,7 +23,7 @@ use Rattle.graph.specs.Limits.{maxEdges}
 use Rattle.graph.specs.Refusal.{accept, accepted}
 use Rattle.network.specs.Network.{Memory, Network, edgesIn, rowCount, faults}
 use Rattle.network.specs.Open.{openCall}
-use Rattle.network.specs.Change.{Change, named, updates}
+use Rattle.network.specs.Change.{Change, brought, updates}
 use Rattle.network.specs.Batch.{Report, batchCall}
 use Rattle.network.specs.Settled.{settled, settledCall}
 use Rattle.network.specs.Caller.{handOn}
@@ -63,7 +63,7 @@ EmptyBatch = (n : ℕ) (ls : List ℕ) (w : Network) → faults n ls w ≡ accep
 
 -- "its own present figure changes nothing"
 abbrev pub OwnWeight : Type 0
-OwnWeight = (n : ℕ) (ls : List ℕ) (w : Network) → faults n ls w ≡ accept → (c : Change) → updates c ≡ true → c .old ≡ c .weight → List·Memᴰ (named c) (edgesIn w)
+OwnWeight = (n : ℕ) (ls : List ℕ) (w : Network) → faults n ls w ≡ accept → (c : Change) → updates c ≡ true → c .old ≡ c .weight → List·Memᴰ (brought c) (edgesIn w)
     → batchCall n ls w (c ∷ []) ≡ batchCall n ls w []
 
 -- ---- the settled check

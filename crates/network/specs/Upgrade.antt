@@ -1,9 +1,9 @@
--- Where no pair stands twice, all is as it was: document 02, Five, beside what stood before it. Before: documents 01 and One alone, where a table ascends
+-- Where no pair stands twice: the rules of a table and the changes of a batch by document 02, Five, beside what stood before it. Before: documents 01 and One alone, where a table ascends
 -- "by tail, then head" and "no pair stands twice", a take has figure 0 and an update names no old one. Assumes nothing.
 --
 --   rulesBefore n es      == the table's rules before: number 4 at the first index whose record breaks them
---   Before                == a change record before: kind, tail, head, weight
---   namedBefore c         == the edge of its tail, head and weight
+--   ChangeBefore          == a change record before: kind, tail, head, weight
+--   edgeBefore c          == the edge of its tail, head and weight
 --   paired es e           == the pair of e stands in es
 --   wordsBefore n i c     == numbers 6 to 9 before: the weight of a take is 0, and any other 1 to 65,535
 --   againstBefore i es c  == numbers 10 to 12 before: by the pair
@@ -44,47 +44,47 @@ rulesBefore n es = order.rules pairOrder (isEdge n) es
 
 -- ---- changes before
 
-pub record Before : Type 0 where
+pub record ChangeBefore : Type 0 where
   pub kind : ℕ
   pub tail : ℕ
   pub head : ℕ
   pub weight : ℕ
 
-abbrev pub namedBefore : Before → Edge
-namedBefore c = edge (c .tail) (c .head) (c .weight)
+abbrev pub edgeBefore : ChangeBefore → Edge
+edgeBefore c = edge (c .tail) (c .head) (c .weight)
 
 abbrev pub paired : List Edge → Edge → Bool
 paired es e = order.has pairOrder es e
 
-unfoldable pub wordsBefore : ℕ → ℕ → Before → Verdict
+unfoldable pub wordsBefore : ℕ → ℕ → ChangeBefore → Verdict
 wordsBefore n i c =
     refuseIf (not (ltb (c .tail) n && ltb (c .head) n)) 6 i
     ▷ refuseIf (not (eqb (c .kind) 1 || (eqb (c .kind) 2 || eqb (c .kind) 3))) 7 i
     ▷ refuseIf (eqb (c .tail) (c .head)) 8 i
     ▷ refuseIf (not (cond (eqb (c .kind) 2) (eqb (c .weight) 0) (isWeight (c .weight)))) 9 i
 
-unfoldable pub againstBefore : ℕ → List Edge → Before → Verdict
+unfoldable pub againstBefore : ℕ → List Edge → ChangeBefore → Verdict
 againstBefore i es c =
-    refuseIf (eqb (c .kind) 1 && paired es (namedBefore c)) 10 i
-    ▷ refuseIf (not (eqb (c .kind) 1) && not (paired es (namedBefore c))) 11 i
+    refuseIf (eqb (c .kind) 1 && paired es (edgeBefore c)) 10 i
+    ▷ refuseIf (not (eqb (c .kind) 1) && not (paired es (edgeBefore c))) 11 i
     ▷ refuseIf (eqb (c .kind) 1 && not (ltb (length es) maxEdges)) 12 i
 
-unfoldable pub itemBefore : ℕ → ℕ → List Edge → Before → Verdict
+unfoldable pub itemBefore : ℕ → ℕ → List Edge → ChangeBefore → Verdict
 itemBefore n i es c = wordsBefore n i c ▷ againstBefore i es c
 
 unfoldable pub reweigh : Edge → List Edge → List Edge
 reweigh e [] = []
 reweigh e (x ∷ es) = cond (samePair e x) (e ∷ es) (x ∷ reweigh e es)
 
-unfoldable pub editBefore : List Edge → Before → List Edge
+unfoldable pub editBefore : List Edge → ChangeBefore → List Edge
 editBefore es c =
-    cond (eqb (c .kind) 1) (order.insert pairOrder (namedBefore c) es)
-    (cond (eqb (c .kind) 3) (reweigh (namedBefore c) es) (order.delete pairOrder (namedBefore c) es))
+    cond (eqb (c .kind) 1) (order.insert pairOrder (edgeBefore c) es)
+    (cond (eqb (c .kind) 3) (reweigh (edgeBefore c) es) (order.delete pairOrder (edgeBefore c) es))
 
-abbrev pub editsBefore : List Edge → List Before → List Edge
+abbrev pub editsBefore : List Edge → List ChangeBefore → List Edge
 editsBefore es cs = foldl editBefore es cs
 
-unfoldable pub itemsBefore : ℕ → ℕ → List Edge → List Before → Verdict
+unfoldable pub itemsBefore : ℕ → ℕ → List Edge → List ChangeBefore → Verdict
 itemsBefore n i es [] = accept
 itemsBefore n i es (c ∷ cs) = itemBefore n i es c ▷ itemsBefore n (suc i) (editBefore es c) cs
 
@@ -93,16 +93,16 @@ itemsBefore n i es (c ∷ cs) = itemBefore n i es c ▷ itemsBefore n (suc i) (e
 abbrev pub weightNamed : List Edge → Edge → ℕ
 weightNamed es e = cond (paired es e) (pairWeight es e) 1
 
-abbrev pub renamed : List Edge → Before → Change
+abbrev pub renamed : List Edge → ChangeBefore → Change
 renamed es c = record {
   kind = c .kind;
   tail = c .tail;
   head = c .head;
-  weight = cond (eqb (c .kind) 2) (cond (eqb (c .weight) 0) (weightNamed es (namedBefore c)) 0) (c .weight);
-  old = cond (eqb (c .kind) 3) (weightNamed es (namedBefore c)) 0;
+  weight = cond (eqb (c .kind) 2) (cond (eqb (c .weight) 0) (weightNamed es (edgeBefore c)) 0) (c .weight);
+  old = cond (eqb (c .kind) 3) (weightNamed es (edgeBefore c)) 0;
 }
 
-unfoldable pub renamedAll : List Edge → List Before → List Change
+unfoldable pub renamedAll : List Edge → List ChangeBefore → List Change
 renamedAll es [] = []
 renamedAll es (c ∷ cs) = renamed es c ∷ renamedAll (editBefore es c) cs
 
@@ -113,7 +113,7 @@ OrderConserved = (n : ℕ) (es : List Edge) → Simple es → rulesBefore n es �
 
 -- an add of a pair that stands, number 10 before, may be an add of a twin now
 abbrev pub BatchConserved : Type 0
-BatchConserved = (n i : ℕ) (es : List Edge) (cs : List Before) → rulesBefore n es ≡ accept → ((j : ℕ) → itemsBefore n i es cs ≢ refuse 10 j)
+BatchConserved = (n i : ℕ) (es : List Edge) (cs : List ChangeBefore) → rulesBefore n es ≡ accept → ((j : ℕ) → itemsBefore n i es cs ≢ refuse 10 j)
     → (items n i es (renamedAll es cs) ≡ itemsBefore n i es cs)
     × (itemsBefore n i es cs ≡ accept
     → (edits es (renamedAll es cs) ≡ editsBefore es cs) × (rulesBefore n (editsBefore es cs) ≡ accept) × Simple (editsBefore es cs))

@@ -11,7 +11,7 @@ use Rattle.graph.proofs.Tests.{both, and-true, or-false}
 use Rattle.graph.proofs.Lists.{replicate-at}
 use Rattle.affected.specs.Net.{counterpart, lost, removed}
 use Rattle.affected.specs.Affected.{held, marked}
-use Rattle.compare.specs.Code.{before, after, pairs, Lists}
+use Rattle.compare.specs.Code.{before, after, changesIn, Lists}
 use Rattle.hunt.specs.Code.{fromEnd, Shut}
 use Rattle.prepare.specs.Code.{edgeLost, Raised, Started}
 
@@ -43,7 +43,7 @@ unmarked e t q = false≢true (sym (replicate-at capacity t false) ∙ rw e at q
 
 -- Where no vertex is marked, an edge marks its head if it is held and removed: then it is listed, so that its tail is to do.
 pub start-shut : {P : Property} (L : Laws P) {n : ℕ} {es fs : List Edge} {gs gs′ : List Bool} (s : ℕ) (vs is xs : List ℕ) {bs : List Bool} → Own n is es
-    → Lists es fs (pairs xs) (before xs) (λ k. after xs k .weight) → length vs ≡ n → bs ≡ replicate capacity false → Raised gs gs′ (Started P s vs xs (pairs xs)) → Shut P n es fs s vs is bs gs′
+    → Lists es fs (changesIn xs) (before xs) (λ k. after xs k .weight) → length vs ≡ n → bs ≡ replicate capacity false → Raised gs gs′ (Started P s vs xs (changesIn xs)) → Shut P n es fs s vs is bs gs′
 start-shut {P} L {n} {es} {fs} s vs is xs o d size clear a u h idle e m q =
     let z = both (held P s vs e) _ q in
     let i = leaving-in u es e (rw (o u h) at m) in

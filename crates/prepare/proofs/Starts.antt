@@ -22,7 +22,7 @@ use Rattle.affected.specs.Net.{added}
 use Rattle.affected.specs.Affected.{marked, affected}
 use Rattle.affected.specs.Prepared.{cleared, reopened, prepared}
 use Rattle.affected.proofs.Closure.{raise-keeps, raise-only}
-use Rattle.compare.specs.Code.{before, after, pairs}
+use Rattle.compare.specs.Code.{before, after, changesIn}
 use Rattle.hunt.proofs.Bits.{bits-all, bits-length, marks-if}
 use Rattle.prepare.specs.Code.{Batched, Raised, Reached, Woken, Entering}
 use Rattle.prepare.proofs.Marking.{listed-lost, lost-listed, unmarked}
@@ -112,7 +112,7 @@ opens P es fs ms t e = eqb (e .tail) t && (marked ms (e .head) || added P es fs 
 -- The added edges' tails are set first, then those of the edges into marked vertices. A bit that is set is of such an edge of the new
 -- list; and each such edge is listed, or stands in the index at its head.
 module _ {P : Property} (L : Laws P) {n : ℕ} {es fs : List Edge} {js is xs : List ℕ} (d : Batched n es fs js is xs) {ms ds : List ℕ} (bs cs : List ℕ) (marks : Marks n ms)
-    (p : waitingOf bs ≡ replicate capacity false) (a : Raised (waitingOf bs) (waitingOf cs) (Woken P xs (pairs xs)))
+    (p : waitingOf bs ≡ replicate capacity false) (a : Raised (waitingOf bs) (waitingOf cs) (Woken P xs (changesIn xs)))
     (b : Raised (waitingOf cs) (waitingOf ds) (λ t. (v : ℕ) × (marked (waitingOf ms) v ≡ true) × Entering is (getD is v 0) (getD is (v + 1) 0) t)) (fine : Marks n ds) where
   sound : (t : ℕ) → marked (waitingOf ds) t ≡ true → exists (opens P es fs (bits n ms) t) fs ≡ true
   sound t h =

@@ -17,7 +17,7 @@ ghost use Rattle.run.specs.Run.{noTally};
 ghost use Rattle.run.specs.Code.{bits, Marks};
 ghost use Rattle.affected.specs.Affected as spec;
 ghost use Rattle.affected.specs.Prepared as start;
-ghost use Rattle.compare.specs.Code.{before, after, pairs, Inside, Faces};
+ghost use Rattle.compare.specs.Code.{before, after, changesIn, Inside, Faces};
 ghost use Rattle.hunt.specs.Code.{fromEnd};
 ghost use Rattle.prepare.specs.Code.{Batched, edgeLost, starts, Raised, Started, Woken, Entering};
 
@@ -63,8 +63,8 @@ fn wake_change(p: u32, k: usize, net: &[u32], waiting: &mut Words)
 // The changes of a batch: the tails of the removed edges that hold up their heads are to do, and the tails of the added edges wait.
 fn take_changes(p: u32, s: u32, net: &[u32], words: &[u32], todo: &mut Words, waiting: &mut Words)
     requires { ⌜ Inside (length (now words)) (now net) × Marks (length (now words)) (now todo) × Marks (length (now words)) (now waiting) ⌝ }
-    ensures { λ _. ⌜ Raised (waitingOf (now (todo .entry))) (waitingOf (now (todo .exit))) (Started (property p) s (now (words .entry)) (now (net .entry)) (pairs (now (net .entry)))) × Marks (length (now (words .entry))) (now (todo .exit)) ⌝ }
-    ensures { λ _. ⌜ Raised (waitingOf (now (waiting .entry))) (waitingOf (now (waiting .exit))) (Woken (property p) (now (net .entry)) (pairs (now (net .entry)))) × Marks (length (now (words .entry))) (now (waiting .exit)) ⌝ }
+    ensures { λ _. ⌜ Raised (waitingOf (now (todo .entry))) (waitingOf (now (todo .exit))) (Started (property p) s (now (words .entry)) (now (net .entry)) (changesIn (now (net .entry)))) × Marks (length (now (words .entry))) (now (todo .exit)) ⌝ }
+    ensures { λ _. ⌜ Raised (waitingOf (now (waiting .entry))) (waitingOf (now (waiting .exit))) (Woken (property p) (now (net .entry)) (changesIn (now (net .entry)))) × Marks (length (now (words .entry))) (now (waiting .exit)) ⌝ }
 {
     let size = net.len() / 2;
     let mut k = 0;

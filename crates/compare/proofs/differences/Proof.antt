@@ -5,7 +5,7 @@ use Rattle.compare.proofs.differences.Tie as tie
 
 returns : tie.Need-returns
 returns c =
-    let p = c .before .before .pair-changes .ensures in
+    let p = c .before .before .join-retunes .ensures in
     let l = c .before .before .before .before .before .before in
     let q = l .list-changes .ensures in
     let (n, t) = l .before .before .before .before .before .before .before .before .before .pre .0 in

@@ -1,12 +1,12 @@
 -- `compare::turn` meets its contract. Assumes nothing.
 use Rattle.property.proofs.Basics.{needs, arith, _≡_, refl, _∙_, _+_, _-_, _*_, _<_, _≤_, length, length-set}
-use Rattle.compare.specs.Code.{pairs}
+use Rattle.compare.specs.Code.{changesIn}
 use Rattle.compare.proofs.Reversed.{Turned, turned-none, turned-turn, turned-net, turned-inside}
 use Rattle.compare.proofs.turn.Statement.{statement}
 use Rattle.compare.proofs.turn.Tie as tie
 
 abbrev Inv-loop : tie.InvT-loop
-Inv-loop list₀ size k₀ list k = Turned list₀ list k × (k ≤ size) × (size ≡ pairs list₀)
+Inv-loop list₀ size k₀ list k = Turned list₀ list k × (k ≤ size) × (size ≡ changesIn list₀)
 
 abbrev μ-loop : tie.MeasureT-loop
 μ-loop list₀ size k₀ list k = size - k
@@ -32,8 +32,8 @@ returns : tie.Need-returns Inv-loop μ-loop
 returns c =
     let l = c .before in
     let s = l .before .before in
-    let e : l .loop .k ≡ pairs (s .args .list .now) = omega (arith, l .loop .inv .2, l .loop .inv .1, c .loop-test .left) in
-    let t : Turned (s .args .list .now) (l .loop .list) (pairs (s .args .list .now)) = rw e at (l .loop .inv .0) in
+    let e : l .loop .k ≡ changesIn (s .args .list .now) = omega (arith, l .loop .inv .2, l .loop .inv .1, c .loop-test .left) in
+    let t : Turned (s .args .list .now) (l .loop .list) (changesIn (s .args .list .now)) = rw e at (l .loop .inv .0) in
     (turned-inside _ _ t, turned-net _ _ t)
 
 slice-write-list-2 : tie.Need-slice-write-list-2 Inv-loop μ-loop

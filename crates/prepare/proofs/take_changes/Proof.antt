@@ -3,7 +3,7 @@ use Rattle.property.proofs.Basics.{_-_, _*_, _≤_, arith, length, needs}
 use Rattle.property.specs.Property.{property}
 use Rattle.frontier.specs.Waiting.{waitingOf}
 use Rattle.run.specs.Code.{Marks}
-use Rattle.compare.specs.Code.{pairs}
+use Rattle.compare.specs.Code.{changesIn}
 use Rattle.prepare.specs.Code.{Raised, Started, Woken}
 use Rattle.prepare.proofs.Starts.{raised-none, raised-turn, raised-as}
 use Rattle.prepare.proofs.take_changes.Statement.{statement}
@@ -12,7 +12,7 @@ use Rattle.prepare.proofs.take_changes.Tie as tie
 abbrev Inv-loop : tie.InvT-loop
 Inv-loop p s net words todo₀ waiting₀ size k₀ todo waiting k =
     (Raised (waitingOf todo₀) (waitingOf todo) (Started (property p) s words net k) × Marks (length words) todo)
-    × (Raised (waitingOf waiting₀) (waitingOf waiting) (Woken (property p) net k) × Marks (length words) waiting) × (k ≤ pairs net)
+    × (Raised (waitingOf waiting₀) (waitingOf waiting) (Woken (property p) net k) × Marks (length words) waiting) × (k ≤ changesIn net)
 
 abbrev μ-loop : tie.MeasureT-loop
 μ-loop p s net words todo₀ waiting₀ size k₀ todo waiting k = size - k

@@ -1,7 +1,7 @@
 -- `items::lay::lay` meets its contract: the changes below i are laid. Assumes nothing.
 use Rattle.property.proofs.Basics.{needs, arith, _≡_, refl, ap, _∙_, List, [], ℕ, _+_, _-_, _≤_, length, getD}
 use Rattle.network.specs.Change.{Change}
-use Rattle.items.specs.Code.{changeOf, putChange, filled}
+use Rattle.items.specs.Code.{changeOf, putChange, laidAll}
 use Rattle.items.proofs.Laying.{filled-more, filled-laid, part-length, part-at}
 use Rattle.items.proofs.lay.lay.Statement.{statement}
 use Rattle.items.proofs.lay.lay.Tie as tie
@@ -11,7 +11,7 @@ abbrev from-on : List (List ℕ) → ℕ → ℕ → Change
 from-on changes from i = changeOf (getD changes (from + i) [])
 
 abbrev Inv-loop : tie.InvT-loop
-Inv-loop changes from size lists₀ most i₀ lists i = (lists ≡ filled (from-on changes from) lists₀ i) × (i ≤ most) × (length lists ≡ length lists₀)
+Inv-loop changes from size lists₀ most i₀ lists i = (lists ≡ laidAll (from-on changes from) lists₀ i) × (i ≤ most) × (length lists ≡ length lists₀)
 
 abbrev μ-loop : tie.MeasureT-loop
 μ-loop changes from size lists₀ most i₀ lists i = most - i

@@ -1,8 +1,8 @@
--- `compare::pair_changes` meets its contract: the changes are gone over one by one. Assumes nothing.
+-- `compare::join_retunes` meets its contract: the changes are gone over one by one. Assumes nothing.
 use Rattle.property.proofs.Basics.{needs, arith, _≡_, _-_, _*_, _≤_, length}
 use Rattle.compare.proofs.Joining.{Joined, joined-none, joined-step, joined-differences, joined-inside}
-use Rattle.compare.proofs.pair_changes.Statement.{statement}
-use Rattle.compare.proofs.pair_changes.Tie as tie
+use Rattle.compare.proofs.join_retunes.Statement.{statement}
+use Rattle.compare.proofs.join_retunes.Tie as tie
 
 abbrev Inv-loop : tie.InvT-loop
 Inv-loop list₀ size k₀ list k = Joined list₀ list size k × (k ≤ size)
@@ -15,7 +15,7 @@ loop-again c =
     let t = c .before .before .before .before in
     let l = t .before in
     let s = l .before .before in
-    (rw (c .before .before .pair-change .ensures) (joined-step (s .args .list .now) (l .loop .list) (s .args .size) (l .loop .k) (l .loop .inv .0) (s .pre)), omega (arith, t .loop-test .taken))
+    (rw (c .before .before .join-retune .ensures) (joined-step (s .args .list .now) (l .loop .list) (s .args .size) (l .loop .k) (l .loop .inv .0) (s .pre)), omega (arith, t .loop-test .taken))
 
 returns : tie.Need-returns Inv-loop μ-loop
 returns c =
@@ -28,8 +28,8 @@ returns c =
     let long : 2 * g ≤ length (l .loop .list) = omega (arith, s .pre, t .size) in
     ((t .size, joined-inside x (l .loop .list) g t long (s .pre)), joined-differences x (l .loop .list) g t long)
 
-pub pair-changes-spec : {M : Type 1} → statement M
-pair-changes-spec =
+pub join-retunes-spec : {M : Type 1} → statement M
+join-retunes-spec =
     tie.close
     (tie.spec
     Inv-loop

@@ -1,10 +1,10 @@
--- `compare::pair_change` meets its contract. Assumes nothing.
+-- `compare::join_retune` meets its contract. Assumes nothing.
 use Rattle.property.proofs.Basics.{needs, arith, sym, _∙_, _+_, _*_, _<_, length, length-set}
 use Rattle.compare.specs.Code.{put, joined}
 use Rattle.compare.proofs.Ruled.{length-put}
 use Rattle.compare.proofs.Joining.{retune-next}
-use Rattle.compare.proofs.pair_change.Statement.{statement}
-use Rattle.compare.proofs.pair_change.Tie as tie
+use Rattle.compare.proofs.join_retune.Statement.{statement}
+use Rattle.compare.proofs.join_retune.Tie as tie
 
 -- both changes lie in the list
 within : (c : tie.Then1) → let a = c .before .before .before .before .args in 2 * (a .k + 1) + 1 < length (a .list .now)
@@ -54,8 +54,8 @@ slice-write-list-4 c =
     let y = put (a .list .now) (a .k) (d .before .chosen .result) (d .chosen2 .result) in
     omega (arith, length-set y (2 * (a .k + 1)) (c .before .before .arc .result), length-put (a .list .now) (a .k) (d .before .chosen .result) (d .chosen2 .result))
 
-pub pair-change-spec : {M : Type 1} → statement M
-pair-change-spec =
+pub join-retune-spec : {M : Type 1} → statement M
+join-retune-spec =
     tie.close
     (tie.spec
     (λ c κs. search needs)
