@@ -11,7 +11,7 @@ use items::lay;
 
 // A change: kind 1 adds the edge from `tail` to `head` of weight `weight`, 2 takes it, and 3 gives the one of weight `old` the weight `weight`; `old` is 0 for
 // the others.
-#[derive(Drop)]
+#[derive(Clone, Copy)]
 pub struct Change {
     pub kind: u32,
     pub tail: u32,

@@ -33,7 +33,7 @@ pub const INDEX_WORDS: usize = PLACE_WORDS + MAX_EDGES;
 pub const ROW_WORDS: usize = MAX_LANDMARKS * property::PROPERTIES * VERTEX_WORDS;
 
 // A refusal with its number and place, or none.
-#[derive(Drop)]
+#[derive(Clone, Copy)]
 pub enum Judged {
     Fine,
     Refused(u32, usize),

@@ -156,7 +156,7 @@ pub extern "C" fn plate_track_choose(
     k: u32,
     reply: &mut [u64],
 ) -> u32
-    ensures* { λ number. ⌜ record { number = number; reply = reply.new; memory = tt } ≡ spelled choice_words (alone (choice_call n (columns tails.now heads.now weights.now) count k)) tt reply.old ⌝ }
+    ensures { record { number = result; reply = reply.new; memory = tt } ≡ spelled choice_words (alone (choice_call n (columns tails.now heads.now weights.now) count k)) tt reply.old }
 {
     if reply.len() < REPLY_WORDS {
         return 2;

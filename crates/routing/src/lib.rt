@@ -9,7 +9,7 @@ ghost use Rattle.routing.specs.Code.{requesting, request_of, answer_of, route_ou
 use graph::{Judged, rules};
 
 // What is asked: the route for a property from a source to a target.
-#[derive(Drop)]
+#[derive(Clone, Copy)]
 struct Request {
     property: u32,
     source: u32,

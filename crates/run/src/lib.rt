@@ -16,7 +16,7 @@ use graph::arc;
 
 // A count has 64 bits. A run asks for counts below 2 ^ 31, and each step within it for a bit or more above its caller's (`Ready` 32, 38 and 39,
 // `Low` 40): all that the loops of a run add to a count is less than 2 ^ 31, so no count wraps.
-#[derive(Drop)]
+#[derive(Clone, Copy)]
 pub struct Tally {
     pub taken: u64,
     pub rounds: u64,
