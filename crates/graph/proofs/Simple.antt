@@ -45,7 +45,7 @@ simple_once (x ∷ es) d e f m k p =
 
 pub precedes_pair : (e f : Edge) → same_pair e f ≡ false → precedes e f ≡ pair_order.before e f
 precedes_pair e f h = by_test (eqb e.tail f.tail)
-    (λ p. by_test (eqb e.head f.head) (λ q. absurd (true≢false (sym (and_true p q) ∙ h))) (λ q. rw (p, q, bool.or_false (ltb e.head f.head))))
+    (λ p. by_test (eqb e.head f.head) (λ q. absurd (true≢false (sym (and_true p q) ∙ h))) (λ q. rw (p, q, bool.or-false (ltb e.head f.head))))
     (λ p. rw p)
 
 pub insert_pair : (e : Edge) (es : List Edge) → has pair_order es e ≡ false → insert e es ≡ order.insert pair_order e es

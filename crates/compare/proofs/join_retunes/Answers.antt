@@ -1,0 +1,28 @@
+-- `compare::join_retunes` meets its contract: the changes are gone over one by one. Assumes nothing.
+use Rattle.property.proofs.Basics.{needs, arith, ◌≡◌, ◌-◌, ◌*◌, ◌≤◌, length}
+use Rattle.compare.proofs.Joining.{Joined, joined_none, joined_step, joined_differences, joined_inside}
+use Rattle.compare.proofs.join_retunes.Goals as goal
+
+pub loop-k-init : goal.loop-k-init
+loop-k-init c =
+    (joined_none _ _, omega arith)
+
+pub join_retune-requires : goal.join_retune-requires
+join_retune-requires c =
+    (c.loop-k-test.true, omega (arith, c.requires, c.loop-k.invariant.0.size))
+
+pub loop-k-preserved : goal.loop-k-preserved
+loop-k-preserved c =
+    (rw c.join_retune.ensures (joined_step c.args.list.now c.loop-k.list c.args.size c.loop-k.k c.loop-k.invariant.0 c.requires), omega (arith, c.loop-k-test.true))
+
+pub shape_of-list : goal.shape_of-list
+shape_of-list c =
+    c.loop-k.invariant.0.size
+
+pub returns : goal.returns
+returns c =
+    let x = c.args.list.now in
+    let g = c.args.size in
+    let e : c.loop-k.k ≡ g = omega (arith, c.loop-k.invariant.1, c.loop-k-test.false) in
+    let t : Joined x c.loop-k.list g g = rw e at c.loop-k.invariant.0 in
+    let long : 2 * g ≤ length c.loop-k.list = omega (arith, c.requires, t.size) in record { list_len_unchanged = (t.size, joined_inside x c.loop-k.list g t long c.requires); by_index = joined_differences x c.loop-k.list g t long }

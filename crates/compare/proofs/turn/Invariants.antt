@@ -1,0 +1,13 @@
+-- `compare::turn` meets its contract. Assumes nothing.
+use Rattle.property.proofs.Basics.{needs, arith, ◌≡◌, refl, ◌∙◌, ◌+◌, ◌-◌, ◌*◌, ◌<◌, ◌≤◌, length, length-set}
+use Rattle.compare.specs.Code.{changes_in}
+use Rattle.compare.proofs.Reversed.{Turned, turned_none, turned_turn, turned_net, turned_inside}
+use Rattle.compare.proofs.turn.Given as goal
+
+abbrev pub invariant-loop-k : goal.invariant-loop-k
+invariant-loop-k l =
+    Turned l.initial.list l.list l.k × (l.k ≤ l.size) × (l.size ≡ changes_in l.initial.list)
+
+abbrev pub decreases-loop-k : goal.decreases-loop-k
+decreases-loop-k l =
+    l.size - l.k

@@ -1,0 +1,22 @@
+-- `digest::count_effect` meets its contract: the vertices below t are counted. Assumes nothing.
+use Rattle.property.proofs.Basics.{needs, ⊎_elim, Bool, true, false, List, ℕ, ◌-◌, eqb, eq-eqb, ne_eqb}
+use Rattle.answers.specs.Digest.{effect_at}
+use Rattle.digest.proofs.Turning.{Counted, count_start, count_turn, count_end}
+use Rattle.digest.proofs.count_effect.Goals as goal
+
+abbrev has : ℕ → List ℕ → ℕ → Bool
+has e effects t = eqb (effect_at effects t) e
+
+pub loop-t-init : goal.loop-t-init
+loop-t-init c =
+    count_start _ _
+
+pub loop-t-preserved : goal.loop-t-preserved
+loop-t-preserved c =
+    let a = c.args in
+    let on = count_turn (has a.e a.effects.now) a.n c.loop-t.t c.loop-t.count c.if-effects-t.count c.loop-t-test.true c.loop-t.invariant in
+    ⊎_elim (λ w. on true (eq-eqb _ _ w.0.taken) w.1) (λ w. on false (ne_eqb _ _ w.0.left) w.1) c.if-effects-t.branch
+
+pub returns : goal.returns
+returns c =
+    count_end _ c.args.n c.loop-t.t c.loop-t.count c.loop-t-test.false c.loop-t.invariant

@@ -1,0 +1,13 @@
+-- `digest::count_effect` meets its contract: the vertices below t are counted. Assumes nothing.
+use Rattle.property.proofs.Basics.{needs, ⊎_elim, Bool, true, false, List, ℕ, ◌-◌, eqb, eq-eqb, ne_eqb}
+use Rattle.answers.specs.Digest.{effect_at}
+use Rattle.digest.proofs.Turning.{Counted, count_start, count_turn, count_end}
+use Rattle.digest.proofs.count_effect.Given as goal
+
+abbrev pub invariant-loop-t : goal.invariant-loop-t
+invariant-loop-t l =
+    Counted (has l.e l.effects) l.n l.t l.count
+
+abbrev pub decreases-loop-t : goal.decreases-loop-t
+decreases-loop-t l =
+    l.n - l.t

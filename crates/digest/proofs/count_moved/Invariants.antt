@@ -1,0 +1,17 @@
+-- `digest::count_moved` meets its contract: the vertices below t are counted. Assumes nothing.
+use Rattle.property.proofs.Basics.{needs, sym, ap, ◌∙◌, inl, inr, ⊎_elim, Bool, true, false, ◌&&◌, List, ℕ, ◌-◌, eqb, eq-eqb, ne_eqb}
+use lib.IntN.{ℤ}
+use Rattle.property.specs.Property.{property}
+use Rattle.graph.proofs.Tests.{and_true, and_false}
+use Rattle.answers.specs.Digest.{effect_at, move_at, moves_to}
+use Rattle.digest.proofs.Choosing.{told}
+use Rattle.digest.proofs.Turning.{Counted, count_start, count_turn, count_end}
+use Rattle.digest.proofs.count_moved.Given as goal
+
+abbrev pub invariant-loop-t : goal.invariant-loop-t
+invariant-loop-t l =
+    Counted (moved l.p l.good l.effects l.moves) l.n l.t l.count
+
+abbrev pub decreases-loop-t : goal.decreases-loop-t
+decreases-loop-t l =
+    l.n - l.t

@@ -1,0 +1,18 @@
+-- `effects::show` meets its contract: the effects and moves of the vertices below t are written. Assumes nothing.
+use Rattle.property.proofs.Basics.{needs, arith, ◌≡◌, refl, sym, ap, ap₂, ◌∙◌, List, [], ◌∷◌, map, ℕ, zero, suc, ◌+◌, ◌-◌, ◌<◌, ◌≤◌, length, get_or, set, add-zero, zero-add, add-one}
+use lib.IntN.{ℤ}
+use Rattle.property.specs.Property.{property}
+use Rattle.graph.specs.Refusal.{over}
+use Rattle.graph.specs.Edge.{range}
+use Rattle.answers.specs.Preview.{effect_of, move_of}
+use Rattle.effects.specs.Code.{shown_of}
+use Rattle.effects.proofs.show.Given as goal
+
+abbrev pub invariant-loop-t : goal.invariant-loop-t
+invariant-loop-t l =
+    (l.effects ≡ over (map (effect_at l.p l.before l.after) (range 0 l.t)) l.initial.effects) × (l.moves ≡ over (map (move_at l.p l.before l.after) (range 0 l.t)) l.initial.moves)
+    × (l.t ≤ length l.before) × (length l.effects ≡ length l.initial.effects) × (length l.moves ≡ length l.initial.moves)
+
+abbrev pub decreases-loop-t : goal.decreases-loop-t
+decreases-loop-t l =
+    length l.before - l.t

@@ -1,0 +1,15 @@
+-- `graph::rules::judge_rules` meets its contract. Assumes nothing.
+use Rattle.property.proofs.Basics.{needs, not-true, not-false, arith, ◌≡◌, sym, ◌∙◌, ◌-◌, ◌≤◌, drop}
+use Rattle.graph.specs.Edge.{edges}
+use Rattle.graph.specs.Table.{follow, rules}
+use Rattle.graph.specs.Code.{edge_at}
+use Rattle.graph.proofs.Judging.{rules_none, rules_broken, rules_first, follow_more, follow_broken, follow_none}
+use Rattle.graph.proofs.rules.judge_rules.Given as goal
+
+abbrev pub invariant-loop-k : goal.invariant-loop-k
+invariant-loop-k l =
+    (follow l.n l.k (edge_at l.tails l.heads l.weights (l.k - 1)) (drop l.k (edges l.tails l.heads l.weights l.count)) ≡ rules l.n (edges l.tails l.heads l.weights l.count)) × (1 ≤ l.k) × (l.k ≤ l.count)
+
+abbrev pub decreases-loop-k : goal.decreases-loop-k
+decreases-loop-k l =
+    l.count - l.k

@@ -1,0 +1,7 @@
+-- `hunt::is_held` meets its contract. Assumes nothing.
+use Rattle.property.proofs.Basics.{needs}
+use Rattle.hunt.proofs.is_held.Goals as goal
+
+pub returns : goal.returns
+returns c =
+    rw (c.along.ensures, c.none.ensures)

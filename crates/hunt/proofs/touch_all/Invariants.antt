@@ -1,0 +1,16 @@
+-- `hunt::touch_all` meets its contract. The loop's invariant: the edges from place j on were taken (`Touched`). Assumes nothing.
+use Rattle.property.proofs.Basics.{◌≡◌, ◌+◌, ◌-◌, ◌≤◌, ◌<◌, arith, length, get_or, needs}
+use Rattle.property.specs.Property.{property}
+use Rattle.graph.specs.Arc.{arc_head}
+use Rattle.graph.proofs.Arcs.{fit_arc}
+use Rattle.hunt.specs.Code.{Touched}
+use Rattle.hunt.proofs.Touching.{touched_none, touched_turn}
+use Rattle.hunt.proofs.touch_all.Given as goal
+
+abbrev pub invariant-loop-j : goal.invariant-loop-j
+invariant-loop-j l =
+    Touched (property l.p) (length l.words) l.s l.words l.old l.other l.u l.on l.j (l.initial.j - l.j) l.initial.marks l.initial.todo l.marks l.todo × (l.lo ≤ l.j) × (l.j ≤ l.initial.j)
+
+abbrev pub decreases-loop-j : goal.decreases-loop-j
+decreases-loop-j l =
+    l.j

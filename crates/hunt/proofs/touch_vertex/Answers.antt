@@ -1,0 +1,45 @@
+-- `hunt::touch_vertex` meets its contract. Assumes nothing.
+use Rattle.property.proofs.Basics.{sym, ◌∙◌, needs}
+use Rattle.property.specs.Property.{property}
+use Rattle.property.proofs.Instances.{property_rest}
+use Rattle.hunt.proofs.touch_vertex.Goals as goal
+
+pub returns-in-1 : goal.returns-in-1
+returns-in-1 c =
+    rw (c.in-1.is, sym c.contains.ensures ∙ c.if-contains.true) c.touch_all.ensures
+
+pub returns-in-2 : goal.returns-in-2
+returns-in-2 c =
+    rw (c.in-2.is, sym c.contains.ensures ∙ c.if-contains.true) c.touch_all-in-2.ensures
+
+pub returns-in-3 : goal.returns-in-3
+returns-in-3 c =
+    rw (c.in-3.is, sym c.contains.ensures ∙ c.if-contains.true) c.touch_all-in-3.ensures
+
+pub returns-in-4 : goal.returns-in-4
+returns-in-4 c =
+    rw (c.in-4.is, sym c.contains.ensures ∙ c.if-contains.true) c.touch_all-in-4.ensures
+
+pub returns-in_default : goal.returns-in_default
+returns-in_default c =
+    rw (property_rest _ c.in_default.in_default-own.rest, sym c.contains.ensures ∙ c.if-contains.true) c.touch_all-in_default.ensures
+
+pub returns-in-1-p : goal.returns-in-1-p
+returns-in-1-p c =
+    rw (c.in-1-p.is, sym c.contains.ensures ∙ c.if-contains.false) c.touch_all-in-1-p.ensures
+
+pub returns-in-2-p : goal.returns-in-2-p
+returns-in-2-p c =
+    rw (c.in-2-p.is, sym c.contains.ensures ∙ c.if-contains.false) c.touch_all-in-2-p.ensures
+
+pub returns-in-3-p : goal.returns-in-3-p
+returns-in-3-p c =
+    rw (c.in-3-p.is, sym c.contains.ensures ∙ c.if-contains.false) c.touch_all-in-3-p.ensures
+
+pub returns-in-4-p : goal.returns-in-4-p
+returns-in-4-p c =
+    rw (c.in-4-p.is, sym c.contains.ensures ∙ c.if-contains.false) c.touch_all-in-4-p.ensures
+
+pub returns-in_default-p : goal.returns-in_default-p
+returns-in_default-p c =
+    rw (property_rest _ c.in_default-p.in_default-p-own.rest, sym c.contains.ensures ∙ c.if-contains.false) c.touch_all-in_default-p.ensures

@@ -1,0 +1,19 @@
+-- `items::apply_items` meets its contract: what is left of the changes gives, from here, the verdict and the edges of all. Assumes nothing.
+use Rattle.property.proofs.Basics.{needs, arith, ◌≡◌, refl, ◌∙◌, List, ◌∷◌, ◌+◌, ◌-◌, ◌≤◌, length, drop, drop_of_length-le}
+use Rattle.graph.specs.Edge.{edges}
+use Rattle.network.specs.Change.{Change, edits, items}
+use Rattle.items.specs.Code.{change_at, Laid}
+use Rattle.calls.specs.Code.{Tabled}
+use Rattle.items.proofs.Editing.{items_more, items_stop, items_none, edits_more, edits_none, leaves_refused, leaves_count}
+use Rattle.items.proofs.Laying.{laid_more}
+use Rattle.items.proofs.apply_items.Given as goal
+
+abbrev pub invariant-loop-k : goal.invariant-loop-k
+invariant-loop-k l =
+    ((cs : List Change) → Laid l.size cs l.lists → (items l.n l.k (edges l.tails l.heads l.weights l.m) (drop l.k cs) ≡ items l.n 0 (edges l.initial.tails l.initial.heads l.initial.weights l.count) cs) × (edits (edges l.tails l.heads l.weights l.m) (drop l.k cs) ≡ edits (edges l.initial.tails l.initial.heads l.initial.weights l.count) cs))
+    × Tabled l.n l.m l.tails l.heads l.weights
+    × (l.k ≤ l.size) × (length l.tails ≡ length l.initial.tails) × (length l.heads ≡ length l.initial.heads) × (length l.weights ≡ length l.initial.weights)
+
+abbrev pub decreases-loop-k : goal.decreases-loop-k
+decreases-loop-k l =
+    l.size - l.k

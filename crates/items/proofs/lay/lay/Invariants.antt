@@ -1,0 +1,14 @@
+-- `items::lay::lay` meets its contract: the changes below i are laid. Assumes nothing.
+use Rattle.property.proofs.Basics.{needs, arith, ◌≡◌, refl, ap, ◌∙◌, List, [], ℕ, ◌+◌, ◌-◌, ◌≤◌, length, get_or}
+use Rattle.network.specs.Change.{Change}
+use Rattle.items.specs.Code.{change_of, put_change, laid_all}
+use Rattle.items.proofs.Laying.{filled_more, filled_laid, part_length, part_at}
+use Rattle.items.proofs.lay.lay.Given as goal
+
+abbrev pub invariant-loop-i : goal.invariant-loop-i
+invariant-loop-i l =
+    (l.lists ≡ laid_all (from_on l.changes l.from) l.initial.lists l.i) × (l.i ≤ l.most) × (length l.lists ≡ length l.initial.lists)
+
+abbrev pub decreases-loop-i : goal.decreases-loop-i
+decreases-loop-i l =
+    l.most - l.i

@@ -1,0 +1,21 @@
+-- `lookup::index_of` meets its contract: what is left of the list decides. Assumes nothing.
+use Rattle.property.proofs.Basics.{needs, zero-add, ◌+◌, ◌-◌, ◌≡◌, length, drop}
+use Rattle.network.specs.Lookup.{index_of}
+use Rattle.lookup.proofs.Showing.{index_found, index_more, index_none}
+use Rattle.lookup.proofs.index_of.Goals as goal
+
+pub loop-i-init : goal.loop-i-init
+loop-i-init c =
+    zero-add _
+
+pub returns-then-v-vertices : goal.returns-then-v-vertices
+returns-then-v-vertices c =
+    index_found _ _ c.loop-i.i c.loop-i.invariant c.loop-i-test.true c.if-v-vertices.true
+
+pub loop-i-preserved : goal.loop-i-preserved
+loop-i-preserved c =
+    index_more _ _ c.loop-i.i c.loop-i.invariant c.loop-i-test.true c.if-v-vertices.false
+
+pub returns : goal.returns
+returns c =
+    index_none _ _ c.loop-i.i c.loop-i.invariant c.loop-i-test.false

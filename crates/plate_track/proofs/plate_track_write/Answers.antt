@@ -1,0 +1,13 @@
+-- `plate_track::plate_track_write` meets its contract. Assumes nothing.
+use Rattle.property.proofs.Basics.{needs}
+use Rattle.spelling.specs.Code.{one_word}
+use Rattle.plate_track.proofs.Spelling.{spelled_short, spelled_told}
+use Rattle.plate_track.proofs.plate_track_write.Goals as goal
+
+pub returns-then-reply-lt-REPLY_WORDS : goal.returns-then-reply-lt-REPLY_WORDS
+returns-then-reply-lt-REPLY_WORDS c =
+    spelled_short one_word _ _ _ c.if-reply-lt-REPLY_WORDS.true
+
+pub returns : goal.returns
+returns c =
+    spelled_told one_word _ _ _ _ c.if-reply-lt-REPLY_WORDS.false c.write_network-r.ensures c.spell_write.ensures

@@ -1,0 +1,16 @@
+-- `query::join_row_of` meets its contract. Assumes nothing.
+use Rattle.property.proofs.Basics.{needs, arith, ◌≡◌, refl, sym, ap, ◌∙◌, ⊎_elim, ℕ, ◌+◌, ◌-◌, ◌<◌, ◌≤◌, length, get_or, length-set, get_or-set_other}
+use Rattle.property.specs.Property.{property}
+use Rattle.graph.proofs.Lists.{at_set}
+use Rattle.run.specs.Start.{finer}
+use Rattle.query.proofs.join_row_of.Given as goal
+
+-- the words below t are joined, the others as they were
+abbrev pub invariant-loop-t : goal.invariant-loop-t
+invariant-loop-t l =
+    ((j : ℕ) → j < l.t → get_or l.out j 0 ≡ finer (property l.p) ((property l.p).join l.b (get_or l.forward (l.at + j) 0)) (get_or l.initial.out j 0))
+    × ((j : ℕ) → l.t ≤ j → get_or l.out j 0 ≡ get_or l.initial.out j 0) × (length l.out ≡ length l.initial.out) × (l.t ≤ length l.initial.out)
+
+abbrev pub decreases-loop-t : goal.decreases-loop-t
+decreases-loop-t l =
+    length l.initial.out - l.t

@@ -1,0 +1,18 @@
+-- `rows::batch_rows` meets its contract. Assumes nothing.
+use Rattle.property.proofs.Basics.{needs, arith, refl, ◌+◌, ◌-◌, ◌*◌, ◌≤◌, length, List}
+use Rattle.graph.specs.Edge.{Edge}
+use Rattle.compare.specs.Code.{Faces}
+use Rattle.network.specs.Network.{row_count}
+use Rattle.calls.proofs.Flat.{row_size}
+use Rattle.calls.proofs.Rows.{row_ends}
+use Rattle.rows.proofs.Rows.{Counting, counting_start, counting_turn, counting_done, Rowing, rows_start, rows_turn, rows_done}
+use Rattle.rows.specs.Code.{Sided}
+use Rattle.rows.proofs.batch_rows.Given as goal
+
+abbrev pub invariant-loop-r : goal.invariant-loop-r
+invariant-loop-r l =
+    Counting l.initial.rows l.rows l.affected l.stores l.r l.size × ((es fs : List Edge) → Sided l.n es fs l.net l.old l.new l.into → Faces l.n es fs l.old l.other → Rowing l.n l.landmarks es fs l.initial.rows l.rows l.affected l.stores l.r)
+
+abbrev pub decreases-loop-r : goal.decreases-loop-r
+decreases-loop-r l =
+    l.size - l.r

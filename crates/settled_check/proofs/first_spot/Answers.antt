@@ -1,0 +1,97 @@
+-- `settled_check::first_spot` meets its contract: each loop's invariant says that what is left from here on gives the whole
+-- check. Assumes nothing.
+use Rattle.property.proofs.Basics.{needs, arith, ◌+◌, ◌-◌, ◌*◌, ◌<◌, ◌≤◌, ◌≡◌, refl, sym, ◌∙◌, cond, List, ℕ, length, drop, eqb}
+use Rattle.graph.specs.Edge.{edges, range}
+use Rattle.graph.proofs.Own.{tails_below, heads_below}
+use Rattle.settled_check.specs.declared.Checked.TheVariants as checked
+use Rattle.network.specs.Network.{row, row_count, property_of}
+use Rattle.network.specs.Settled.{Check, check, in_records, in_rows}
+use Rattle.calls.specs.Code.{network, Openable}
+use Rattle.calls.proofs.Judging.{network_accept}
+use Rattle.settled_check.proofs.Checking.{edges_on, records_more, records_found, records_none, rows_more, rows_none, in_sides, sides_all, sides_more, sides_none, checking_found, checking_settled}
+use Rattle.calls.proofs.Rows.{row_ends}
+use Rattle.settled_check.proofs.first_spot.Goals as goal
+
+-- what is left of a side after row r, and after the side
+abbrev after_side : ℕ → List ℕ → List ℕ → List ℕ → List ℕ → ℕ → List ℕ → List ℕ → ℕ → Check
+after_side n ls ts hs ws m f b side = in_sides n (row_count ls) (edges ts hs ws m) f b (side + 1) (2 - (side + 1))
+
+abbrev from_row : ℕ → List ℕ → List ℕ → List ℕ → List ℕ → ℕ → List ℕ → List ℕ → ℕ → ℕ → Check
+from_row n ls ts hs ws m f b side r =
+    in_rows n (edges_on (eqb side 0) (edges ts hs ws m)) (cond (eqb side 0) f b) side (range r (row_count ls - r)) (after_side n ls ts hs ws m f b side)
+
+abbrev from_record : ℕ → List ℕ → List ℕ → List ℕ → List ℕ → ℕ → List ℕ → List ℕ → ℕ → ℕ → ℕ → Check
+from_record n ls ts hs ws m f b side r j =
+    in_records (property_of r) (row n r (cond (eqb side 0) f b)) side r j (drop j (edges_on (eqb side 0) (edges ts hs ws m))) (from_row n ls ts hs ws m f b side (r + 1))
+
+pub overflow_mul-rows : goal.overflow_mul-rows
+overflow_mul-rows c =
+    let accepted : let a = c.args in
+    Openable a.n a.count a.landmarks.now a.tails.now a.heads.now a.weights.now
+    × (row_count a.landmarks.now * a.n ≤ length a.forward.now) × (row_count a.landmarks.now * a.n ≤ length a.backward.now) = let a = c.args in
+    network_accept a.n a.landmarks.now a.tails.now a.heads.now a.weights.now a.count a.forward.now a.backward.now c.requires in
+    omega (arith, accepted.0.landmarks.few)
+
+pub sides-init : goal.sides-init
+sides-init c =
+    (sides_all _ _ _ _ _, omega arith, refl)
+
+pub loop-r-init : goal.loop-r-init
+loop-r-init c =
+    let l : c.sides.side < 2 = omega arith in
+    (sides_more _ _ _ _ _ c.sides.side c.sides.invariant.0 l, omega arith, c.sides.invariant.2)
+
+pub loop-j-init : goal.loop-j-init
+loop-j-init c =
+    (rows_more _ _ _ _ _ c.loop-r.r _ c.loop-r.invariant.0 c.loop-r-test.true, omega arith, c.loop-r.invariant.2)
+
+pub is_spot-requires : goal.is_spot-requires
+is_spot-requires c =
+    let accepted : let a = c.args in
+    Openable a.n a.count a.landmarks.now a.tails.now a.heads.now a.weights.now
+    × (row_count a.landmarks.now * a.n ≤ length a.forward.now) × (row_count a.landmarks.now * a.n ≤ length a.backward.now) = let a = c.args in
+    network_accept a.n a.landmarks.now a.tails.now a.heads.now a.weights.now a.count a.forward.now a.backward.now c.requires in
+    let a = accepted in
+    let o = a.0 in
+    let g = c.args in
+    let k : c.loop-r.r < row_count c.args.landmarks.now = c.loop-r-test.true in
+    let j : c.loop-j.j < g.count = c.loop-j-test.true in
+    let r = o.room in
+    let e = tails_below g.n g.count g.tails.now g.heads.now g.weights.now r o.rules c.loop-j.j j in
+    let h = heads_below g.n g.count g.tails.now g.heads.now g.weights.now r o.rules c.loop-j.j j in record { j_in_bounds = (omega arith, omega arith, omega arith); j_bound = (e, h); n_in_bounds = (row_ends _ _ _ _ k a.1, row_ends _ _ _ _ k a.2) }
+
+pub loop-j-preserved : goal.loop-j-preserved
+loop-j-preserved c =
+    let accepted : let a = c.args in
+    Openable a.n a.count a.landmarks.now a.tails.now a.heads.now a.weights.now
+    × (row_count a.landmarks.now * a.n ≤ length a.forward.now) × (row_count a.landmarks.now * a.n ≤ length a.backward.now) = let a = c.args in
+    network_accept a.n a.landmarks.now a.tails.now a.heads.now a.weights.now a.count a.forward.now a.backward.now c.requires in (
+      records_more c.args.tails.now c.args.heads.now c.args.weights.now c.args.count accepted.0.room _ _ _ _ c.loop-j.j _ c.loop-j.invariant.0 c.loop-j-test.true (sym c.is_spot.ensures ∙ c.if-is_spot.false),
+      omega arith,
+      c.loop-j.invariant.2,
+    )
+
+pub loop-r-preserved : goal.loop-r-preserved
+loop-r-preserved c =
+    let accepted : let a = c.args in
+    Openable a.n a.count a.landmarks.now a.tails.now a.heads.now a.weights.now
+    × (row_count a.landmarks.now * a.n ≤ length a.forward.now) × (row_count a.landmarks.now * a.n ≤ length a.backward.now) = let a = c.args in
+    network_accept a.n a.landmarks.now a.tails.now a.heads.now a.weights.now a.count a.forward.now a.backward.now c.requires in
+    (records_none _ _ _ _ accepted.0.room _ _ _ _ c.loop-j.j _ c.loop-j.invariant.0 c.loop-j-test.false, omega arith, c.loop-j.invariant.2)
+
+pub sides-preserved : goal.sides-preserved
+sides-preserved c =
+    (rows_none _ _ _ _ _ c.loop-r.r _ c.loop-r.invariant.0 c.loop-r-test.false, omega arith, c.loop-r.invariant.2)
+
+pub returns-after-sides : goal.returns-after-sides
+returns-after-sides c =
+    checking_settled _ _ c.sides.invariant.2 (sides_none _ _ _ _ _ c.sides.side c.sides.invariant.0 c.sides-test.false)
+
+pub returns-then-is_spot : goal.returns-then-is_spot
+returns-then-is_spot c =
+    let accepted : let a = c.args in
+    Openable a.n a.count a.landmarks.now a.tails.now a.heads.now a.weights.now
+    × (row_count a.landmarks.now * a.n ≤ length a.forward.now) × (row_count a.landmarks.now * a.n ≤ length a.backward.now) = let a = c.args in
+    network_accept a.n a.landmarks.now a.tails.now a.heads.now a.weights.now a.count a.forward.now a.backward.now c.requires in
+    checking_found _ _ _ _
+    (records_found c.args.tails.now c.args.heads.now c.args.weights.now c.args.count accepted.0.room _ _ _ _ c.loop-j.j _ c.loop-j.invariant.0 c.loop-j-test.true (sym c.is_spot.ensures ∙ c.if-is_spot.true))

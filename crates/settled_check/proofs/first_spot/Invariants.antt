@@ -1,0 +1,40 @@
+-- `settled_check::first_spot` meets its contract: each loop's invariant says that what is left from here on gives the whole
+-- check. Assumes nothing.
+use Rattle.property.proofs.Basics.{needs, arith, ◌+◌, ◌-◌, ◌*◌, ◌<◌, ◌≤◌, ◌≡◌, refl, sym, ◌∙◌, cond, List, ℕ, length, drop, eqb}
+use Rattle.graph.specs.Edge.{edges, range}
+use Rattle.graph.proofs.Own.{tails_below, heads_below}
+use Rattle.settled_check.specs.declared.Checked.TheVariants as checked
+use Rattle.network.specs.Network.{row, row_count, property_of}
+use Rattle.network.specs.Settled.{Check, check, in_records, in_rows}
+use Rattle.calls.specs.Code.{network, Openable}
+use Rattle.calls.proofs.Judging.{network_accept}
+use Rattle.settled_check.proofs.Checking.{edges_on, records_more, records_found, records_none, rows_more, rows_none, in_sides, sides_all, sides_more, sides_none, checking_found, checking_settled}
+use Rattle.calls.proofs.Rows.{row_ends}
+use Rattle.settled_check.proofs.first_spot.Given as goal
+
+abbrev pub invariant-loop-j : goal.invariant-loop-j
+invariant-loop-j l =
+    (from_record l.n l.landmarks l.tails l.heads l.weights l.count l.forward l.backward l.side l.r l.j ≡ check l.n l.landmarks (network l.tails l.heads l.weights l.forward l.backward l.count))
+    × (l.j ≤ l.count) × (l.found ≡ checked.Settled)
+
+abbrev pub decreases-loop-j : goal.decreases-loop-j
+decreases-loop-j l =
+    l.count - l.j
+
+abbrev pub invariant-loop-r : goal.invariant-loop-r
+invariant-loop-r l =
+    (from_row l.n l.landmarks l.tails l.heads l.weights l.count l.forward l.backward l.side l.r ≡ check l.n l.landmarks (network l.tails l.heads l.weights l.forward l.backward l.count))
+    × (l.r ≤ row_count l.landmarks) × (l.found ≡ checked.Settled)
+
+abbrev pub decreases-loop-r : goal.decreases-loop-r
+decreases-loop-r l =
+    row_count l.landmarks - l.r
+
+abbrev pub invariant-sides : goal.invariant-sides
+invariant-sides l =
+    (in_sides l.n (row_count l.landmarks) (edges l.tails l.heads l.weights l.count) l.forward l.backward l.side (2 - l.side) ≡ check l.n l.landmarks (network l.tails l.heads l.weights l.forward l.backward l.count))
+    × (l.side ≤ 2) × (l.found ≡ checked.Settled)
+
+abbrev pub decreases-sides : goal.decreases-sides
+decreases-sides l =
+    2 - l.side

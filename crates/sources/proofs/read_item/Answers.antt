@@ -1,0 +1,19 @@
+-- `sources::read_item` meets its contract. Assumes nothing.
+use Rattle.property.proofs.Basics.{needs, arith}
+use Rattle.dimacs.specs.Sources.{item_in}
+use Rattle.sources.specs.Capped.{cap_sources}
+use Rattle.scanner.proofs.Marks.{first_mark, second_mark, neither_mark}
+use Rattle.sources.proofs.read_item.Goals as goal
+
+pub returns-then-begins : goal.returns-then-begins
+returns-then-begins c =
+    unfold item_in in first_mark cap_sources _ _ _ _ _ _ _ c.begins.ensures (λ z. omega arith) c.if-begins.true c.read_header.ensures
+
+pub returns-then-begins-2 : goal.returns-then-begins-2
+unfolding item_in
+returns-then-begins-2 c =
+    second_mark cap_sources _ _ _ _ _ _ _ c.begins.ensures c.begins-2.ensures c.if-begins.false c.if-begins-2.true c.read_source.ensures
+
+pub returns : goal.returns
+returns c =
+    unfold item_in cap_sources in neither_mark cap_sources _ _ _ _ _ _ _ c.begins.ensures c.begins-2.ensures c.if-begins.false c.if-begins-2.false

@@ -1,0 +1,27 @@
+-- `writer::network_text::put_arcs` meets its contract: the lines from k on are still to be put. Assumes nothing.
+use Rattle.property.proofs.Basics.{needs, arith, ◌-◌, ◌≤◌, drop}
+use Rattle.graph.specs.Edge.{edges}
+use Rattle.writer.specs.Code.{arcs_of}
+use Rattle.writer.proofs.Laid.{Pending, pending_start, pending_fits, pending_turn, pending_done}
+use Rattle.writer.proofs.Text.{arcs_more, arcs_none}
+use Rattle.writer.proofs.network_text.put_arcs.Goals as goal
+
+pub loop-k-init : goal.loop-k-init
+loop-k-init c =
+    (pending_start c.requires.fits, omega arith)
+
+pub put_arc-end-requires : goal.put_arc-end-requires
+put_arc-end-requires c =
+    pending_fits c.loop-k.invariant.0 _ _ (arcs_more c.requires.room c.loop-k.k (omega arith))
+
+pub loop-k-preserved : goal.loop-k-preserved
+loop-k-preserved c =
+    (pending_turn c.loop-k.invariant.0 _ _ (arcs_more c.requires.room c.loop-k.k (omega arith)) c.put_arc-end.ensures, omega arith)
+
+pub shape_of-out : goal.shape_of-out
+shape_of-out c =
+    c.loop-k.invariant.0.same
+
+pub returns : goal.returns
+returns c =
+    pending_done c.loop-k.invariant.0 (arcs_none c.requires.room c.loop-k.k (omega arith))

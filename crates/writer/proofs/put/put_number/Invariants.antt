@@ -1,0 +1,14 @@
+-- `writer::put::put_number` meets its contract: what is still to store from here comes to the same. Assumes nothing.
+use Rattle.property.proofs.Basics.{arith, ◌≡◌, refl, sym, ◌∙◌, ◌+◌, ◌-◌, ◌≤◌, length, length-set, sets}
+use Rattle.dimacs.specs.Decimal.{digits}
+use Rattle.writer.proofs.Digits.{pad, digits_pad}
+use Rattle.writer.proofs.Laid.{laid_sets, pad_turn, pad_done}
+use Rattle.writer.proofs.put.put_number.Given as goal
+
+abbrev pub invariant-loop-i : goal.invariant-loop-i
+invariant-loop-i l =
+    (sets l.out l.at (pad (l.i - l.at) l.w) ≡ sets l.initial.out l.at (digits l.v)) × (l.at ≤ l.i) × (l.i ≤ l.end) × (length l.out ≡ length l.initial.out) × (l.end ≡ l.at + length (digits l.v))
+
+abbrev pub decreases-loop-i : goal.decreases-loop-i
+decreases-loop-i l =
+    l.i
