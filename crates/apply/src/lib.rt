@@ -1,4 +1,6 @@
 // A batch with the new table at hand, in lists 2: nothing can refuse it any more.
+#![tactic(auto)]
+
 ghost use Rattle.std.specs.Prelude.{◌≡◌};
 ghost use Rattle.graph.specs.Edge.{edges};
 ghost use Rattle.calls.specs.Code.{network, Tabled};

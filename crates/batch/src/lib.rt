@@ -1,4 +1,6 @@
 // A batch as it is lent: a slice of change records. Thin walkers lay the records in one list, and all else is done on plain numbers.
+#![tactic(auto)]
+
 ghost use Rattle.std.specs.Prelude.{◌≡◌, map, ◌*◌, ◌≤◌, length};
 ghost use Rattle.graph.specs.Limits.{max_batch};
 ghost use Rattle.network.specs.Batch.{batch_call};

@@ -5,7 +5,7 @@ use mir.Val.{Fits}
 use mir.Facts.{Fits-le, Fits-lit}
 use Rattle.property.specs.Property.{Property, properties}
 use Rattle.graph.specs.Limits.{max_vertices, max_landmarks}
-use Rattle.graph.proofs.Lists.{get_d_within}
+use Rattle.graph.proofs.Lists.{get_or_within}
 use Rattle.run.specs.Run.{word}
 use Rattle.network.specs.Network.{row}
 use Rattle.network.specs.Query.{row_at}
@@ -27,4 +27,4 @@ pub row_within : (n i p k l : ℕ) → i < k → 0 < p → p ≤ properties → 
 row_within n i p k l h a b f = row_ends (row_at i p) (k * properties) n l (omega arith) f
 
 pub row_word : (P : Property) (n r t : ℕ) (xs : List ℕ) → t < n → r * n + t < length xs → get_or xs (r * n + t) 0 ≡ word P (row n r xs) t
-row_word P n r t xs h l = get_d_within xs (r * n + t) 0 P.none l ∙ sym (get_or-take n (drop (r * n) xs) t P.none h ∙ get_or-drop (r * n) xs t P.none)
+row_word P n r t xs h l = get_or_within xs (r * n + t) 0 P.none l ∙ sym (get_or-take n (drop (r * n) xs) t P.none h ∙ get_or-drop (r * n) xs t P.none)

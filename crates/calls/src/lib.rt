@@ -1,4 +1,6 @@
 // Refusals 2 and 3 of a network and of the lists for an answer, the chains of refusals that its calls share, and the rows: where one starts, its property, its landmark.
+#![tactic(auto)]
+
 ghost use Rattle.std.specs.Prelude.{◌≡◌, suc, ◌*◌, ◌/◌, ◌%◌, ◌<◌, ◌≤◌, drop, ltb};
 ghost use Rattle.property.specs.Property.{properties, is_property};
 ghost use Rattle.graph.specs.Limits.{max_vertices, max_edges, max_landmarks};

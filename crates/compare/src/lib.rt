@@ -2,6 +2,8 @@
 // before or after; where a pair has just one old and one new of these, they are one change, with both weights. An edge that a batch takes and adds
 // again is none. One walk along both tables finds what differs, and one along that finds what is retuned.
 // And a list beside an index of the old table, with what stands in the place of each edge after the batch.
+#![tactic(auto)]
+
 ghost use Rattle.std.specs.Prelude.{◌≡◌, true, false, not, ◌&&◌, cond, List, map, ℕ, ◌+◌, ◌*◌, ◌<◌, ◌≤◌, length, get_or, set, take, eqb, ltb};
 ghost use Rattle.graph.specs.Limits.{max_edges};
 ghost use Rattle.graph.specs.Refusal.{accept};

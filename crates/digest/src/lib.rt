@@ -1,4 +1,6 @@
 // A digest of what a batch would do, from the two lists of a preview.
+#![tactic(auto)]
+
 ghost use Rattle.std.specs.Prelude.{◌≡◌, ◌&&◌, ◌≤◌, ◌<◌, length, eqb};
 ghost use Rattle.property.specs.Property.{property};
 ghost use Rattle.graph.specs.Limits.{max_vertices};

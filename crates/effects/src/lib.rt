@@ -1,4 +1,6 @@
 // What becomes of each vertex between two lists of words, and by how much its word moves.
+#![tactic(auto)]
+
 ghost use Rattle.std.specs.Prelude.{◌≡◌, map, ◌<◌, ◌≤◌, length, get_or, set, pos, ◌-ℤ◌};
 ghost use Rattle.property.specs.Property.{property};
 ghost use Rattle.graph.specs.Refusal.{over};

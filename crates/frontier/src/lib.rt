@@ -1,6 +1,8 @@
 // A frontier: one waiting bit for each vertex, in words of 64 bits. Each contract is an equation over `waitingOf`, the list of the bits,
 // so that a caller reasons about a list of Bool alone. Each operation stands twice: a body that indexes a `&mut Words` lacks the fact that
 // there are `WORDS` words behind it, so it calls the form on slices, which serves any number of words.
+#![tactic(auto)]
+
 pub mod slices;
 
 ghost use Rattle.std.specs.Prelude.{◌≡◌, true, false, ◌<◌, length, get_or, set, replicate};

@@ -13,7 +13,7 @@ keep_in f (e ∷ es) x m = by_test (f e)
     (λ q. ⊎_elim (λ p. (Memᴰ-head p, ap f p ∙ q)) (λ k. let z = keep_in f es x k in (Memᴰ-tail z.0, z.1)) (Memᴰ-cases_cons (rw q at m)))
     (λ q. let z = keep_in f es x (rw q at m) in (Memᴰ-tail z.0, z.1))
 
-pub in_keep : (f : Edge → Bool) {es : List Edge} {x : Edge} → Memᴰ x es → f x ≡ true → Memᴰ x (keep f es)
+pub in_keep : (f : Edge → Bool) {x : Edge} {es : List Edge} → Memᴰ x es → f x ≡ true → Memᴰ x (keep f es)
 unfolding keep keep_if
 in_keep f (Memᴰ-head {x = e} {xs = es} p) q = rw (sym (ap f p) ∙ q) (Memᴰ-head p)
 in_keep f {x = x} (Memᴰ-tail {x = e} {xs = es} m) q = by_test (f e) (λ p. rw p (Memᴰ-tail (in_keep f m q))) (λ p. rw p (in_keep f m q))
@@ -31,7 +31,7 @@ unfolding exists
 exists_true f [] h = absurd (false≢true h)
 exists_true f (o ∷ es) h = by_test (f o) (λ q. (o, Memᴰ-head refl, q)) (λ q. let (e, m, z) = exists_true f es (rw q at h) in (e, Memᴰ-tail m, z))
 
-pub true_exists : (f : Edge → Bool) {es : List Edge} {e : Edge} → Memᴰ e es → f e ≡ true → exists f es ≡ true
+pub true_exists : (f : Edge → Bool) {e : Edge} {es : List Edge} → Memᴰ e es → f e ≡ true → exists f es ≡ true
 unfolding exists
 true_exists f (Memᴰ-head p) q = rw (sym (ap f p) ∙ q)
 true_exists f (Memᴰ-tail {x = o} {xs = es} m) q = or_right (f o) (true_exists f m q)
@@ -66,7 +66,7 @@ among_mem es e h = let (x, m, q) = exists_true (same e) es h in rw (same_eq e x 
 
 -- ---- reversed lists
 
-pub mem_reverse : {es : List Edge} {e : Edge} → Memᴰ e es → Memᴰ (reverse e) (map reverse es)
+pub mem_reverse : {e : Edge} {es : List Edge} → Memᴰ e es → Memᴰ (reverse e) (map reverse es)
 mem_reverse (Memᴰ-head p) = Memᴰ-head (ap reverse p)
 mem_reverse (Memᴰ-tail m) = Memᴰ-tail (mem_reverse m)
 

@@ -65,18 +65,18 @@ fold_done f e h = rw e at h
 
 -- ---- within a list, what stands past its end does not matter
 
-pub get_d_within : {A : Type 0} (l : List A) (i : ℕ) (d e : A) → i < length l → get_or l i d ≡ get_or l i e
-get_d_within [] i d e h = absurd (omega arith)
-get_d_within (x ∷ l) zero d e h = refl
-get_d_within (x ∷ l) (suc i) d e h = get_d_within l i d e (omega arith)
+pub get_or_within : {A : Type 0} (l : List A) (i : ℕ) (d e : A) → i < length l → get_or l i d ≡ get_or l i e
+get_or_within [] i d e h = absurd (omega arith)
+get_or_within (x ∷ l) zero d e h = refl
+get_or_within (x ∷ l) (suc i) d e h = get_or_within l i d e (omega arith)
 
-pub get_d_mem : {A : Type 0} (l : List A) (k : ℕ) (d : A) → k < length l → Memᴰ (get_or l k d) l
-get_d_mem [] k d h = absurd (omega arith)
-get_d_mem (x ∷ l) zero d h = Memᴰ-head refl
-get_d_mem (x ∷ l) (suc k) d h = Memᴰ-tail (get_d_mem l k d (omega arith))
+pub get_or_mem : {A : Type 0} (l : List A) (k : ℕ) (d : A) → k < length l → Memᴰ (get_or l k d) l
+get_or_mem [] k d h = absurd (omega arith)
+get_or_mem (x ∷ l) zero d h = Memᴰ-head refl
+get_or_mem (x ∷ l) (suc k) d h = Memᴰ-tail (get_or_mem l k d (omega arith))
 
 -- each element stands at some index
-pub mem_index : {A : Type 0} {l : List A} {x : A} (d : A) → Memᴰ x l → (k : ℕ) × (k < length l) × (get_or l k d ≡ x)
+pub mem_index : {A : Type 0} (d : A) {x : A} {l : List A} → Memᴰ x l → (k : ℕ) × (k < length l) × (get_or l k d ≡ x)
 mem_index d (Memᴰ-head p) = (0, omega arith, sym p)
 mem_index d (Memᴰ-tail m) = let (k, h, e) = mem_index d m in (suc k, omega arith, e)
 

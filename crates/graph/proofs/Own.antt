@@ -14,7 +14,7 @@ use Rattle.graph.specs.Code.{Room, edge_at, below, equal, Keyed, Firsts, into}
 use Rattle.graph.specs.Arc.{arc_heads, arc_weights, arc, arc_head, arc_weight, head_in, weight_in}
 use Rattle.graph.specs.Index.{part_in, FitIn, OwnIn, IndexesIn, Indexable, ReversedArcs, Indexes}
 use Rattle.graph.specs.Parted.{Ascending}
-use Rattle.graph.proofs.Lists.{get_d_mem}
+use Rattle.graph.proofs.Lists.{get_or_mem}
 use Rattle.graph.proofs.Edges.{leaving_in, keep_in, keep_reverse, reverse_mem}
 use Rattle.graph.proofs.Sorted.{sorted_before}
 use Rattle.graph.proofs.Order.{table_ordered, Sound, rules_accept, sound_fit, precedes_tail, Within, within}
@@ -136,7 +136,7 @@ module _ (b : Bool) (c m : ℕ) (ts hs ws xs ys : List ℕ) (r : Room m ts hs ws
           let f : j + (i - j) ≡ i = omega arith in
           let e : get_or (take k (drop j es')) (i - j) (edge 0 0 0) ≡ edge_at ts hs ws i =
           get_or-take k (drop j es') (i - j) (edge 0 0 0) (omega arith) ∙ (get_or-drop j es' (i - j) (edge 0 0 0) ∙ rw f (edges_at ts hs ws m r i (omega arith))) in
-          (leaving_in u es (edge_at ts hs ws i) (rw (e, g) at (get_d_mem (take k (drop j es')) (i - j) (edge 0 0 0) (omega arith)))).1
+          (leaving_in u es (edge_at ts hs ws i) (rw (e, g) at (get_or_mem (take k (drop j es')) (i - j) (edge 0 0 0) (omega arith)))).1
 
 -- ---- the table and its index
 
@@ -231,6 +231,6 @@ module _ {n m : ℕ} {ts hs ws fs₀ is₀ : List ℕ} (o : Indexable n m ts hs 
             let q : below u ks + (n + 1) + (k - below u ks) ≡ n + 1 + k = omega arith in
             let e = sym (ap (λ (x : List Edge). get_or x (k - below u ks) (edge 0 0 0)) (r u a)) ∙ part_at is u (below u ks + (n + 1)) (equal u ks) (k - below u ks) (omega arith) in
             let w = ap (equal u) (sym (edges_heads ts hs ws m o.room)) in
-            let i = get_d_mem (into u es) (k - below u ks) (edge 0 0 0) (omega (arith, into_length u es)) in
+            let i = get_or_mem (into u es) (k - below u ks) (edge 0 0 0) (omega (arith, into_length u es)) in
             let x = (sound_fit n es (rules_accept n es o.rules) _ (into_in u es _ i)).tail_below in
             rw q at (rw e at x)

@@ -3,8 +3,8 @@
 --
 --   Sofar n ts hs ws m tall wide all last k == of the first k records, if all of them pass, no tail and weight has bits above the greatest: what is left to
 --                                             judge after record k − 1, whose rank is last, gives the verdict, where its tail is a vertex
-use Rattle.property.proofs.Basics.{◌≡◌, refl, sym, ap, ◌∙◌, inl, inr, Bool, true, not, ◌&&◌, List, ℕ, ◌+◌, ◌-◌, ◌*◌, ◌%◌, ◌≤◌, ◌<◌, dec_lt, arith, get_or, drop, eqb, ltb, lt-ltb, ltb-true, le-leb, leb-true}
-use lib.Bits.{bit_and, bit_or, or_add_and, and_le_l, and_le_r, or_shifted}
+use Rattle.property.proofs.Basics.{◌≡◌, refl, inl, inr, Bool, true, not, ◌&&◌, List, ℕ, ◌+◌, ◌-◌, ◌*◌, ◌%◌, ◌≤◌, ◌<◌, dec_lt, arith, get_or, drop, eqb, ltb, lt-ltb, ltb-true, le-leb, leb-true}
+use lib.Bits.{bit_or, or_add_and, and_le_l, and_le_r, or_shifted}
 use lib.Dec.{leb}
 use Rattle.graph.specs.Limits.{max_vertices, max_weight}
 use Rattle.graph.specs.Edge.{Edge, edge, precedes, edges}

@@ -3,7 +3,7 @@
 use Rattle.property.proofs.Basics.{◌≡◌, refl, ap, ◌∙◌, List, [], ◌∷◌, ◌++◌, map, Memᴰ, ℕ, zero, suc, ◌+◌, ◌-◌, ◌<◌, ◌≤◌, add-one, arith, length, get_or, set, take, drop, drop_of_length-le, length-take-le, drop-cons, get_or-take, take-set-lt}
 use Rattle.graph.specs.Edge.{Edge, edge, zip, edges}
 use Rattle.graph.specs.Code.{Room, edge_at, insert_at, delete_at}
-use Rattle.graph.proofs.Lists.{get_d_mem}
+use Rattle.graph.proofs.Lists.{get_or_mem}
 
 -- ---- three lists side by side
 
@@ -82,7 +82,7 @@ module _ (ts hs ws : List ℕ) (m : ℕ) (r : Room m ts hs ws) where
 
   -- the edge that stands at index k is one of the edges
   pub edges_mem : (k : ℕ) → k < m → Memᴰ (edge_at ts hs ws k) (edges ts hs ws m)
-  edges_mem k h = rw (edges_at k h) at (get_d_mem (edges ts hs ws m) k (edge 0 0 0) (omega (arith, edges_length)))
+  edges_mem k h = rw (edges_at k h) at (get_or_mem (edges ts hs ws m) k (edge 0 0 0) (omega (arith, edges_length)))
 
   pub edges_more : (k : ℕ) → k < m → drop k (edges ts hs ws m) ≡ edge_at ts hs ws k ∷ drop (k + 1) (edges ts hs ws m)
   edges_more k h =

@@ -1,4 +1,6 @@
 // The edge table: its rules, look-up, one edge more or less, and its index and that of the reversed table.
+#![tactic(auto)]
+
 pub mod arc;
 pub mod edit;
 pub mod ends;

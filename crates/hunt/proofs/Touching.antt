@@ -9,7 +9,7 @@ use Rattle.graph.specs.Arc.{arc_head}
 use Rattle.graph.specs.Edge.{Edge, edge}
 use Rattle.graph.specs.Index.{edge_of, part_in, part}
 use Rattle.graph.proofs.Tests.{both}
-use Rattle.graph.proofs.Lists.{get_d_within}
+use Rattle.graph.proofs.Lists.{get_or_within}
 use Rattle.graph.proofs.Arcs.{fit_arc, mem_part}
 use Rattle.run.specs.Run.{word}
 use Rattle.affected.specs.Net.{removed}
@@ -22,8 +22,8 @@ use Rattle.hunt.proofs.Bits.{marks_if}
 -- an edge by what the code reads
 pub same_held : (P : Property) (s t h w : ℕ) (ws : List ℕ) → t < length ws → h < length ws → holds P s (get_or ws t 0) w h (get_or ws h 0) ≡ held P s ws (edge t h w)
 same_held P s t h w ws tail head =
-    let p : get_or ws t 0 ≡ word P ws t = get_d_within ws t 0 P.none tail in
-    let q : get_or ws h 0 ≡ word P ws h = get_d_within ws h 0 P.none head in
+    let p : get_or ws t 0 ≡ word P ws t = get_or_within ws t 0 P.none tail in
+    let q : get_or ws h 0 ≡ word P ws h = get_or_within ws h 0 P.none head in
     rw (p, q)
 
 -- ---- growth

@@ -1,6 +1,8 @@
 // The hunt for the vertices of a row that a batch affects: the old edges are taken from last to first, pass by pass until one adds none. An edge marks
 // its head where it holds it up, and is removed or has its tail marked. A pass leaves out vertices none of whose edges can add anything: `todo` has at
 // least the others. It has them by their number from the far end, n - 1 - u for vertex u, so that the next one to do is the highest.
+#![tactic(auto)]
+
 ghost use Rattle.std.specs.Prelude.{◌≡◌, true, cond, ◌+◌, ◌-◌, ◌<◌, ◌≤◌, length, get_or, set};
 ghost use mathlib.Core.List.{List, Memᴰ};
 ghost use Rattle.property.specs.Property.{property};

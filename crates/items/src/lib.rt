@@ -1,4 +1,6 @@
 // The changes of a batch, item by item, on a scratch table: each is judged against the edges as earlier ones left them.
+#![tactic(auto)]
+
 pub mod lay;
 pub mod retune;
 

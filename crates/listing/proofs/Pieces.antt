@@ -6,7 +6,7 @@ use Rattle.graph.specs.declared.Judged.TheVariants.{Fine, Refused}
 use Rattle.graph.specs.Refusal.{Verdict, accept, refuse, ◌▷◌}
 use Rattle.graph.specs.Edge.{range}
 use Rattle.graph.specs.Code.{told}
-use Rattle.graph.proofs.Lists.{get_d_within}
+use Rattle.graph.proofs.Lists.{get_or_within}
 use Rattle.network.specs.Network.{Network}
 use Rattle.calls.specs.Code.{network}
 use Rattle.dimacs.specs.Network.{read_network}
@@ -99,7 +99,7 @@ module _ {gr ss : List ℕ} {p : Prepared} {ts hs ws xs f b : List ℕ} (h : Sho
           let es = edges_read (read_network gr) in
           ap (λ (ps : List (List ℕ)). get_or ps (i + 1) []) parts_accepted
           ∙ rw add-one
-          (get_d_within (map piece (take p.sources xs)) i [] (piece 0) (omega (arith, length-map (take p.sources xs) piece, length-take-le p.sources xs l))
+          (get_or_within (map piece (take p.sources xs)) i [] (piece 0) (omega (arith, length-map (take p.sources xs) piece, length-take-le p.sources xs l))
           ∙ get_or-map piece (take p.sources xs) i 0)
           ∙ ap piece (get_or-take p.sources xs i 0 j)
           ∙ ap (λ (k : ℕ). lines_of (graph k es) (network_of (graph k es)) (get_or xs i 0) (range 0 k)) (sym r.vertices)

@@ -7,7 +7,7 @@ use Rattle.property.specs.Property.{property, properties}
 use Rattle.graph.specs.Edge.{range}
 use Rattle.calls.proofs.Rows.{row_ends}
 use Rattle.graph.specs.Limits.{max_vertices}
-use Rattle.graph.proofs.Lists.{get_d_within}
+use Rattle.graph.proofs.Lists.{get_or_within}
 use Rattle.network.specs.Network.{Network}
 use Rattle.dimacs.specs.Decimal.{digits}
 use Rattle.dimacs.specs.Lines.{fields_of}
@@ -112,7 +112,7 @@ module _ (g : Graph) (w : Network) (s : ℕ) (ls xs : List ℕ) (chosen : landma
   value_row t p l h =
       let (a, b) = filled p h in
       ap (λ (v : List ℕ). get_or (settled_row g.n v w s (p + 1)) t (property (p + 1)).none) chosen
-      ∙ get_d_within (settled_row g.n ls w s (p + 1)) t (property (p + 1)).none 0 (omega (arith, a))
+      ∙ get_or_within (settled_row g.n ls w s (p + 1)) t (property (p + 1)).none 0 (omega (arith, a))
       ∙ sym (b t l)
 
   line_rows : (t : ℕ) → t < g.n → line_of g w s t ≡ rows_line s t g.n xs

@@ -1,4 +1,6 @@
 // What the values program prints, piece by piece.
+#![tactic(auto)]
+
 pub mod lines;
 pub mod parts;
 pub mod prepare;

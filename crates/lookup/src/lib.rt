@@ -1,4 +1,6 @@
 // Row look-up: one landmark row, shown as a part of the list that it belongs to.
+#![tactic(auto)]
+
 ghost use Rattle.std.specs.Prelude.{◌≡◌};
 ghost use Rattle.graph.specs.Refusal.{replied};
 ghost use Rattle.graph.specs.Code.{told};

@@ -12,7 +12,7 @@ use Rattle.graph.specs.Edge.{Edge, reverse, range}
 use Rattle.graph.specs.Route.{Route, Best}
 use Rattle.graph.specs.Table.{size, short_table, table}
 use Rattle.graph.proofs.Tests.{both, neither}
-use Rattle.graph.proofs.Lists.{mem_range_0, range_below, get_d_mem, mem_index}
+use Rattle.graph.proofs.Lists.{mem_range_0, range_below, get_or_mem, mem_index}
 use Rattle.graph.proofs.Verdicts.{then_accept, accept_then, then_same, if_accept, reply_accepted, choose_accept}
 use Rattle.graph.proofs.Order.{Within}
 use Rattle.run.specs.Run.{Tally, no_tally, word, relaxable, pass}
@@ -142,7 +142,7 @@ module _ (n : ℕ) (ls : List ℕ) (w : Network) (g : Good n ls w) (q : Query) w
     Found t = (l a b : ℕ) × Memᴰ l ls × Best P es s l a × Best P es l t b × (top t ≡ P.join a b)
 
     found : (t i : ℕ) → i < length ls → top t ≡ by P (know i) t → Found t
-    found t i h e = (get_or ls i 0, (know i).into, word P (know i).row t, get_d_mem ls i 0 h, back i h, ahead i h t, e)
+    found t i h e = (get_or ls i 0, (know i).into, word P (know i).row t, get_or_mem ls i 0 h, back i h, ahead i h t, e)
 
     -- Where the bound is none, the word by way of the first landmark is none too: it is not better than the bound, and it is none or the
     -- value of a route, which is no worse than none.

@@ -1,1 +1,3 @@
 // The public calls: definitions that their contracts cite.
+
+#![tactic(auto)]

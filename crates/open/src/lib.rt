@@ -1,4 +1,6 @@
 // Opening a network: every row is run from where only its landmark has a route, in its place in the lent list. Nothing waits after n rounds.
+#![tactic(auto)]
+
 ghost use Rattle.std.specs.Prelude.{◌≡◌, List, map, ◌*◌, ◌<◌, ◌≤◌, length};
 ghost use Rattle.graph.specs.Edge.{Edge, reverse, edges};
 ghost use Rattle.graph.specs.Index.{Fit, Own};

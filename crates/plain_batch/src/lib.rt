@@ -1,4 +1,6 @@
 // A batch on plain numbers, its changes laid in one list: numbers 1 to 4, its changes on a scratch table, then every row of the network.
+#![tactic(auto)]
+
 ghost use Rattle.std.specs.Prelude.{◌≡◌, List, ◌-◌, ◌*◌, length, take, drop};
 ghost use Rattle.graph.specs.Limits.{max_batch};
 ghost use Rattle.graph.specs.Refusal.{accept};

@@ -10,7 +10,7 @@ use Rattle.graph.specs.Edge.{range}
 use Rattle.graph.specs.Table.{size, short_table, table}
 use Rattle.graph.specs.Code.{told}
 use Rattle.graph.proofs.Tests.{or_false}
-use Rattle.graph.proofs.Lists.{range_below, get_d_within, take_replicate}
+use Rattle.graph.proofs.Lists.{range_below, get_or_within, take_replicate}
 use Rattle.graph.proofs.Verdicts.{then_accept, accept_then, accept_if, then_same, verdict_replied, outcome_refused, outcome_accepted}
 use Rattle.graph.proofs.Judging.{then_refused}
 use Rattle.run.specs.Run.{Tally, word}
@@ -121,7 +121,7 @@ module _ (n : ℕ) (ls : List ℕ) (w : Network) (cs : List Change) (p s : ℕ) 
   module _ (bs as' : List ℕ) (lb : length bs ≡ n) (la : length as' ≡ n) (eb : bs ≡ (before n ls w cs p s).memory.settled) (ea : as' ≡ (afterwards n ls w cs p s).memory.settled) where
     -- within a list what stands past its end does not matter
     tells : (l : List ℕ) → length l ≡ n → {z : List ℕ} → l ≡ z → (t : ℕ) → t < n → get_or l t 0 ≡ word (property p) z t
-    tells l k e t h = get_d_within l t 0 (property p).none (omega arith) ∙ ap (λ (y : List ℕ). word (property p) y t) e
+    tells l k e t h = get_or_within l t 0 (property p).none (omega arith) ∙ ap (λ (y : List ℕ). word (property p) y t) e
 
     same_shown : {A : Type 0} (f : ℕ → ℕ → A) → map (λ t. f (get_or bs t 0) (get_or as' t 0)) (range 0 (length bs))
         ≡ map (λ t. f (word (property p) (before n ls w cs p s).memory.settled t) (word (property p) (afterwards n ls w cs p s).memory.settled t)) (range 0 n)

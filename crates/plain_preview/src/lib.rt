@@ -1,4 +1,6 @@
 // What a batch would do to one source and property: the batch on a copy of the network, and a query before and after.
+#![tactic(auto)]
+
 ghost use Rattle.std.specs.Prelude.{◌≡◌, List, ◌*◌, ◌≤◌, length, replicate};
 ghost use Rattle.graph.specs.Limits.{max_vertices, max_batch};
 ghost use Rattle.graph.specs.Refusal.{accept, ◌▷◌};

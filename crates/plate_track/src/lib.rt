@@ -1,5 +1,7 @@
 // The calls for C. Each calls the proved call and spells its reply: the refusal number is returned, 0 where the call is accepted, and
 // the reply list gets the words of the answer, or the place of a refusal. A reply list of fewer than 8 words is number 2.
+#![tactic(auto)]
+
 ghost use Rattle.std.specs.Prelude.{◌≡◌};
 ghost use Rattle.network.specs.Open.{open_call};
 ghost use Rattle.network.specs.Query.{query_call};

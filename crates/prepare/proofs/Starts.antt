@@ -14,7 +14,7 @@ use Rattle.graph.specs.Edge.{Edge, reverse, exists, range}
 use Rattle.graph.proofs.Arcs.{own_reads, own_whole}
 use Rattle.graph.proofs.Edges.{exists_true, true_exists, mem_reverse, reverse_mem}
 use Rattle.graph.proofs.Tests.{both, and_true, or_right, same_test}
-use Rattle.graph.proofs.Lists.{length_table, table_at, get_d_within}
+use Rattle.graph.proofs.Lists.{length_table, table_at, get_or_within}
 use Rattle.run.specs.Run.{no_tally, word}
 use Rattle.run.specs.Code.{bits, Marks}
 use Rattle.run.proofs.States.{bits_at, marks_within}
@@ -99,7 +99,7 @@ module _ {P : Property} {n : ℕ} {is ms ws bs : List ℕ} (l : length ws ≡ n)
           ext_get_or 0 out (map given (range 0 n)) (at.size ∙ sym (length_table given 0 n))
               (λ k o. let h : k < n = omega (arith, at.size) in by_test (marked (waiting_of ms) k)
               (λ on. at.gone k (below k on) on ∙ ap (λ b. cond b P.none (word P ws k)) (sym (bits_at n ms k h ∙ on)))
-              (λ off. at.kept k (λ a on. true≢false (sym on ∙ off)) ∙ get_d_within ws k 0 P.none (omega arith) ∙ ap (λ b. cond b P.none (word P ws k)) (sym (bits_at n ms k h ∙ off)))
+              (λ off. at.kept k (λ a on. true≢false (sym on ∙ off)) ∙ get_or_within ws k 0 P.none (omega arith) ∙ ap (λ b. cond b P.none (word P ws k)) (sym (bits_at n ms k h ∙ off)))
               ∙ sym (table_at given n k 0 h)),
           (record { kept = at.raised.kept; only = λ t h. ⊎_elim inl (λ q. inr (q.0, q.2, q.3)) (at.raised.only t h); all = λ t q. at.raised.all t (q.0, below q.0 q.1, q.1, q.2) }, at.waiting),
         )

@@ -1,5 +1,7 @@
 // A row after a batch: the hunt for its affected vertices starts at the removed edges that hold up their heads, and then the row has the state in which
 // its rounds start. What a batch changed is a list `net` with two words for each change: see `compare`.
+#![tactic(auto)]
+
 ghost use Rattle.std.specs.Prelude.{◌≡◌, true, false, cond, List, ℕ, ◌+◌, ◌*◌, ◌<◌, ◌≤◌, length, get_or, set};
 ghost use Rattle.property.specs.Property.{property};
 ghost use Rattle.frontier.specs.Waiting.{waiting_of, count_of};

@@ -1,4 +1,6 @@
 // A preview of a batch as it is lent: a slice of change records, copied as a batch's are.
+#![tactic(auto)]
+
 ghost use Rattle.std.specs.Prelude.{◌≡◌, map};
 ghost use Rattle.answers.specs.Preview.{preview_call};
 ghost use Rattle.calls.specs.Code.{network};

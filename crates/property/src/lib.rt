@@ -1,4 +1,6 @@
 // The five properties of routes, by number: what a run computes with. Every sum saturates.
+#![tactic(auto)]
+
 ghost use Rattle.std.specs.Prelude.{◌≡◌, min, max};
 ghost use Rattle.property.specs.Property.{plus, property};
 

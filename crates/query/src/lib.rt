@@ -1,4 +1,6 @@
 // A query: its refusals, its start words, its run.
+#![tactic(auto)]
+
 ghost use Rattle.std.specs.Prelude.{◌≡◌, false, List, ℕ, ◌+◌, ◌<◌, ◌≤◌, length, get_or};
 ghost use Rattle.property.specs.Property.{property};
 ghost use Rattle.graph.specs.Limits.{max_vertices};

@@ -1,4 +1,6 @@
 // A whole history in one call: an opening, then batch after batch, each with the count that the one before left.
+#![tactic(auto)]
+
 ghost use Rattle.std.specs.Prelude.{◌≡◌};
 ghost use Rattle.calls.specs.Code.{network};
 ghost use Rattle.items.specs.Code.{changes_of};

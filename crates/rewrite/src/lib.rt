@@ -1,4 +1,6 @@
 // A table written over another, as a batch leaves it.
+#![tactic(auto)]
+
 ghost use Rattle.std.specs.Prelude.{◌≡◌, ◌++◌, ◌-◌, ◌≤◌, length, take, replicate};
 ghost use Rattle.graph.specs.Limits.{max_edges};
 ghost use Rattle.graph.specs.Refusal.{over};

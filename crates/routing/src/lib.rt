@@ -1,4 +1,6 @@
 // The route behind a value: its refusals and its writing, with the search for it between them.
+#![tactic(auto)]
+
 pub mod write;
 
 ghost use Rattle.std.specs.Prelude.{◌≡◌, length};

@@ -1,6 +1,8 @@
 // The rows of one side of a batch: each is prepared for the new edges and settled. `net` is what the batch changed, `old` the index of the
 // table before it, `other` what is now in the place of each of its arcs, `new` the index of the table after it, and `into` that of the new table
 // reversed. A row is run in its place, and costs a look at each change and what it changes: no row is copied, and none goes over all edges.
+#![tactic(auto)]
+
 ghost use Rattle.std.specs.Prelude.{◌≡◌, List, ◌+◌, ◌*◌, ◌<◌, ◌≤◌, length};
 ghost use Rattle.graph.specs.Limits.{max_vertices, max_edges};
 ghost use Rattle.graph.specs.Edge.{Edge};

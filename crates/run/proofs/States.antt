@@ -6,7 +6,7 @@ use Rattle.property.specs.Laws.{Laws}
 use Rattle.frontier.specs.Waiting.{waiting_of, capacity, any_of}
 use Rattle.frontier.proofs.Laws.{any_none, none_any, any_some, some_any}
 use Rattle.graph.specs.Edge.{Edge, leaving}
-use Rattle.graph.proofs.Lists.{at_set, get_d_within, take_replicate, replicate_at}
+use Rattle.graph.proofs.Lists.{at_set, get_or_within, take_replicate, replicate_at}
 use Rattle.run.specs.declared.Tally.{Tally}
 use Rattle.run.specs.Run as run
 use Rattle.run.specs.Run.{State, word, relaxable, store_if, relax, clear, handle}
@@ -91,7 +91,7 @@ module _ (P : Property) (n h a : ℕ) (ws bs : List ℕ) (t : Tally) (e : Edge)
   relaxable_by =
       ap (λ (v : ℕ). P.better v (word P ws e.head)) value
       ∙ ap (λ (k : ℕ). P.better a (word P ws k)) head
-      ∙ ap (P.better a) (get_d_within ws h P.none 0 fits)
+      ∙ ap (P.better a) (get_or_within ws h P.none 0 fits)
 
   pub relax_stores : (cs : List ℕ) → h < n → P.better a (get_or ws h 0) ≡ true → waiting_of cs ≡ set (waiting_of bs) h true
       → state n (set ws h a) cs (storing t) ≡ relax P (state n ws bs t) e
@@ -118,8 +118,8 @@ relax_tail P L st e m h = by_test (relaxable P st.words e)
 pub keeps_tail : (P : Property) → Laws P → (n : ℕ) (ws bs : List ℕ) (t : Tally) {st : State} (e : Edge) → st ≡ relax P (state n ws bs t) e
     → e.tail < n → e.head < n → length ws ≡ n → length st.words ≡ n → get_or ws e.tail 0 ≤ M → get_or st.words e.tail 0 ≡ get_or ws e.tail 0
 keeps_tail P L n ws bs t {st} e q i h a b m =
-    let w = get_d_within ws e.tail P.none 0 (omega arith) in
-    sym (get_d_within st.words e.tail P.none 0 (omega arith))
+    let w = get_or_within ws e.tail P.none 0 (omega arith) in
+    sym (get_or_within st.words e.tail P.none 0 (omega arith))
     ∙ ap (λ (x : State). word P x.words e.tail) q
     ∙ relax_tail P L (state n ws bs t) e (omega arith) (omega arith)
     ∙ w

@@ -1,6 +1,8 @@
 // Runs: handling a vertex, the schedule, rounds, and where a run starts. Each step takes the tally by value and returns it; `run` alone is lent it.
 // The edges of vertex `u` stand from place `firsts[u]` up to `firsts[u + 1]` in `heads` and `weights`: by themselves, as a table has them, or as
 // arcs where `packed`. An index has places and arcs in one list, and is lent for all three.
+#![tactic(auto)]
+
 ghost use Rattle.std.specs.Prelude.{◌≡◌, List, true, false, ℕ, ◌+◌, ◌*◌, ◌<◌, ◌≤◌, length, set, replicate};
 ghost use Rattle.property.specs.Property.{property};
 ghost use Rattle.frontier.specs.Waiting.{capacity};

@@ -1,4 +1,6 @@
 // Lines of a text: where one ends, how it begins, and whether it is a comment; and the numbers of a line.
+#![tactic(auto)]
+
 pub mod numbers;
 
 ghost use Rattle.std.specs.Prelude.{◌≡◌, drop};

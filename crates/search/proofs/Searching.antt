@@ -24,7 +24,7 @@ use Rattle.graph.specs.Table.{is_edge}
 use Rattle.graph.specs.Code.{equal}
 use Rattle.graph.specs.Leads.{Leads, stop, on, visited}
 use Rattle.graph.proofs.Tests.{both, and_true}
-use Rattle.graph.proofs.Lists.{at_set, get_d_mem}
+use Rattle.graph.proofs.Lists.{at_set, get_or_mem}
 use Rattle.graph.proofs.Counts.{equal_all, equal_set}
 use Rattle.graph.proofs.Edges.{keep_in, in_keep, leaving_in, in_leaving}
 use Rattle.graph.proofs.Order.{table_ordered, Sound, EdgeFacts, sound_fit}
@@ -395,7 +395,7 @@ module _ (f : Edge → Bool) (es : List Edge) (n s : ℕ) (sound : Sound n es) (
       o = u.held.entered j h
 
       step_in : (k : ℕ) → k < length ps → Memᴰ (step k) ps
-      step_in k l = get_d_mem ps k _ l
+      step_in k l = get_or_mem ps k _ l
 
       step_fit : (k : ℕ) → k < length ps → EdgeFacts n (step k)
       step_fit k l = kept_fit (step k) (leads_mem o.leads (step_in k l))

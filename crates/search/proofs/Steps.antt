@@ -13,7 +13,7 @@ use Rattle.graph.specs.Edge.{Edge, edge, leaving}
 use Rattle.graph.specs.Code.{equal}
 use Rattle.graph.specs.Index.{own}
 use Rattle.graph.proofs.Tests.{and_true, and_false, neither}
-use Rattle.graph.proofs.Lists.{at_set, get_d_within, replicate_at}
+use Rattle.graph.proofs.Lists.{at_set, get_or_within, replicate_at}
 use Rattle.graph.proofs.Counts.{equal_all, equal_set}
 use Rattle.run.specs.Start.{values_from}
 use Rattle.answers.specs.Routing.{eligible}
@@ -36,7 +36,7 @@ module _ (p v x w y : ℕ) where
 pub eligible_word : (p v u h w a : ℕ) (ws : List ℕ) (r : Bool) → u < length ws → arc_head a < length ws → h ≡ arc_head a → w ≡ arc_weight a
     → r ≡ is_eligible p v (get_or ws u 0) w (get_or ws h 0) → eligible p ws v (edge u (arc_head a) (arc_weight a)) ≡ r
 eligible_word p v u h w a ws r i j f g e =
-    rw (e, get_d_within ws u (property p).none 0 i, get_d_within ws (arc_head a) (property p).none 0 j, f, g)
+    rw (e, get_or_within ws u (property p).none 0 i, get_or_within ws (arc_head a) (property p).none 0 j, f, g)
 
 -- ---- a vertex is found
 
@@ -91,7 +91,7 @@ module _ (n s : ℕ) (qs fs : List ℕ) (e : fs ≡ replicate n unfound) (l : s 
       let x = length-set fs s no_arc in
       let y = length-set qs 0 s in
       let r = length-replicate n unfound in
-      let a = equal_set unfound (replicate n unfound) s no_arc (omega arith) (get_d_within (replicate n unfound) s 0 unfound (omega arith) ∙ replicate_at n s unfound) (λ q. omega arith) in
+      let a = equal_set unfound (replicate n unfound) s no_arc (omega arith) (get_or_within (replicate n unfound) s 0 unfound (omega arith) ∙ replicate_at n s unfound) (λ q. omega arith) in
       record {
         few = omega arith;
         room = omega arith;
@@ -147,7 +147,7 @@ module _ (n s t : ℕ) (es : List Edge) (ws : List ℕ) where
       → search (eligible p ws (get_or ws t 0)) es t n 0 (begun n s) ≡ searched p es n s t
   searched_best p a l e =
       let (b, c) = neither (eqb p 2) (ltb 4 p) a in
-      rw (← e) (along_same (eligible p ws (get_or ws t 0)) (is_searched p ws t) (λ x. rw (b, c, get_d_within ws t (property p).none 0 l)))
+      rw (← e) (along_same (eligible p ws (get_or ws t 0)) (is_searched p ws t) (λ x. rw (b, c, get_or_within ws t (property p).none 0 l)))
 
   -- for handovers and reach every edge is, as each is eligible for reach
   pub searched_all : (p : ℕ) → (eqb p 2 || ltb 4 p) ≡ true → search (eligible 5 ws 1) es t n 0 (begun n s) ≡ searched p es n s t

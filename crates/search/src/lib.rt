@@ -1,4 +1,6 @@
 // The search for a route, breadth first from its source: found first is what has fewer edges, then lower vertices, and then lighter twins.
+#![tactic(auto)]
+
 ghost use Rattle.std.specs.Prelude.{◌≡◌, ◌≢◌, Bool, not, List, ◌<◌, ◌≤◌, length};
 ghost use Rattle.graph.specs.Limits.{max_vertices};
 ghost use Rattle.graph.specs.Arc.{arc};

@@ -1,4 +1,6 @@
 // The settled check: the first edge that could still better a word.
+#![tactic(auto)]
+
 ghost use Rattle.std.specs.Prelude.{◌≡◌, cond, ◌+◌, ◌*◌, ◌<◌, ◌≤◌, length, get_or, eqb};
 ghost use Rattle.graph.specs.Refusal.{accept, accepted};
 ghost use Rattle.graph.specs.Edge.{edge, reverse};

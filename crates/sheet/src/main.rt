@@ -1,5 +1,7 @@
 // A field engineer's sheet: a small network through the calls. It is opened and asked, loses the edge 0→1 and gets it back, is
 // handed a batch with one bad change among ten, and is asked from a vertex that was never used before, also with a schedule.
+#![tactic(auto)]
+
 use apply::Applied;
 use open::Opened;
 use query::Answered;

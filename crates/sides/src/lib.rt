@@ -1,4 +1,6 @@
 // The rows of both sides of a batch, with its changes listed and both tables indexed: each is run in its place.
+#![tactic(auto)]
+
 ghost use Rattle.std.specs.Prelude.{List, ◌*◌, ◌≤◌, length};
 ghost use Rattle.graph.specs.Limits.{max_vertices};
 ghost use Rattle.graph.specs.Edge.{Edge};

@@ -1,4 +1,6 @@
 // Source files, read line by line into a scratch list; the lent list is written once the whole file is good.
+#![tactic(auto)]
+
 ghost use Rattle.std.specs.Prelude.{◌≡◌, List, [], ℕ, ◌+◌, ◌<◌, ◌≤◌, ◌^◌, length, drop};
 ghost use Rattle.std.proofs.Math.Option.{bind};
 ghost use Rattle.graph.specs.Limits.{max_vertices};

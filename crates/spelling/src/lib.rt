@@ -1,4 +1,6 @@
 // What a caller in C gets: replies as a number and words.
+#![tactic(auto)]
+
 pub mod spell;
 
 // How many words a reply list has at least: `replyWords` of specs/Code.antt is the same number.

@@ -14,7 +14,7 @@ use Rattle.frontier.specs.Waiting.{any_of, count_of}
 use Rattle.frontier.proofs.Counts.{count_le}
 use Rattle.frontier.proofs.Laws.{any_some, count_insert}
 use Rattle.graph.specs.Edge.{Edge, leaving, range}
-use Rattle.graph.proofs.Lists.{at_set, replicate_at, get_d_within}
+use Rattle.graph.proofs.Lists.{at_set, replicate_at, get_or_within}
 use Rattle.graph.proofs.Edges.{leaving_in}
 use Rattle.graph.proofs.Order.{Within}
 use Rattle.run.specs.Run.{State, one_round, counted, word, waits, relaxable, store_if, clear, handle, visit_if, visit, pass, round, settle}
@@ -56,7 +56,7 @@ module _ {P : Property} (L : Laws P) (es : List Edge) (n : ℕ) (inside : Within
 
   word_fits : (st : State) → FitWords n st → (t : ℕ) → word P st.words t ≤ M
   word_fits st g t = let z = g.words in elim (dec_lt t n) [
-    | yes h ↦ rw (get_d_within st.words t none 0 (omega arith)) (g.fits t h)
+    | yes h ↦ rw (get_or_within st.words t none 0 (omega arith)) (g.fits t h)
     | no d ↦ rw (get_or-eq_default st.words none {n = t} (omega arith)) L.none_fits
   ]
 

@@ -4,7 +4,7 @@
 use Rattle.property.proofs.Basics.{◌≡◌, refl, ◌∙◌, ⊎_elim, Bool, true, false, cond, List, [], ◌∷◌, Memᴰ, Memᴰ-head, Memᴰ-tail, ℕ, ◌≤◌, ◌<◌, dec_lt, arith, get_or, set, length, replicate, length-set, length-replicate, set_out, eqb}
 use Rattle.property.specs.Property.{M, Property}
 use Rattle.property.specs.Laws.{Laws, Joins}
-use Rattle.graph.proofs.Lists.{at_set, get_d_within, replicate_at, length_table, table_at}
+use Rattle.graph.proofs.Lists.{at_set, get_or_within, replicate_at, length_table, table_at}
 use Rattle.run.specs.Run.{word}
 use Rattle.theory.specs.Rest.{FitWords}
 use Rattle.run.specs.Start.{Landmark, bound, opened, asked}
@@ -34,7 +34,7 @@ opened_words {P = P} L n s = record {
     nones : (t : ℕ) → t < n → get_or (replicate n P.none) t 0 ≤ M
     nones t h =
         let b : t < length (replicate n P.none) = rw length-replicate h in
-        rw (get_d_within (replicate n P.none) t 0 P.none b, replicate_at n t P.none) L.none_fits
+        rw (get_or_within (replicate n P.none) t 0 P.none b, replicate_at n t P.none) L.none_fits
 
 pub record Told (P : Property) (l : Landmark) : Type 0 where
   pub into : l.into ≤ M

@@ -1,4 +1,6 @@
 // Prints the five values from every source of deck.ss to every vertex of deck.gr. Both files are read in the folder that it is started in.
+#![tactic(auto)]
+
 ghost use Rattle.std.specs.Prelude.{◌≡◌, ◌+◌, ◌*◌, length};
 ghost use Rattle.io.specs.Counts.{IsPrefixLen};
 ghost use Rattle.graph.specs.Limits.{max_vertices, max_edges};

@@ -1,5 +1,5 @@
 -- `frontier::clear` meets its contract. Assumes nothing.
-use Rattle.property.proofs.Basics.{◌≡◌, ap, ◌∙◌, false, ℕ, ◌*◌, arith, needs, length, replicate}
+use Rattle.property.proofs.Basics.{◌≡◌, ap, ◌∙◌, false, ℕ, ◌*◌, arith, length, replicate}
 use Rattle.frontier.specs.Waiting.{capacity}
 use Rattle.frontier.proofs.clear.Goals as goal
 

@@ -1,5 +1,5 @@
 -- `frontier::next_from` meets its contract. Assumes nothing.
-use Rattle.property.proofs.Basics.{arith, needs}
+use Rattle.property.proofs.Basics.{arith}
 use Rattle.frontier.proofs.Laws.{waiting_length}
 use Rattle.frontier.proofs.next_from.Goals as goal
 

@@ -1,5 +1,4 @@
 -- `property::along` meets its contract: each arm is the property of its number. Assumes nothing.
-use Rattle.property.proofs.Basics.{needs}
 use Rattle.property.proofs.Instances.{property_arms, property_rest}
 use Rattle.property.proofs.along.Goals as goal
 

@@ -8,7 +8,7 @@ use Rattle.graph.specs.Edge.{Edge}
 use Rattle.graph.specs.Index.{edge_in, part_in, OwnIn}
 use Rattle.run.specs.Run as spec
 use Rattle.run.specs.Code.{state, Ready, Ran}
-use Rattle.graph.proofs.Lists.{fold_turn, fold_done, get_d_within}
+use Rattle.graph.proofs.Lists.{fold_turn, fold_done, get_or_within}
 use Rattle.run.proofs.Folds.{part_more, part_none}
 use Rattle.run.proofs.States.{marks_set, ran_none, ran_then, ran_within, clear_bit, handle_own, keeps_tail}
 use Rattle.run.proofs.handle.Goals as goal
@@ -133,7 +133,7 @@ loop-j-preserved c =
     let e = edge_in g.packed g.heads.now g.weights.now g.u at.j in
     let z = at.invariant.5.sized.words in
     let (u, f) = ready in
-    let w = get_d_within at.words g.u P.none 0 (omega arith) in
+    let w = get_or_within at.words g.u P.none 0 (omega arith) in
     let v = ap (λ (x : ℕ). P.along x e.weight) (w ∙ at.invariant.6) ∙ ap (λ (x : ℕ). P.along (get_or g.words.now g.u 0) x) (sym c.weight_in.ensures) ∙ sym c.along-x.ensures in
     let m : get_or at.words g.u 0 ≤ M = omega (arith, at.invariant.6, c.type_inv.words g.u) in
     let q = c.relax-t.ensures.result_after e (sym c.head_in-h.ensures) v in

@@ -8,7 +8,7 @@ use Rattle.graph.specs.Edge.{Edge}
 use Rattle.graph.specs.Index.{edge_in, part_in, OwnIn}
 use Rattle.run.specs.Run as spec
 use Rattle.run.specs.Code.{state, Ready, Ran}
-use Rattle.graph.proofs.Lists.{fold_turn, fold_done, get_d_within}
+use Rattle.graph.proofs.Lists.{fold_turn, fold_done, get_or_within}
 use Rattle.run.proofs.Folds.{part_more, part_none}
 use Rattle.run.proofs.States.{marks_set, ran_none, ran_then, ran_within, clear_bit, handle_own, keeps_tail}
 use Rattle.run.proofs.handle.Given as goal

@@ -1,5 +1,5 @@
 -- `frontier::slices::any` meets its contract. Assumes nothing.
-use Rattle.property.proofs.Basics.{ap, ◌∙◌, not, needs, eqb}
+use Rattle.property.proofs.Basics.{ap, ◌∙◌, not, eqb}
 use Rattle.frontier.specs.Waiting.{waiting_of}
 use Rattle.frontier.proofs.Counts.{any_count}
 use Rattle.frontier.proofs.slices.any.Goals as goal

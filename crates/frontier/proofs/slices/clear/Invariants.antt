@@ -1,7 +1,5 @@
 -- `frontier::slices::clear` meets its contract. The loop's invariant: the words below `k` are 0, and the others as they were. Assumes nothing.
-use Rattle.property.proofs.Basics.{◌≡◌, ap, ◌∙◌, List, ◌++◌, ℕ, ◌-◌, ◌≤◌, arith, needs, length, set, drop, replicate, length-set}
-use borrow.Author.Fill.{fill_none, fill_more}
-use Rattle.frontier.proofs.Laws.{waiting_cleared}
+use Rattle.property.proofs.Basics.{◌≡◌, ◌++◌, ◌-◌, ◌≤◌, length, drop, replicate}
 use Rattle.frontier.proofs.slices.clear.Given as goal
 
 abbrev pub invariant-loop-k : goal.invariant-loop-k

@@ -1,5 +1,4 @@
 -- `frontier::slices::contains` meets its contract. Assumes nothing.
-use Rattle.property.proofs.Basics.{needs}
 use Rattle.frontier.proofs.Words.{waiting_test}
 use Rattle.frontier.proofs.slices.contains.Goals as goal
 

@@ -1,6 +1,6 @@
 -- `frontier::slices::count` meets its contract. The loop's invariant: what was counted, and what waits from word `k` on, make up the whole.
 -- Assumes nothing.
-use Rattle.property.proofs.Basics.{◌≡◌, sym, ◌+◌, ◌-◌, zero-add, arith, needs, length, get_or, drop}
+use Rattle.property.proofs.Basics.{◌≡◌, sym, ◌+◌, zero-add, arith, get_or, drop}
 use lib.Count.{ones}
 use Rattle.frontier.specs.Waiting.{waiting_of, count_of}
 use Rattle.frontier.proofs.Counts.{count_word, count_end, count_words_le}

@@ -1,5 +1,4 @@
 -- `frontier::slices::insert` meets its contract. Assumes nothing.
-use Rattle.property.proofs.Basics.{needs}
 use Rattle.frontier.proofs.Words.{waiting_insert}
 use Rattle.frontier.proofs.slices.insert.Goals as goal
 

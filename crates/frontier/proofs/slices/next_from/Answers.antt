@@ -1,5 +1,5 @@
 -- `frontier::slices::next_from` meets its contract. Assumes nothing.
-use Rattle.property.proofs.Basics.{◌≡◌, sym, ap, ◌∙◌, List, ℕ, ◌-◌, ◌*◌, ◌/◌, ◌%◌, ◌^◌, ◌<◌, div-add-mod', lt_of_le_of_lt, arith, needs, length, get_or}
+use Rattle.property.proofs.Basics.{◌≡◌, sym, ap, ◌∙◌, List, ℕ, ◌-◌, ◌*◌, ◌/◌, ◌%◌, ◌^◌, ◌<◌, div-add-mod', lt_of_le_of_lt, arith, length, get_or}
 use lib.Bits.{bit_and, and_le_l}
 use Rattle.frontier.specs.Waiting.{waiting_of, next_from}
 use Rattle.frontier.proofs.Word.{high_mask}

@@ -1,6 +1,5 @@
 -- `frontier::slices::next_word` meets its contract. The loop's invariant: nobody waits from word `from` on before word `k`. Assumes nothing.
-use Rattle.property.proofs.Basics.{◌≡◌, refl, sym, ◌∙◌, ◌-◌, ◌*◌, needs, length, get_or}
-use Rattle.frontier.specs.Waiting.{waiting_of, next_from}
+use Rattle.property.proofs.Basics.{refl, sym, ◌∙◌, get_or}
 use Rattle.frontier.proofs.Seek.{bit_fits, place_fits, next_end, next_whole, first_here, first_later}
 use Rattle.frontier.proofs.slices.next_word.Goals as goal
 

@@ -1,5 +1,4 @@
 -- `frontier::slices::remove` meets its contract. Assumes nothing.
-use Rattle.property.proofs.Basics.{needs}
 use Rattle.frontier.proofs.Words.{waiting_remove}
 use Rattle.frontier.proofs.slices.remove.Goals as goal
 

@@ -1,5 +1,4 @@
 -- `graph::arc::head_in` meets its contract. Assumes nothing.
-use Rattle.property.proofs.Basics.{needs}
 use Rattle.graph.proofs.arc.head_in.Goals as goal
 
 pub returns-then-packed : goal.returns-then-packed

@@ -1,5 +1,4 @@
 -- `graph::arc::weight_in` meets its contract. Assumes nothing.
-use Rattle.property.proofs.Basics.{needs}
 use Rattle.graph.proofs.arc.weight_in.Goals as goal
 
 pub returns-then-packed : goal.returns-then-packed

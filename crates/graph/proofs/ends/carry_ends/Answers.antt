@@ -1,6 +1,5 @@
 -- `graph::ends::carry_ends` meets its contract. Assumes nothing.
-use Rattle.property.proofs.Basics.{needs, arith, ◌≡◌, refl, ◌∙◌, List, ℕ, ◌+◌, ◌-◌, ◌<◌, ◌≤◌, length, get_or, length-set, get_or-set_other}
-use Rattle.graph.specs.Parted.{Ends, Parted}
+use Rattle.property.proofs.Basics.{arith, refl, ◌∙◌, ◌+◌, length-set, get_or-set_other}
 use Rattle.graph.proofs.Parted.{parted_first, carry_turn}
 use Rattle.graph.proofs.ends.carry_ends.Goals as goal
 

@@ -1,7 +1,6 @@
 -- `graph::ends::carry_ends` meets its contract. Assumes nothing.
-use Rattle.property.proofs.Basics.{needs, arith, ◌≡◌, refl, ◌∙◌, List, ℕ, ◌+◌, ◌-◌, ◌<◌, ◌≤◌, length, get_or, length-set, get_or-set_other}
+use Rattle.property.proofs.Basics.{◌≡◌, List, ℕ, ◌-◌, ◌<◌, ◌≤◌, length, get_or}
 use Rattle.graph.specs.Parted.{Ends, Parted}
-use Rattle.graph.proofs.Parted.{parted_first, carry_turn}
 use Rattle.graph.proofs.ends.carry_ends.Given as goal
 
 abbrev pub invariant-loop-k : goal.invariant-loop-k

@@ -1,5 +1,5 @@
 -- `graph::ends::firsts` meets its contract. Assumes nothing.
-use Rattle.property.proofs.Basics.{needs, arith, sym, length}
+use Rattle.property.proofs.Basics.{arith, sym, length}
 use Rattle.graph.proofs.Lists.{zeros_at}
 use Rattle.graph.proofs.Parted.{parted_firsts}
 use Rattle.graph.proofs.ends.firsts.Goals as goal

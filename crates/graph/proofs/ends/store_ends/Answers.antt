@@ -1,6 +1,5 @@
 -- `graph::ends::store_ends` meets its contract. Assumes nothing.
-use Rattle.property.proofs.Basics.{needs, arith, ◌≡◌, refl, ◌+◌, ◌-◌, ◌<◌, ◌≤◌, length, get_or, length-set}
-use Rattle.graph.specs.Parted.{Ends}
+use Rattle.property.proofs.Basics.{arith, refl, ◌+◌, ◌<◌, length, get_or, length-set}
 use Rattle.graph.proofs.Parted.{ends_none, ends_turn, ends_done}
 use Rattle.graph.proofs.ends.store_ends.Goals as goal
 

@@ -1,7 +1,6 @@
 -- `graph::ends::store_ends` meets its contract. Assumes nothing.
-use Rattle.property.proofs.Basics.{needs, arith, ◌≡◌, refl, ◌+◌, ◌-◌, ◌<◌, ◌≤◌, length, get_or, length-set}
+use Rattle.property.proofs.Basics.{◌≡◌, ◌-◌, ◌≤◌, length}
 use Rattle.graph.specs.Parted.{Ends}
-use Rattle.graph.proofs.Parted.{ends_none, ends_turn, ends_done}
 use Rattle.graph.proofs.ends.store_ends.Given as goal
 
 abbrev pub invariant-loop-k : goal.invariant-loop-k

@@ -2,12 +2,8 @@
 --
 -- The bound of a tail is that of the tails before it, for tails never fall. So the invariant speaks of the tail of the last record that was gone
 -- past: if it is a vertex, what is left to judge gives the verdict on all. After the last record it is tested.
-use Rattle.property.proofs.Basics.{needs, arith, ◌≡◌, sym, ◌∙◌, ◌-◌, ◌≤◌, ltb, ltb-true, leb-true}
-use lib.Dec.{leb}
-use Rattle.graph.specs.Limits.{max_vertices, max_weight}
-use Rattle.graph.proofs.Tests.{both}
-use Rattle.graph.proofs.Judging.{follow_end}
-use Rattle.graph.proofs.Ranks.{Sofar, sofar_first, sofar_turn}
+use Rattle.property.proofs.Basics.{◌-◌, ◌≤◌}
+use Rattle.graph.proofs.Ranks.{Sofar}
 use Rattle.graph.proofs.rules.are_sound.Given as goal
 
 abbrev pub invariant-loop-k : goal.invariant-loop-k

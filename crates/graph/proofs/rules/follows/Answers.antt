@@ -1,5 +1,4 @@
 -- `graph::rules::follows` meets its contract. Assumes nothing.
-use Rattle.property.proofs.Basics.{needs}
 use Rattle.graph.proofs.rules.follows.Goals as goal
 
 pub returns : goal.returns

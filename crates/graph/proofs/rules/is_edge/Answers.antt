@@ -1,5 +1,4 @@
 -- `graph::rules::is_edge` meets its contract. Assumes nothing.
-use Rattle.property.proofs.Basics.{needs}
 use Rattle.graph.proofs.rules.is_edge.Goals as goal
 
 pub returns : goal.returns

@@ -1,5 +1,5 @@
 -- `graph::rules::judge_bare` meets its contract: one refusal after the other. Assumes nothing.
-use Rattle.property.proofs.Basics.{needs, ◌≡◌, refl}
+use Rattle.property.proofs.Basics.{◌≡◌, refl}
 use Rattle.graph.specs.declared.Judged.{Judged}
 use Rattle.graph.specs.Refusal.{Verdict, ◌▷◌}
 use Rattle.graph.specs.Table.{size, short_table}

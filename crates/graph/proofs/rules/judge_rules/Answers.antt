@@ -1,8 +1,5 @@
 -- `graph::rules::judge_rules` meets its contract. Assumes nothing.
-use Rattle.property.proofs.Basics.{needs, not-true, not-false, arith, ◌≡◌, sym, ◌∙◌, ◌-◌, ◌≤◌, drop}
-use Rattle.graph.specs.Edge.{edges}
-use Rattle.graph.specs.Table.{follow, rules}
-use Rattle.graph.specs.Code.{edge_at}
+use Rattle.property.proofs.Basics.{arith, sym, ◌∙◌}
 use Rattle.graph.proofs.Judging.{rules_none, rules_broken, rules_first, follow_more, follow_broken, follow_none}
 use Rattle.graph.proofs.rules.judge_rules.Goals as goal
 

@@ -1,5 +1,4 @@
 -- `graph::rules::judge_table_plainly` meets its contract. Assumes nothing.
-use Rattle.property.proofs.Basics.{needs}
 use Rattle.graph.proofs.Judging.{table_judged, table_crowded}
 use Rattle.graph.proofs.rules.judge_table_plainly.Goals as goal
 

@@ -1,5 +1,5 @@
 -- `graph::words::copy` meets its contract: the words below i are copied. Assumes nothing.
-use Rattle.property.proofs.Basics.{needs, arith, ℕ, ◌-◌, ◌≤◌, ◌≡◌, refl, ap, ◌∙◌, length, length-set, paste, paste-zero}
+use Rattle.property.proofs.Basics.{needs, arith, ℕ, ◌≡◌, refl, ap, ◌∙◌, length-set, paste, paste-zero}
 use Rattle.graph.proofs.Copies.{copy_turn}
 use Rattle.graph.proofs.words.copy.Goals as goal
 

@@ -1,5 +1,5 @@
 -- `graph::words::fill` meets its contract: the words below i are filled. Assumes nothing.
-use Rattle.property.proofs.Basics.{needs, arith, ◌-◌, ◌≤◌, ◌≡◌, refl, length, take, replicate, length-set}
+use Rattle.property.proofs.Basics.{arith, refl, length, length-set}
 use Rattle.graph.proofs.Copies.{fill_turn, fill_done}
 use Rattle.graph.proofs.words.fill.Goals as goal
 

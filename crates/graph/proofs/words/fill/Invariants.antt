@@ -1,6 +1,5 @@
 -- `graph::words::fill` meets its contract: the words below i are filled. Assumes nothing.
-use Rattle.property.proofs.Basics.{needs, arith, ◌-◌, ◌≤◌, ◌≡◌, refl, length, take, replicate, length-set}
-use Rattle.graph.proofs.Copies.{fill_turn, fill_done}
+use Rattle.property.proofs.Basics.{◌-◌, ◌≤◌, ◌≡◌, length, take, replicate}
 use Rattle.graph.proofs.words.fill.Given as goal
 
 abbrev pub invariant-loop-i : goal.invariant-loop-i
