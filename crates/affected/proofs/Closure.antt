@@ -34,10 +34,10 @@ set_there ms h q = ap (set ms h) (sym q) ∙ set-get_or ms h false
 -- bit h of l is set where b holds
 module _ (l : List Bool) (h : ℕ) (b : Bool) where
   pub raise_keeps : h < length l → (t : ℕ) → get_or l t false ≡ true → get_or (cond b (set l h true) l) t false ≡ true
-  raise_keeps k t q = elim b [ true ↦ ⊎_elim (λ z. z.1) (λ z. z.1 ∙ q) (at_set l h true t false k) | false ↦ q ]
+  raise_keeps k t q = elim b as (λ z. get_or (cond z (set l h true) l) t false ≡ true) [ true ↦ ⊎_elim (λ z. z.1) (λ z. z.1 ∙ q) (at_set l h true t false k) | false ↦ q ]
 
   pub raise_only : (t : ℕ) → get_or (cond b (set l h true) l) t false ≡ true → (get_or l t false ≡ true) ⊎ ((b ≡ true) × (t ≡ h))
-  raise_only t = elim b [
+  raise_only t = elim b as (λ z. get_or (cond z (set l h true) l) t false ≡ true → (get_or l t false ≡ true) ⊎ ((z ≡ true) × (t ≡ h))) [
     | true ↦ λ q. elim (ℕ_discrete t h) [ yes p ↦ inr (refl, p) | no d ↦ inl (sym (get_or-set_other l h t true false d) ∙ q) ]
     | false ↦ inl
   ]

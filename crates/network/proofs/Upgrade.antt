@@ -84,10 +84,14 @@ unfolding exists
 pair_gone [] e w h = refl
 pair_gone (x ∷ es) e w h = let z = neither (same_pair e x) (paired es e) h in rw (other_pair e x w z.0) (pair_gone es e w z.1)
 
+weight_more : (x : Edge) (es : List Edge) (e : Edge) → same_pair e x ≡ false → weight_named (x ∷ es) e ≡ weight_named es e
+unfolding pair_weight exists
+weight_more x es e q = rw q
+
 among_pair_edge : (es : List Edge) (e : Edge) → among es (pair_edge es e) ≡ paired es e
 unfolding pair_weight exists
 among_pair_edge [] e = refl
-among_pair_edge (x ∷ es) e = by_test (same_pair e x) (λ q. rw (q, own_pair e x q)) (λ q. rw (q, other_pair e x (weight_named es e) q) (among_pair_edge es e))
+among_pair_edge (x ∷ es) e = by_test (same_pair e x) (λ q. rw (q, own_pair e x q)) (λ q. rw (q, other_pair e x (weight_named es e) q) (ap (λ (w : ℕ). among es (edge e.tail e.head w)) (weight_more x es e q) ∙ among_pair_edge es e))
 
 -- a delete by the three words of that edge is the delete by its pair
 delete_pair_edge : (es : List Edge) (e : Edge) → delete (pair_edge es e) es ≡ order.delete pair_order e es
@@ -95,7 +99,8 @@ unfolding pair_weight exists order.delete
 delete_pair_edge [] e = refl
 delete_pair_edge (x ∷ es) e = by_test (same_pair e x)
     (λ q. rw (q, own_pair e x q))
-    (λ q. rw (q, other_pair e x (weight_named es e) q) (ap (λ (l : List Edge). x ∷ l) (delete_pair_edge es e)))
+    (λ q. rw (q, other_pair e x (weight_named es e) q)
+    (ap (λ (w : ℕ). x ∷ delete (edge e.tail e.head w) es) (weight_more x es e q) ∙ ap (λ (l : List Edge). x ∷ l) (delete_pair_edge es e)))
 
 pair_edge_weighs : (n : ℕ) (es : List Edge) → Sorted pair_order (is_edge n) es → (e : Edge) → is_weight (weight_named es e) ≡ true
 unfolding pair_weight exists
@@ -125,7 +130,8 @@ module _ (t : Edge → Bool) where
   update_conserved e (x ∷ es) h p = by_test (same_pair e x)
       (λ q. rw (q, own_pair e x q) (first q es h.1))
       (λ q. let k : paired es e ≡ true = rw q at p in
-      rw (q, other_pair e x (weight_named es e) q, precedes_pair e x q ∙ after k) (ap (λ (l : List Edge). x ∷ l) (update_conserved e es h.2 k)))
+      rw (q, other_pair e x (weight_named es e) q, precedes_pair e x q ∙ after k)
+      (ap (λ (w : ℕ). x ∷ update (edge e.tail e.head w) e es) (weight_more x es e q) ∙ ap (λ (l : List Edge). x ∷ l) (update_conserved e es h.2 k)))
     where
       first : same_pair e x ≡ true → (ys : List Edge) → Ahead pair_order x ys → insert e ys ≡ e ∷ ys
       first q [] b = refl

@@ -3,5 +3,3 @@ pub mod States
 pub mod Rounds
 pub mod Starts
 pub mod Examples
-pub mod Kit
-pub mod ByHand

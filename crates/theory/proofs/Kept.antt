@@ -45,11 +45,11 @@ module _ {P : Property} (L : Laws P) (es : List Edge) (s n : ℕ) (inside : With
       let b : better (along x e.weight) (along start e.weight) ≡ false = L.along_monotone _ _ _ (value_after L es s n inside r) in
       on (in_keep (own P (word P ws t)) m (ap not (L.transitive _ _ _ b a))) (own_on t (step r m) l z)
 
-  own_value : Selects P → (t : ℕ) {u x : ℕ} {qs : List Edge} → better (word P ws t) x ≡ false → Leads (owned t) u qs t → better (word P ws t) (value_along P x qs) ≡ false
+  own_value : Selects P → (v : ℕ) (xs : List Edge) → ((e : Edge) → Memᴰ e xs → better v (along start e.weight) ≡ false) → {t u x : ℕ} {qs : List Edge}
+      → better v x ≡ false → Leads xs u qs t → better v (value_along P x qs) ≡ false
   unfolding value_along
-  own_value S t h stop = h
-  own_value S t {x = x} h (on {e = e} m l) =
-      own_value S t (S.along_selects _ _ e.weight h (not-true _ (keep_in (own P (word P ws t)) es e m).1)) l
+  own_value S v xs g h stop = h
+  own_value S v xs g {x = x} h (on {e = e} m l) = own_value S v xs g (S.along_selects _ _ e.weight h (g e m)) l
 
   -- On a best route an edge's own value is no worse than the best value: with x before the edge, x is no better than the source's value,
   -- so the edge brings it to no better than its own value, and the rest never betters. The other way about, where the own values of all
@@ -58,7 +58,7 @@ module _ {P : Property} (L : Laws P) (es : List Edge) (s n : ℕ) (inside : With
   owned_best S {t} {qs} d = (
     λ b. own_on t here b.leads (best_value b),
     λ l. let k = leads_map (λ e m. (keep_in (own P (word P ws t)) es e m).0) l in
-        value_best k (L.antisymmetric _ _ ((best t).unbettered _ (leads_route here k)) (own_value S t (⊎_elim (λ r. value_after L es s n inside r) (λ c. absurd (d c.1)) (best t).attained) l)),
+        value_best k (L.antisymmetric _ _ ((best t).unbettered _ (leads_route here k)) (own_value S (word P ws t) (owned t) (λ e m. not-true _ (keep_in (own P (word P ws t)) es e m).1) (⊎_elim (λ r. value_after L es s n inside r) (λ c. absurd (d c.1)) (best t).attained) l)),
   )
 
   -- ---- where each edge makes a value worse

@@ -24,7 +24,7 @@ module _ {P : Property} (J : Joins P) where
   back here = here
   back {es} (step {e = x} r m) = edge_before_lem {e = reverse x} (reverse_mem es x m) (back r)
 
-  pub forth : {es : List Edge} {p t u : ℕ} → Route P es t p u → Route P (map reverse es) p t u
+  pub forth : {es : List Edge} {t p u : ℕ} → Route P es t p u → Route P (map reverse es) p t u
   forth here = here
   forth (step {e = x} r m) = edge_before_lem {e = reverse x} (mem_reverse m) (forth r)
 

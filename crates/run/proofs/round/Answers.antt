@@ -67,42 +67,42 @@ round_of-requires-else-packed-5 c =
 
 pub returns-then-packed : goal.returns-then-packed
 returns-then-packed c =
-    let both = rw (c.in-1.is, c.if-packed.true) c.round_of.ensures in record { result_after = both.0; ran = both.1 }
+    record { result_after = rw (c.in-1.is, c.if-packed.true) c.round_of.ensures.result_after; ran = c.round_of.ensures.ran }
 
 pub returns-else-packed : goal.returns-else-packed
 returns-else-packed c =
-    let both = rw (c.in-1.is, c.if-packed.false) c.round_of-else-packed.ensures in record { result_after = both.0; ran = both.1 }
+    record { result_after = rw (c.in-1.is, c.if-packed.false) c.round_of-else-packed.ensures.result_after; ran = c.round_of-else-packed.ensures.ran }
 
 pub returns-then-packed-2 : goal.returns-then-packed-2
 returns-then-packed-2 c =
-    let both = rw (c.in-2.is, c.if-packed-2.true) c.round_of-then-packed-2.ensures in record { result_after = both.0; ran = both.1 }
+    record { result_after = rw (c.in-2.is, c.if-packed-2.true) c.round_of-then-packed-2.ensures.result_after; ran = c.round_of-then-packed-2.ensures.ran }
 
 pub returns-else-packed-2 : goal.returns-else-packed-2
 returns-else-packed-2 c =
-    let both = rw (c.in-2.is, c.if-packed-2.false) c.round_of-else-packed-2.ensures in record { result_after = both.0; ran = both.1 }
+    record { result_after = rw (c.in-2.is, c.if-packed-2.false) c.round_of-else-packed-2.ensures.result_after; ran = c.round_of-else-packed-2.ensures.ran }
 
 pub returns-then-packed-3 : goal.returns-then-packed-3
 returns-then-packed-3 c =
-    let both = rw (c.in-3.is, c.if-packed-3.true) c.round_of-then-packed-3.ensures in record { result_after = both.0; ran = both.1 }
+    record { result_after = rw (c.in-3.is, c.if-packed-3.true) c.round_of-then-packed-3.ensures.result_after; ran = c.round_of-then-packed-3.ensures.ran }
 
 pub returns-else-packed-3 : goal.returns-else-packed-3
 returns-else-packed-3 c =
-    let both = rw (c.in-3.is, c.if-packed-3.false) c.round_of-else-packed-3.ensures in record { result_after = both.0; ran = both.1 }
+    record { result_after = rw (c.in-3.is, c.if-packed-3.false) c.round_of-else-packed-3.ensures.result_after; ran = c.round_of-else-packed-3.ensures.ran }
 
 pub returns-then-packed-4 : goal.returns-then-packed-4
 returns-then-packed-4 c =
-    let both = rw (c.in-4.is, c.if-packed-4.true) c.round_of-then-packed-4.ensures in record { result_after = both.0; ran = both.1 }
+    record { result_after = rw (c.in-4.is, c.if-packed-4.true) c.round_of-then-packed-4.ensures.result_after; ran = c.round_of-then-packed-4.ensures.ran }
 
 pub returns-else-packed-4 : goal.returns-else-packed-4
 returns-else-packed-4 c =
-    let both = rw (c.in-4.is, c.if-packed-4.false) c.round_of-else-packed-4.ensures in record { result_after = both.0; ran = both.1 }
+    record { result_after = rw (c.in-4.is, c.if-packed-4.false) c.round_of-else-packed-4.ensures.result_after; ran = c.round_of-else-packed-4.ensures.ran }
 
 pub returns-then-packed-5 : goal.returns-then-packed-5
 unfolding property
 returns-then-packed-5 c =
-    let both = rw (property_rest _ c.in_default.in_default-own.rest, c.if-packed-5.true) c.round_of-then-packed-5.ensures in record { result_after = both.0; ran = both.1 }
+    record { result_after = rw (property_rest _ c.in_default.in_default-own.rest, c.if-packed-5.true) c.round_of-then-packed-5.ensures.result_after; ran = c.round_of-then-packed-5.ensures.ran }
 
 pub returns-else-packed-5 : goal.returns-else-packed-5
 unfolding property
 returns-else-packed-5 c =
-    let both = rw (property_rest _ c.in_default.in_default-own.rest, c.if-packed-5.false) c.round_of-else-packed-5.ensures in record { result_after = both.0; ran = both.1 }
+    record { result_after = rw (property_rest _ c.in_default.in_default-own.rest, c.if-packed-5.false) c.round_of-else-packed-5.ensures.result_after; ran = c.round_of-else-packed-5.ensures.ran }

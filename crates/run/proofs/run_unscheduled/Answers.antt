@@ -8,4 +8,4 @@ settle-requires c =
 
 pub returns : goal.returns
 returns c =
-    let both = c.settle.ensures in record { result_after = both.0; ran = both.1 }
+    record { result_after = c.settle.ensures.result_after; ran = c.settle.ensures.ran }
