@@ -89,7 +89,7 @@ def parse(text):
     for comment,b in blocks:
         first=b.split('\n')[0]
         if first.startswith('unfolding '):
-            ds[last]['unf']+=first[len('unfolding '):].split(', '); continue
+            ds[last]['unf']+=first[len('unfolding '):].replace(',',' ').split(); continue
         m=re.match(r'^((?:abbrev |unfoldable |pub )*)('+W+r')((?: [({].*?[)}])*) :(?= |$)',first)
         if m and not re.match(r'^(ruleset|open|module|data|record) ',first):
             n=m[2]; ds[n]=dict(name=n,head=m[1],type=b[m.end():].strip(),unf=[],clauses=[],comment=comment); order.append(n); last=n
@@ -190,7 +190,7 @@ class Fn:
         self.left=[]
     def chain(self,parts):
         """parts: field names behind a place -> text"""
-        parts=[p for i,p in enumerate(parts)]
+        parts=[{'type-inv':'type_inv','inv':'invariant'}.get(p.strip('«»'),p.strip('«»')) for p in parts]
         while parts and parts[0]=='before': parts=parts[1:]
         if not parts: return 'c'
         h=parts[0]; rest=parts[1:]
@@ -223,17 +223,18 @@ class Fn:
             return '.'.join(['c','type_inv',self.typed[hu]]+rest[1:])
         if hu in self.steps:
             new,callee=self.steps[hu]
-            if rest and rest[0] in('new','last','auto') and callee:
+            if rest and rest[0] in('new','last','auto','kept') and callee:
                 ps=self.n['params'].get(callee,[])
                 k=0; j=1
                 while j<len(rest) and rest[j]=='1': k+=1; j+=1
                 if j<len(rest) and rest[j]=='0' and k<len(ps):
-                    return '.'.join(['c',new,'new' if rest[0]=='last' else rest[0],ps[k]]+rest[j+1:])
+                    return '.'.join(['c',new,{'last':'new','kept':'auto'}.get(rest[0],rest[0]),ps[k]]+rest[j+1:])
             if rest and rest[0] in('ensures','requires') and callee:
                 e=CL.get(callee,([],[]))[1 if rest[0]=='ensures' else 0]
                 if len(e)>1:
                     x=nest(rest[1:],e)
                     if x: return '.'.join(['c',new,rest[0],x[0]]+x[1])
+            if rest and rest[0] in('taken','left') and re.match(r'(if|.*test)',hu): rest=[{'taken':'true','left':'false'}[rest[0]]]+rest[1:]
             return '.'.join(['c',new]+rest)
         self.left.append('.'.join(parts))
         return '.'.join(['c']+parts)
@@ -250,9 +251,18 @@ class Fn:
                 if t2!=text: text=t2; changed=True
             t2=re.sub(r"\((c|"+'|'.join(map(re.escape,al))+r")\)",r"\1",text)
             if t2!=text: text=t2; changed=True
+            # names of a step
+            for m in re.finditer(r"\blet ("+W+r") = ((?:"+'|'.join(map(re.escape,al))+r")(?:\.before)*\.("+W+r")) in\b\s*",text):
+                s_=m[3].strip('«»').replace('-','_')
+                if not any(x.replace('-','_')==s_ and v[1] for x,v in self.steps.items()): continue
+                body=text[m.end():]
+                body=re.sub(r"(?<![^\s(){}\[\],;])"+re.escape(m[1])+r"((?:\."+W+r")*)(?![^\s(){}\[\].,;])",lambda q:m[2]+q[1],body)
+                text=text[:m.start()]+body; changed=True; break
+            if changed: continue
             # let aliases
             for m in re.finditer(r"\blet ("+W+r") = ((?:"+'|'.join(map(re.escape,al))+r"))((?:\.before)*) in\b\s*",text):
                 al.add(m[1]); text=text[:m.start()]+text[m.end():]; changed=True; break
+        al|=set(fun)
         names='|'.join(sorted(map(re.escape,al),key=len,reverse=True))
         pat=re.compile(r"(?<![^\s(){}\[\],;])("+names+r")((?:\."+W+r")*)(?![^\s(){}\[\].,;])")
         return pat.sub(lambda m:self.chain([x for x in m[2].split('.') if x]),text)
@@ -260,6 +270,19 @@ def convert(crate,path):
     f=Fn(crate,path)
     src=open(f'{OLD}/crates/{crate}/proofs/{path}/Proof.antt',encoding='utf8').read()
     header,uses,ds,order=parse(src)
+    for n in list(order):
+        d=ds[n]
+        if d.get('name') is None and re.match(r'module _ \(\S+ : tie\.',d['raw']):
+            m=re.match(r'module _ \((\S+) : (tie\.[^()]*)\) where\n',d['raw'])
+            inner='\n'.join(l[2:] if l.startswith('  ') else l for l in d['raw'][m.end():].split('\n'))
+            _,_,ds2,order2=parse(inner)
+            at=order.index(n); order[at:at+1]=order2
+            for k in order2:
+                e=ds2[k]
+                if e.get('name'):
+                    e['type']=f"({m[1]} : {m[2]}) → "+e['type'] if not re.match(r'tie\.',e['type']) else m[2]+' → '+e['type']
+                    e['clauses']=[re.sub('^'+re.escape(k),k+' '+m[1],c,1) for c in e['clauses']]
+                ds[k]=e
     specname=[n for n in order if ds[n].get('name') and re.search(r'tie\.\s*close|tie\.spec',' '.join(ds[n].get('clauses',[])))]
     if not specname: raise Bad('no tie.spec')
     spec=ds[specname[-1]]['clauses'][0]
@@ -313,7 +336,8 @@ def convert(crate,path):
         m=re.match(re.escape(n)+r'((?: \S+| \([^()]*\)| \{[^{}]*\})*?) =(?=\s)',cl)
         ps=m[1].split(); body=cl[m.end():].strip()
         tm=re.match(r'\(('+W+r') : tie\.[^()]*\)\s*(→\s*)?',t) or re.match(r'(tie\.'+W+r'(?: (?:invariant|decreases)\S*)*)\s*→\s*',t)
-        if not tm: f.left.append('helper type: '+n); continue
+        if not tm:
+            f.left.append('helper type: '+n+' : '+t[:80]); continue
         tv=tm[1] if t.startswith('(') else None
         rt=t[tm.end():]
         if re.match(r'tie\.',rt.strip()): alias.append(n); continue
@@ -400,19 +424,32 @@ def convert(crate,path):
     def wr(p,t):
         open(p,'w',encoding='utf8').write(t)
     hd='\n'.join(header)
+    text_inv=' '.join(b for _,b,_,_ in inv_out)
+    def names_in(text,n): return re.search(r"(?<![^\s(){}\[\],;])"+re.escape(n)+r"(?![^\s(){}\[\].,;])",text)
+    early=[]
+    for n in reversed(lemmas):
+        d=ds[n]
+        if d.get('raw'): continue
+        if names_in(text_inv,spell(n)) or any(names_in(ds[k]['type']+' '+' '.join(ds[k]['clauses']),n) for k in early): early.insert(0,n)
+    def lemma_text(n,pub):
+        d=ds[n]
+        if d.get('raw'): return '\n'+spell(d['raw'])+'\n'
+        head=d['head'].replace('pub ','')+('pub ' if pub else '')
+        return '\n'+('\n'.join(d['comment'])+'\n' if d['comment'] else '')+spell(f"{head}{d['name']} : {d['type']}")+'\n'+(f"unfolding {' '.join(map(spell,d['unf']))}\n" if d['unf'] else '')+''.join(spell(c)+'\n' for c in d['clauses'])
+    if early: u_ans=[f"use {mod}.Invariants.{{{', '.join(spell(ds[n]['name']) for n in early)}}}"]
+    else: u_ans=[]
     if inv_out:
         s=hd+'\n'+'\n'.join(u)+f'\nuse {mod}.Given as goal\n'
+        for n in early: s+=lemma_text(n,True)
         for name,body,unf,comment in inv_out:
-            s+='\n'+('\n'.join(comment)+'\n' if comment else '')+f'abbrev pub {name} : goal.{name}\n'+(f"unfolding {', '.join(unf)}\n" if unf else '')+f'{name} l =\n    {body}\n'
+            s+='\n'+('\n'.join(comment)+'\n' if comment else '')+f'abbrev pub {name} : goal.{name}\n'+(f"unfolding {' '.join(unf)}\n" if unf else '')+f'{name} l =\n    {body}\n'
         wr(dst+'/Invariants.antt',s)
     if ans or lemmas:
-        s=hd+'\n'+'\n'.join(u)+f'\nuse {mod}.Goals as goal\n'
+        s=hd+'\n'+'\n'.join(u+u_ans)+f'\nuse {mod}.Goals as goal\n'
         for n in lemmas:
-            d=ds[n]
-            if d.get('raw'): s+='\n'+spell(d['raw'])+'\n'; continue
-            s+='\n'+('\n'.join(d['comment'])+'\n' if d['comment'] else '')+spell(f"{d['head'].replace('pub ','')}{d['name']} : {d['type']}")+'\n'+(f"unfolding {', '.join(map(spell,d['unf']))}\n" if d['unf'] else '')+''.join(spell(c)+'\n' for c in d['clauses'])
+            if n not in early: s+=lemma_text(n,False)
         for name,body,unf,comment,extra in ans:
-            s+='\n'+('\n'.join(comment)+'\n' if comment else '')+f'pub {name} : goal.{name}\n'+(f"unfolding {', '.join(unf)}\n" if unf else '')+f"{name} {' '.join(extra+['c'])} =\n    {body}\n"
+            s+='\n'+('\n'.join(comment)+'\n' if comment else '')+f'pub {name} : goal.{name}\n'+(f"unfolding {' '.join(unf)}\n" if unf else '')+f"{name} {' '.join(extra+['c'])} =\n    {body}\n"
         wr(dst+'/Answers.antt',s)
     if os.path.exists(dst+'/Proof.antt'): os.remove(dst+'/Proof.antt')
     return f.left

@@ -64,7 +64,7 @@ index-requires-2 c =
       record { few = few; records = p; room = t.old.1; rules = t.old.2; firsts = omega arith; list = omega arith },
       record { few = few; records = q; room = t.new.1; rules = t.new.2; firsts = omega arith; list = omega arith },
     ) in
-    (indexable c.index_reversed.new.free (omega (arith, c.index_reversed.auto.free, c.index.kept.1.1.1.1.1.0))).1
+    (indexable c.index_reversed.new.free (omega (arith, c.index_reversed.auto.free, c.index.auto.free))).1
 
 pub index_reversed-requires-2 : goal.index_reversed-requires-2
 index_reversed-requires-2 c =
@@ -80,16 +80,15 @@ index_reversed-requires-2 c =
       record { few = few; records = p; room = t.old.1; rules = t.old.2; firsts = omega arith; list = omega arith },
       record { few = few; records = q; room = t.new.1; rules = t.new.2; firsts = omega arith; list = omega arith },
     ) in
-    (indexable c.index-2.new.free (omega (arith, c.index-2.auto.free, c.index_reversed.kept.1.1.1.1.1.0, c.index.kept.1.1.1.1.1.0))).1
+    (indexable c.index-2.new.free (omega (arith, c.index-2.auto.free, c.index_reversed.auto.free, c.index.auto.free))).1
 
 pub slice_bounds-net-end : goal.slice_bounds-net-end
 slice_bounds-net-end c =
-    omega (arith, c.differences-changed.ensures.upper_bound.0, c.differences-changed.kept.1.1.1.1.1.1.1.1.0)
+    omega (arith, c.differences-changed.ensures.upper_bound.0, c.differences-changed.auto.list)
 
 pub slice_bounds-batch_sides-end : goal.slice_bounds-batch_sides-end
 slice_bounds-batch_sides-end c =
-    let d = c.differences-changed in
-    sym (length-take-le d.result d.last.1.1.1.1.1.1.1.1.0 d.ensures.0.0)
+    sym (length-take-le c.differences-changed.result c.differences-changed.new.list c.differences-changed.ensures.upper_bound.0)
 
 pub batch_sides-rows-requires : goal.batch_sides-rows-requires
 batch_sides-rows-requires c =
@@ -106,7 +105,7 @@ batch_sides-rows-requires c =
           rold = c.index_reversed.ensures.fit;
           new = c.index-2.ensures.fit;
           rnew = c.index_reversed-2.ensures.fit;
-          short = (let z = length-replicate {A = ℕ} 2305 0 in (omega (arith, c.index.kept.1.1.1.1.1.1.0), omega (arith, c.index_reversed.kept.1.1.1.1.1.1.0)));
+          short = (let z = length-replicate {A = ℕ} 2305 0 in (omega (arith, c.index.auto.index), omega (arith, c.index_reversed.auto.index)));
         },
       );
       n_in_bounds = (p.forward, p.backward);

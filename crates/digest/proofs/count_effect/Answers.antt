@@ -2,10 +2,8 @@
 use Rattle.property.proofs.Basics.{needs, ⊎_elim, Bool, true, false, List, ℕ, ◌-◌, eqb, eq-eqb, ne_eqb}
 use Rattle.answers.specs.Digest.{effect_at}
 use Rattle.digest.proofs.Turning.{Counted, count_start, count_turn, count_end}
+use Rattle.digest.proofs.count_effect.Invariants.{has}
 use Rattle.digest.proofs.count_effect.Goals as goal
-
-abbrev has : ℕ → List ℕ → ℕ → Bool
-has e effects t = eqb (effect_at effects t) e
 
 pub loop-t-init : goal.loop-t-init
 loop-t-init c =

@@ -4,6 +4,9 @@ use Rattle.answers.specs.Digest.{effect_at}
 use Rattle.digest.proofs.Turning.{Counted, count_start, count_turn, count_end}
 use Rattle.digest.proofs.count_effect.Given as goal
 
+abbrev pub has : ℕ → List ℕ → ℕ → Bool
+has e effects t = eqb (effect_at effects t) e
+
 abbrev pub invariant-loop-t : goal.invariant-loop-t
 invariant-loop-t l =
     Counted (has l.e l.effects) l.n l.t l.count

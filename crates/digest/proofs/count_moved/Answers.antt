@@ -6,10 +6,8 @@ use Rattle.graph.proofs.Tests.{and_true, and_false}
 use Rattle.answers.specs.Digest.{effect_at, move_at, moves_to}
 use Rattle.digest.proofs.Choosing.{told}
 use Rattle.digest.proofs.Turning.{Counted, count_start, count_turn, count_end}
+use Rattle.digest.proofs.count_moved.Invariants.{moved}
 use Rattle.digest.proofs.count_moved.Goals as goal
-
-abbrev moved : ℕ → Bool → List ℕ → List ℤ → ℕ → Bool
-moved p good effects moves t = eqb (effect_at effects t) 3 && moves_to (property p) good (move_at moves t)
 
 pub loop-t-init : goal.loop-t-init
 loop-t-init c =

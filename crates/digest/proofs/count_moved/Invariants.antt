@@ -8,6 +8,9 @@ use Rattle.digest.proofs.Choosing.{told}
 use Rattle.digest.proofs.Turning.{Counted, count_start, count_turn, count_end}
 use Rattle.digest.proofs.count_moved.Given as goal
 
+abbrev pub moved : ℕ → Bool → List ℕ → List ℤ → ℕ → Bool
+moved p good effects moves t = eqb (effect_at effects t) 3 && moves_to (property p) good (move_at moves t)
+
 abbrev pub invariant-loop-t : goal.invariant-loop-t
 invariant-loop-t l =
     Counted (moved l.p l.good l.effects l.moves) l.n l.t l.count

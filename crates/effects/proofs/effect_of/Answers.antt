@@ -50,4 +50,4 @@ returns-then-after-none-2 c =
 
 pub returns : goal.returns
 returns c =
-    moved (property c.args.p) _ _ _ c.none-none.ensures _ c.difference.ensures (record { sfits = c.difference.type-inv }) c.if-before-none.false c.if-after-none-2.false
+    moved (property c.args.p) _ _ _ c.none-none.ensures _ c.difference.ensures (record { sfits = c.difference.type_inv }) c.if-before-none.false c.if-after-none-2.false

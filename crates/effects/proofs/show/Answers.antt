@@ -6,6 +6,7 @@ use Rattle.graph.specs.Refusal.{over}
 use Rattle.graph.specs.Edge.{range}
 use Rattle.answers.specs.Preview.{effect_of, move_of}
 use Rattle.effects.specs.Code.{shown_of}
+use Rattle.effects.proofs.show.Invariants.{effect_at, move_at}
 use Rattle.effects.proofs.show.Goals as goal
 
 module _ {A : Type 0} (f : ℕ → A) where
@@ -21,12 +22,6 @@ module _ {A : Type 0} (f : ℕ → A) where
 
   table_more : (l m k : List A) (t : ℕ) (x : A) → t < length l → k ≡ set m t x → m ≡ over (map f (range 0 t)) l → x ≡ f t → k ≡ over (map f (range 0 (t + 1))) l
   table_more l m k t x h p e q = p ∙ (ap₂ (λ (n : List A) (y : A). set n t y) e (q ∙ ap f (sym (zero-add t))) ∙ (table_from 0 t l h ∙ ap (λ (n : ℕ). over (map f (range 0 n)) l) (sym (add-one t))))
-
-abbrev effect_at : ℕ → List ℕ → List ℕ → ℕ → ℕ
-effect_at p before after t = effect_of (property p) (get_or before t 0) (get_or after t 0)
-
-abbrev move_at : ℕ → List ℕ → List ℕ → ℕ → ℤ
-move_at p before after t = move_of (property p) (get_or before t 0) (get_or after t 0)
 
 pub loop-t-init : goal.loop-t-init
 loop-t-init c =

@@ -23,7 +23,7 @@ returns-in_default cs h c =
     let z = c.requires.1 in
     laid_more _ cs _ h _ (omega arith) (omega arith) in
     let q = c.in_default.is in
-    leaves_refused _ _ _ _ _ _ _ _ q (items_stop _ _ _ _ _ _ (next cs h) (c.loop-k.inv.0 cs h).0 _ _ _ q c.apply_item-edited.ensures.result_value)
+    leaves_refused _ _ _ _ _ _ _ _ q (items_stop _ _ _ _ _ _ (next cs h) (c.loop-k.invariant.0 cs h).0 _ _ _ q c.apply_item-edited.ensures.result_value)
 
 pub loop-k-preserved : goal.loop-k-preserved
 loop-k-preserved c =
@@ -33,12 +33,12 @@ loop-k-preserved c =
     laid_more _ cs _ h _ (omega arith) (omega arith) in
     let q = c.in-Count.is in
     let f = c.apply_item-edited.ensures.leaves.edges _ q in (
-      λ cs h. (items_more _ _ _ _ _ _ (next cs h) (c.loop-k.inv.0 cs h).0 _ _ q c.apply_item-edited.ensures.result_value _ f, edits_more _ _ _ _ _ (next cs h) f (c.loop-k.inv.0 cs h).1),
+      λ cs h. (items_more _ _ _ _ _ _ (next cs h) (c.loop-k.invariant.0 cs h).0 _ _ q c.apply_item-edited.ensures.result_value _ f, edits_more _ _ _ _ _ (next cs h) f (c.loop-k.invariant.0 cs h).1),
       c.apply_item-edited.ensures.leaves.table _ q,
       omega arith,
-      c.apply_item-edited.auto.tails ∙ c.loop-k.inv.3,
-      c.apply_item-edited.auto.heads ∙ c.loop-k.inv.4,
-      c.apply_item-edited.auto.weights ∙ c.loop-k.inv.5,
+      c.apply_item-edited.auto.tails ∙ c.loop-k.invariant.3,
+      c.apply_item-edited.auto.heads ∙ c.loop-k.invariant.4,
+      c.apply_item-edited.auto.weights ∙ c.loop-k.invariant.5,
     )
 
 pub returns : goal.returns

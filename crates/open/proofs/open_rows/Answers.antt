@@ -61,10 +61,9 @@ pub loop-r-preserved : goal.loop-r-preserved
 loop-r-preserved c =
     let g = c.args in
     let a = c.loop-r.r * g.n in
-    let call = c.open_row in
-    let part = call.new.1.1.1.1.0 in
-    let size = call.auto.1.1.1.1.0 in (
-      λ es o. over_turn (open_row g.n g.landmarks.now es) g.n (open_sized g.n g.landmarks.now es) c.loop-r.r g.out.now _ _ (c.loop-r.invariant.0 es o) (call.ensures es o),
+    let part = c.open_row.new.part in
+    let size = c.open_row.auto.part in (
+      λ es o. over_turn (open_row g.n g.landmarks.now es) g.n (open_sized g.n g.landmarks.now es) c.loop-r.r g.out.now _ _ (c.loop-r.invariant.0 es o) (c.open_row.ensures es o),
       omega (arith, c.loop-r-test.true),
       same_len_mid a (a + g.n - a) c.loop-r.out part size ∙ c.loop-r.invariant.2,
     )

@@ -50,10 +50,9 @@ returns-in-Refused cs l c =
     let copied : let a = c.args in let k = c.copy_table.last in
     Alike a.n a.landmarks.now (network a.tails.now a.heads.now a.weights.now a.forward.now a.backward.now a.count)
     (network k.1.1.1.1.0 k.1.1.1.1.1.0 k.1.1.1.1.1.1.0 c.copy.new.dst c.copy-2.new.dst a.count) = let k = c.copy_table.kept in
-    let y = c.copy in
     copied_alike c.args.n c.args.landmarks.now _ _ _ _ _ _ c.requires.count_value _ _ _ _ _ _ _
     (record { tails = omega (arith, k.1.1.1.1.0); heads = omega (arith, k.1.1.1.1.1.0); weights = omega (arith, k.1.1.1.1.1.1.0) })
-    c.copy_table.ensures (omega (arith, room, y.auto.1.1.0)) (omega (arith, room, c.copy-2.auto.dst)) y.ensures c.copy-2.ensures in
+    c.copy_table.ensures (omega (arith, room, c.copy.auto.dst)) (omega (arith, room, c.copy-2.auto.dst)) c.copy.ensures c.copy-2.ensures in
     follows_refused _ _ _ _ c.requires.count_value copied _ _ cs _ _ c.in-Refused.is (c.batch_laid-applied.ensures cs l)
 
 pub returns-in-Done : goal.returns-in-Done
@@ -64,9 +63,8 @@ returns-in-Done cs l c =
     let copied : let a = c.args in let k = c.copy_table.last in
     Alike a.n a.landmarks.now (network a.tails.now a.heads.now a.weights.now a.forward.now a.backward.now a.count)
     (network k.1.1.1.1.0 k.1.1.1.1.1.0 k.1.1.1.1.1.1.0 c.copy.new.dst c.copy-2.new.dst a.count) = let k = c.copy_table.kept in
-    let y = c.copy in
     copied_alike c.args.n c.args.landmarks.now _ _ _ _ _ _ c.requires.count_value _ _ _ _ _ _ _
     (record { tails = omega (arith, k.1.1.1.1.0); heads = omega (arith, k.1.1.1.1.1.0); weights = omega (arith, k.1.1.1.1.1.1.0) })
-    c.copy_table.ensures (omega (arith, room, y.auto.1.1.0)) (omega (arith, room, c.copy-2.auto.dst)) y.ensures c.copy-2.ensures in
+    c.copy_table.ensures (omega (arith, room, c.copy.auto.dst)) (omega (arith, room, c.copy-2.auto.dst)) c.copy.ensures c.copy-2.ensures in
     follows_asked _ _ _ _ c.requires.count_value copied _ _ cs _ _ _ _ c.in-Done.is
     (c.batch_laid-applied.ensures cs l) c.ask.ensures

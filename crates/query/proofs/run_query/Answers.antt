@@ -12,12 +12,12 @@ start_at-requires c =
 
 pub slice_bounds-run_counted-end-2 : goal.slice_bounds-run_counted-end-2
 slice_bounds-run_counted-end-2 c =
-    let room : length (take c.args.n c.copy.new.dst) ≡ c.args.n = length-take-le c.args.n c.copy.new.dst (omega (arith, c.copy.kept.1.1.0, c.requires.start_len.1)) in
+    let room : length (take c.args.n c.copy.new.dst) ≡ c.args.n = length-take-le c.args.n c.copy.new.dst (omega (arith, c.copy.auto.dst, c.requires.start_len.1)) in
     sym (room)
 
 pub run_counted-requires : goal.run_counted-requires
 run_counted-requires c =
-    let room : length (take c.args.n c.copy.new.dst) ≡ c.args.n = length-take-le c.args.n c.copy.new.dst (omega (arith, c.copy.kept.1.1.0, c.requires.start_len.1)) in
+    let room : length (take c.args.n c.copy.new.dst) ≡ c.args.n = length-take-le c.args.n c.copy.new.dst (omega (arith, c.copy.auto.dst, c.requires.start_len.1)) in
     (c.requires.fit_in.0, record { words = room; waiting = c.start_at.ensures.marks }, c.requires.fit_in.1)
 
 pub returns : goal.returns

@@ -69,10 +69,9 @@ loop-r-smaller c =
 
 pub loop-r-preserved : goal.loop-r-preserved
 loop-r-preserved c =
-    let call = c.batch_row-row in
-    let zs = call.new.1.1.1.1.1.1.1.1.0 in (
-      counting_turn _ _ c.loop-r.rows _ _ _ _ c.loop-r.invariant.0 c.loop-r-test.true zs call.result call.auto.1.1.1.1.1.1.1.1.0 call.ensures.0,
-      (λ es fs d o. rows_turn _ _ es fs _ _ _ _ _ (c.loop-r.invariant.1 es fs d o) zs call.result (call.ensures.1 es fs d o)),
+    let zs = c.batch_row-row.new.words in (
+      counting_turn _ _ c.loop-r.rows _ _ _ _ c.loop-r.invariant.0 c.loop-r-test.true zs c.batch_row-row.result c.batch_row-row.auto.words c.batch_row-row.ensures.row_low,
+      (λ es fs d o. rows_turn _ _ es fs _ _ _ _ _ (c.loop-r.invariant.1 es fs d o) zs c.batch_row-row.result (c.batch_row-row.ensures.row_done es fs d o)),
     )
 
 pub shape_of-rows : goal.shape_of-rows

@@ -10,19 +10,8 @@ use Rattle.calls.specs.Code.{network, Openable}
 use Rattle.calls.proofs.Judging.{network_accept}
 use Rattle.settled_check.proofs.Checking.{edges_on, records_more, records_found, records_none, rows_more, rows_none, in_sides, sides_all, sides_more, sides_none, checking_found, checking_settled}
 use Rattle.calls.proofs.Rows.{row_ends}
+use Rattle.settled_check.proofs.first_spot.Invariants.{after_side, from_row, from_record}
 use Rattle.settled_check.proofs.first_spot.Goals as goal
-
--- what is left of a side after row r, and after the side
-abbrev after_side : ℕ → List ℕ → List ℕ → List ℕ → List ℕ → ℕ → List ℕ → List ℕ → ℕ → Check
-after_side n ls ts hs ws m f b side = in_sides n (row_count ls) (edges ts hs ws m) f b (side + 1) (2 - (side + 1))
-
-abbrev from_row : ℕ → List ℕ → List ℕ → List ℕ → List ℕ → ℕ → List ℕ → List ℕ → ℕ → ℕ → Check
-from_row n ls ts hs ws m f b side r =
-    in_rows n (edges_on (eqb side 0) (edges ts hs ws m)) (cond (eqb side 0) f b) side (range r (row_count ls - r)) (after_side n ls ts hs ws m f b side)
-
-abbrev from_record : ℕ → List ℕ → List ℕ → List ℕ → List ℕ → ℕ → List ℕ → List ℕ → ℕ → ℕ → ℕ → Check
-from_record n ls ts hs ws m f b side r j =
-    in_records (property_of r) (row n r (cond (eqb side 0) f b)) side r j (drop j (edges_on (eqb side 0) (edges ts hs ws m))) (from_row n ls ts hs ws m f b side (r + 1))
 
 pub overflow_mul-rows : goal.overflow_mul-rows
 overflow_mul-rows c =

@@ -12,6 +12,18 @@ use Rattle.settled_check.proofs.Checking.{edges_on, records_more, records_found,
 use Rattle.calls.proofs.Rows.{row_ends}
 use Rattle.settled_check.proofs.first_spot.Given as goal
 
+-- what is left of a side after row r, and after the side
+abbrev pub after_side : ℕ → List ℕ → List ℕ → List ℕ → List ℕ → ℕ → List ℕ → List ℕ → ℕ → Check
+after_side n ls ts hs ws m f b side = in_sides n (row_count ls) (edges ts hs ws m) f b (side + 1) (2 - (side + 1))
+
+abbrev pub from_row : ℕ → List ℕ → List ℕ → List ℕ → List ℕ → ℕ → List ℕ → List ℕ → ℕ → ℕ → Check
+from_row n ls ts hs ws m f b side r =
+    in_rows n (edges_on (eqb side 0) (edges ts hs ws m)) (cond (eqb side 0) f b) side (range r (row_count ls - r)) (after_side n ls ts hs ws m f b side)
+
+abbrev pub from_record : ℕ → List ℕ → List ℕ → List ℕ → List ℕ → ℕ → List ℕ → List ℕ → ℕ → ℕ → ℕ → Check
+from_record n ls ts hs ws m f b side r j =
+    in_records (property_of r) (row n r (cond (eqb side 0) f b)) side r j (drop j (edges_on (eqb side 0) (edges ts hs ws m))) (from_row n ls ts hs ws m f b side (r + 1))
+
 abbrev pub invariant-loop-j : goal.invariant-loop-j
 invariant-loop-j l =
     (from_record l.n l.landmarks l.tails l.heads l.weights l.count l.forward l.backward l.side l.r l.j ≡ check l.n l.landmarks (network l.tails l.heads l.weights l.forward l.backward l.count))

@@ -29,12 +29,12 @@ read_text-requires c =
 
 pub copy-requires : goal.copy-requires
 copy-requires c =
-    let count : (c.in-Good.count ≤ max_sources) × (max_sources ≤ length c.read_text.new.list) = let t = c.read_text in subst (λ r. Whole r t.last.1.1.0) c.in-Good.is t.ensures.1 in
+    let count : (c.in-Good.count ≤ max_sources) × (max_sources ≤ length c.read_text.new.list) = subst (λ r. Whole r c.read_text.new.list) c.in-Good.is c.read_text.ensures.whole in
     let w = count in let l = c.if-sources-lt-MAX_SOURCES.false in (omega arith, omega arith)
 
 pub overflow_cast-result : goal.overflow_cast-result
 overflow_cast-result c =
-    let count : (c.in-Good.count ≤ max_sources) × (max_sources ≤ length c.read_text.new.list) = let t = c.read_text in subst (λ r. Whole r t.last.1.1.0) c.in-Good.is t.ensures.1 in
+    let count : (c.in-Good.count ≤ max_sources) × (max_sources ≤ length c.read_text.new.list) = subst (λ r. Whole r c.read_text.new.list) c.in-Good.is c.read_text.ensures.whole in
     omega (arith, count)
 
 pub shape_of-list-in-Bad : goal.shape_of-list-in-Bad
@@ -42,7 +42,7 @@ shape_of-list-in-Bad c =
     omega arith
 
 pub returns-in-Bad : goal.returns-in-Bad
-unfolding read_of sources_call reading ◌▷◌ refuse_if replied choose judged, told
+unfolding read_of sources_call reading ◌▷◌ refuse_if replied choose judged told
 returns-in-Bad c =
     let fine : accept ≡ size c.args.n = rw c.in_default.is at c.judge_size-size.ensures in
     rw (← fine, le-ltb _ max_sources c.if-sources-lt-MAX_SOURCES.false, ← known (read_of _) c.in-Bad.is c.read_text.ensures.result_after)
@@ -56,10 +56,10 @@ shape_of-list-in-Good c =
     omega arith
 
 pub returns-in-Good : goal.returns-in-Good
-unfolding read_of sources_call reading ◌▷◌ refuse_if replied choose judged sources_read, told
+unfolding read_of sources_call reading ◌▷◌ refuse_if replied choose judged sources_read told
 returns-in-Good c =
     let fine : accept ≡ size c.args.n = rw c.in_default.is at c.judge_size-size.ensures in
-    let count : (c.in-Good.count ≤ max_sources) × (max_sources ≤ length c.read_text.new.list) = let t = c.read_text in subst (λ r. Whole r t.last.1.1.0) c.in-Good.is t.ensures.1 in
+    let count : (c.in-Good.count ≤ max_sources) × (max_sources ≤ length c.read_text.new.list) = subst (λ r. Whole r c.read_text.new.list) c.in-Good.is c.read_text.ensures.whole in
     let w = count in
     let fits : c.in-Good.count ≤ length c.read_text.new.list = omega arith in
-    rw (← fine, le-ltb _ max_sources c.if-sources-lt-MAX_SOURCES.left, ← known (read_of _) c.in-Good.is c.read_text.ensures.result_after, c.copy.ensures ∙ paste_front _ _ _ fits, length-take-le _ _ fits)
+    rw (← fine, le-ltb _ max_sources c.if-sources-lt-MAX_SOURCES.false, ← known (read_of _) c.in-Good.is c.read_text.ensures.result_after, c.copy.ensures ∙ paste_front _ _ _ fits, length-take-le _ _ fits)

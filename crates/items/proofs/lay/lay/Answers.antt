@@ -3,11 +3,8 @@ use Rattle.property.proofs.Basics.{needs, arith, ◌≡◌, refl, ap, ◌∙◌,
 use Rattle.network.specs.Change.{Change}
 use Rattle.items.specs.Code.{change_of, put_change, laid_all}
 use Rattle.items.proofs.Laying.{filled_more, filled_laid, part_length, part_at}
+use Rattle.items.proofs.lay.lay.Invariants.{from_on}
 use Rattle.items.proofs.lay.lay.Goals as goal
-
--- change i of those from an index on
-abbrev from_on : List (List ℕ) → ℕ → ℕ → Change
-from_on changes from i = change_of (get_or changes (from + i) [])
 
 pub loop-i-init : goal.loop-i-init
 loop-i-init c =

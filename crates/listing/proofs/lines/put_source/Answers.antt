@@ -67,13 +67,12 @@ loop-p-smaller c =
 pub loop-p-preserved : goal.loop-p-preserved
 loop-p-preserved c =
     let within : let n = c.args.n in c.loop-p.p * n + n ≤ length c.loop-p.rows = row_ends c.loop-p.p properties c.args.n _ c.loop-p-test.true (omega (arith, c.requires.vertices, c.loop-p.invariant.2)) in
-    let call = c.settle_row in
     let g = c.args in
     let n = g.n in
     let a = c.loop-p.p * n in
-    let part = call.new.1.1.1.1.1.1.1.1.1.1.0 in
-    let size = call.auto.1.1.1.1.1.1.1.1.1.1.0 in (
-      filled_turn (λ r. settled_row n g.landmarks.now (network g.tails.now g.heads.now g.weights.now g.forward.now g.backward.now g.count) g.source (r + 1)) n c.loop-p.p (a + n - a) c.loop-p.rows part within (size ∙ row_size n a c.loop-p.rows within) call.ensures c.loop-p.invariant.0,
+    let part = c.settle_row.new.row in
+    let size = c.settle_row.auto.row in (
+      filled_turn (λ r. settled_row n g.landmarks.now (network g.tails.now g.heads.now g.weights.now g.forward.now g.backward.now g.count) g.source (r + 1)) n c.loop-p.p (a + n - a) c.loop-p.rows part within (size ∙ row_size n a c.loop-p.rows within) c.settle_row.ensures c.loop-p.invariant.0,
       omega (arith, c.loop-p-test.true),
       same_len_mid a (a + n - a) c.loop-p.rows part size ∙ c.loop-p.invariant.2,
     )
