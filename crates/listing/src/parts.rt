@@ -11,7 +11,7 @@ use choice::Choice;
 use graph::Judged;
 
 // Two files that were read: the verdict, and where it is fine the numbers of the network and of its sources.
-#[derive(Drop)]
+#[derive(Clone, Copy)]
 pub struct Prepared {
     pub verdict: Judged,
     pub n: u32,

@@ -2,52 +2,30 @@
 // handed a batch with one bad change among ten, and is asked from a vertex that was never used before, also with a schedule.
 #![tactic(auto)]
 
+use std::io;
+
 use apply::Applied;
 use open::Opened;
 use query::Answered;
 
 // The names of the five properties, as they are printed.
-fn print_property(p: u32) {
+fn name_of(p: u32) -> &'static str {
     match p {
-        1 => {
-            io::write_all(1, b"time");
-        }
-        2 => {
-            io::write_all(1, b"handovers");
-        }
-        3 => {
-            io::write_all(1, b"headroom");
-        }
-        4 => {
-            io::write_all(1, b"worst");
-        }
-        _ => {
-            io::write_all(1, b"reach");
-        }
+        1 => "time",
+        2 => "handovers",
+        3 => "headroom",
+        4 => "worst",
+        _ => "reach",
     }
 }
 
-fn print_number(v: u64) {
-    io::write_all(1, b" ");
-    io::print_decimal(1, v);
+fn print_words(rt: &impl Print, words: [u32; 4]) -> io::Result<()> {
+    let [a, b, c, d] = words;
+    print!(rt; " {a} {b} {c} {d}")
 }
 
-fn print_word(v: u32) {
-    print_number(v as u64);
-}
-
-fn print_words(words: [u32; 4]) {
-    print_word(words[0]);
-    print_word(words[1]);
-    print_word(words[2]);
-    print_word(words[3]);
-}
-
-fn print_refusal(number: u32, place: usize) {
-    io::write_all(1, b"refused");
-    print_number(number as u64);
-    print_number(place as u64);
-    io::write_all(1, b"\n");
+fn print_refusal(rt: &impl Print, number: u32, place: usize) -> io::Result<()> {
+    println!(rt; "refused {number} {place}")
 }
 
 // Asks for one property from one vertex, and prints the settled words and the tally.

@@ -1,8 +1,7 @@
 // Prints the five values from every source of deck.ss to every vertex of deck.gr. Both files are read in the folder that it is started in.
 #![tactic(auto)]
 
-ghost use Rattle.std.specs.Prelude.{◌≡◌, ◌+◌, ◌*◌, length};
-ghost use Rattle.io.specs.Counts.{IsPrefixLen};
+ghost use Rattle.std.specs.Prelude.{◌≡◌, ◌+◌, ◌*◌, ◌≤◌, length};
 ghost use Rattle.graph.specs.Limits.{max_vertices, max_edges};
 ghost use Rattle.dimacs.specs.Sources.{max_sources};
 ghost use Rattle.listing.specs.Listing.{max_file};
@@ -10,6 +9,9 @@ ghost use Rattle.listing.specs.Code.{max_line, row_words, Printable};
 
 use listing::parts::Prepared;
 use listing::{parts, prepare};
+use std::fs::File;
+use std::io::{self, Read, Write};
+use std::rt::Files;
 
 // Room for one byte more than a file may have: nothing past it matters.
 const FILE_BYTES: usize = listing::MAX_FILE + 1;
@@ -42,21 +44,26 @@ fn line_buffer() -> [u8; listing::SOURCE_BYTES]
     [0; listing::SOURCE_BYTES]
 }
 
-// A file's bytes in front of `text`; none where it can't be opened.
-fn read_file(name: &[u8], text: &mut [u8]) -> usize
-    ensures { IsPrefixLen result text.new }
+// A file's bytes in front of `text`, as far as they can be read; none where it can't be opened.
+fn read_file(rt: &impl Files, name: &str, text: &mut [u8]) -> usize
+    ensures { result ≤ length text.new }
 {
-    let fd = os::open_read(name);
-    if fd < 0 {
+    let mut n = 0;
+    let Ok(mut file) = File::open(rt, name) else {
         return 0;
+    };
+    while n < text.len() {
+        match file.read(&mut text[n..]) {
+            Ok(0) | Err(_) => return n,
+            Ok(more) => n += more,
+        }
     }
-    let n = io::read_full(fd, text);
-    libc::close(fd);
     n
 }
 
-// Writes the pieces of the output, one after the other.
+// Writes the pieces of the output, one after the other, until one can't be written.
 fn print_parts(
+    rt: &impl Print,
     prepared: Prepared,
     tails: &[u32],
     heads: &[u32],
@@ -74,16 +81,18 @@ fn print_parts(
         let n = parts::put_part(
             i, prepared, tails, heads, weights, list, forward, backward, out,
         );
-        io::write_all(1, &out[..n]);
+        if io::writer(rt).write_all(&out[..n]).is_err() {
+            return;
+        }
         i += 1;
     }
 }
 
-fn main() {
+fn main(rt: HostRuntime) {
     let mut gr = file_buffer();
     let mut ss = file_buffer();
-    let g = read_file(b"deck.gr", &mut gr);
-    let s = read_file(b"deck.ss", &mut ss);
+    let g = read_file(&rt, "deck.gr", &mut gr);
+    let s = read_file(&rt, "deck.ss", &mut ss);
     let mut tails = table_list();
     let mut heads = table_list();
     let mut weights = table_list();
@@ -102,6 +111,6 @@ fn main() {
     );
     let mut out = line_buffer();
     print_parts(
-        prepared, &tails, &heads, &weights, &list, &forward, &backward, &mut out,
+        &rt, prepared, &tails, &heads, &weights, &list, &forward, &backward, &mut out,
     );
 }
