@@ -3,7 +3,7 @@
 --
 --   Lightest ks e == no edge of ks of the pair of e has a lower weight
 --   Light ks ps   == so it is for each edge of ps
-use Rattle.property.proofs.Basics.{◌≡◌, refl, sym, ⊎_elim, true, List, [], ◌∷◌, map, Memᴰ, Memᴰ-head, Memᴰ-tail, Memᴰ-cases_cons, ℕ, zero, suc, ◌≤◌, ◌<◌, arith, get_or}
+use Rattle.property.proofs.Basics.{◌≡◌, refl, sym, ⊎_elim, true, List, ◌∷◌, map, Memᴰ, Memᴰ-head, Memᴰ-tail, Memᴰ-cases_cons, ℕ, zero, suc, ◌≤◌, ◌<◌, arith, get_or}
 use mathlib.Core.List.{nil≢cons, cons≢nil, head-eq_of_cons-eq, tail-eq_of_cons-eq}
 use Rattle.property.specs.Property.{Property}
 use Rattle.graph.specs.Edge.{Edge, precedes}

@@ -1,5 +1,5 @@
 -- The claim of specs/Upgrade.antt. Assumes nothing.
-use Rattle.property.proofs.Basics.{◌≡◌, refl, ap, sym, List, [], ◌∷◌, map, ℕ, ◌≤◌, arith, get_or}
+use Rattle.property.proofs.Basics.{◌≡◌, refl, ap, List, map, ℕ, arith, get_or}
 use mathlib.Core.List.{nil≢cons, cons≢nil, head-eq_of_cons-eq, tail-eq_of_cons-eq}
 use Rattle.graph.specs.Edge.{Edge}
 use Rattle.graph.specs.Simple.{Simple}

@@ -1,5 +1,5 @@
 -- The weights of a route that are written are the lowest, one edge at a time: the claim, proved. Assumes nothing.
-use Rattle.property.proofs.Basics.{◌≡◌, sym, ap, ◌∙◌, arith, List, ℕ, suc, ◌<◌, length, get_or, take, drop, length-map, get_or-append, take-append_seam}
+use Rattle.property.proofs.Basics.{◌≡◌, sym, ◌∙◌, arith, List, ℕ, suc, ◌<◌, length, get_or, take, drop, length-map, get_or-append, take-append_seam}
 use Rattle.graph.specs.Refusal.{over}
 use Rattle.graph.specs.Edge.{Edge}
 use Rattle.graph.specs.Leads.{visited, weights_of}

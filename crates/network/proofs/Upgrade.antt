@@ -13,7 +13,7 @@ use Rattle.graph.proofs.Sorted.{Ordered, Ahead, Sorted, rules_accept, accept_rul
 use Rattle.graph.proofs.Order.{table_ordered}
 use Rattle.graph.proofs.Keeps.{ahead_mem}
 use Rattle.graph.proofs.Simple.{simple_once, precedes_pair, insert_pair}
-use Rattle.network.specs.Change.{Change, struck, comes, edit, edits, words, against, item, items}
+use Rattle.network.specs.Change.{Change, edit, edits, words, against, item, items}
 use Rattle.network.proofs.Items.{refuse_if_lem, Taken, item_taken}
 use Rattle.network.specs.Upgrade.{ChangeBefore, edge_before, paired, words_before, against_before, item_before, reweigh, edit_before, edits_before, items_before, weight_named, renamed, renamed_all, OrderConserved, BatchConserved}
 

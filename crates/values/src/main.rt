@@ -11,7 +11,6 @@ use listing::parts::Prepared;
 use listing::{parts, prepare};
 use std::fs::File;
 use std::io::{self, Read, Write};
-use std::rt::Files;
 
 // Room for one byte more than a file may have: nothing past it matters.
 const FILE_BYTES: usize = listing::MAX_FILE + 1;
@@ -45,7 +44,7 @@ fn line_buffer() -> [u8; listing::SOURCE_BYTES]
 }
 
 // A file's bytes in front of `text`, as far as they can be read; none where it can't be opened.
-fn read_file(rt: &impl Files, name: &str, text: &mut [u8]) -> usize
+fn read_file(rt: &HostRuntime, name: &str, text: &mut [u8]) -> usize
     ensures { result ≤ length text.new }
 {
     let mut n = 0;
@@ -63,7 +62,7 @@ fn read_file(rt: &impl Files, name: &str, text: &mut [u8]) -> usize
 
 // Writes the pieces of the output, one after the other, until one can't be written.
 fn print_parts(
-    rt: &impl Print,
+    rt: &HostRuntime,
     prepared: Prepared,
     tails: &[u32],
     heads: &[u32],

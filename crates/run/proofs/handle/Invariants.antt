@@ -1,16 +1,10 @@
 -- `run::handle` meets its contract. The loop's invariant: the edges that are left, from the state now, come to what all edges of the vertex come
 -- to from the state in which its bit is cleared; and the vertex keeps its word, which is read once. Assumes nothing.
-use Rattle.property.proofs.Basics.{◌≡◌, refl, sym, ap, ◌∙◌, subst, false, List, foldl, ℕ, ◌+◌, ◌-◌, ◌≤◌, ◌<◌, arith, needs, get_or, length}
-use Rattle.property.specs.Property.{property, M}
-use Rattle.property.proofs.Instances.{property_laws}
-use Rattle.graph.specs.Limits.{max_vertices, max_edges}
-use Rattle.graph.specs.Edge.{Edge}
-use Rattle.graph.specs.Index.{edge_in, part_in, OwnIn}
+use Rattle.property.proofs.Basics.{◌≡◌, foldl, ◌-◌, ◌≤◌, get_or, length}
+use Rattle.property.specs.Property.{property}
+use Rattle.graph.specs.Index.{part_in}
 use Rattle.run.specs.Run as spec
-use Rattle.run.specs.Code.{state, Ready, Ran}
-use Rattle.graph.proofs.Lists.{fold_turn, fold_done, get_or_within}
-use Rattle.run.proofs.Folds.{part_more, part_none}
-use Rattle.run.proofs.States.{marks_set, ran_none, ran_then, ran_within, clear_bit, handle_own, keeps_tail}
+use Rattle.run.specs.Code.{state, Ran}
 use Rattle.run.proofs.handle.Given as goal
 
 abbrev pub invariant-loop-j : goal.invariant-loop-j

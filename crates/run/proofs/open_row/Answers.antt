@@ -1,5 +1,5 @@
 -- `run::open_row` meets its contract. Assumes nothing.
-use Rattle.property.proofs.Basics.{needs, length}
+use Rattle.property.proofs.Basics.{length}
 use Rattle.property.specs.Property.{property}
 use Rattle.run.proofs.Starts.{opened_state, opened_sized}
 use Rattle.run.proofs.open_row.Goals as goal

@@ -1,12 +1,8 @@
 -- `run::pass` meets its contract. The loop's invariant: the entries that are left, from the state now, come to what the schedule comes to from the
 -- state at entry. Assumes nothing.
-use Rattle.property.proofs.Basics.{◌≡◌, refl, false, List, foldl, ◌-◌, ◌*◌, ◌≤◌, arith, needs, length, drop, drop_of_length-le}
+use Rattle.property.proofs.Basics.{refl, arith, drop_of_length-le}
 use Rattle.property.specs.Property.{property}
-use Rattle.graph.specs.Limits.{max_edges}
-use Rattle.graph.specs.Edge.{Edge}
-use Rattle.graph.specs.Index.{OwnIn}
 use Rattle.run.specs.Run as spec
-use Rattle.run.specs.Code.{state, Ran}
 use Rattle.graph.proofs.Lists.{fold_turn, fold_done}
 use Rattle.run.proofs.Folds.{drop_more}
 use Rattle.run.proofs.States.{ran_none, ran_then, ran_within}

@@ -1,5 +1,5 @@
 -- `run::relax` meets its contract. Assumes nothing.
-use Rattle.property.proofs.Basics.{sym, ◌∙◌, arith, needs}
+use Rattle.property.proofs.Basics.{sym, ◌∙◌, arith}
 use Rattle.property.specs.Property.{property}
 use Rattle.run.proofs.States.{ran_none, ran_store, relax_stores, relax_keeps}
 use Rattle.run.proofs.relax.Goals as goal

@@ -1,5 +1,5 @@
 -- `run::round` meets its contract: each arm is the property of its number, over lists of its form. Assumes nothing.
-use Rattle.property.proofs.Basics.{◌≡◌, Bool, true, false, needs}
+use Rattle.property.proofs.Basics.{◌≡◌, Bool, true, false}
 use Rattle.property.specs.Property.{property}
 use Rattle.property.proofs.Instances.{property_rest}
 use Rattle.run.specs.Code.{Ready}

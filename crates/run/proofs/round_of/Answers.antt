@@ -1,14 +1,9 @@
 -- `run::round_of` meets its contract. The loop's invariant: the vertices from `i` on, visited from the state now, come to what all come to from the
 -- state in which the round begins. Assumes nothing.
-use Rattle.property.proofs.Basics.{◌≡◌, sym, ◌∙◌, List, foldl, ◌-◌, ◌*◌, ◌≤◌, ◌<◌, sub-zero, arith, needs}
+use Rattle.property.proofs.Basics.{sym, ◌∙◌, ◌<◌, sub-zero, arith}
 use Rattle.property.specs.Property.{property}
 use Rattle.frontier.specs.Waiting.{waiting_of}
 use Rattle.frontier.proofs.Laws.{First, next_first, next_none}
-use Rattle.graph.specs.Limits.{max_edges}
-use Rattle.graph.specs.Edge.{Edge, range}
-use Rattle.graph.specs.Index.{OwnIn}
-use Rattle.run.specs.Run as spec
-use Rattle.run.specs.Code.{state, Ran}
 use Rattle.run.proofs.States.{marks_within, ran_none, ran_then}
 use Rattle.run.proofs.Rounds.{round_next, round_none, round_ends, round_begins, ran_round}
 use Rattle.run.proofs.round_of.Goals as goal

@@ -1,5 +1,5 @@
 -- `run::run_from` meets its contract. Assumes nothing.
-use Rattle.property.proofs.Basics.{needs, arith, ap, ◌∙◌}
+use Rattle.property.proofs.Basics.{arith, ap, ◌∙◌}
 use Rattle.property.specs.Property.{property}
 use Rattle.run.specs.Run.{settle}
 use Rattle.run.proofs.States.{ran_then}

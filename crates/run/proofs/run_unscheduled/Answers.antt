@@ -1,5 +1,5 @@
 -- `run::run_unscheduled` meets its contract: an index is lent for the places, the heads and the weights. Assumes nothing.
-use Rattle.property.proofs.Basics.{needs, lit<}
+use Rattle.property.proofs.Basics.{lit<}
 use Rattle.run.proofs.run_unscheduled.Goals as goal
 
 pub settle-requires : goal.settle-requires

@@ -1,14 +1,12 @@
 -- `run::settle` meets its contract. The loop's invariant: the rounds that are left, from the state now, come to what `n` rounds come to from the
 -- state at entry. Assumes nothing.
-use Rattle.property.proofs.Basics.{◌≡◌, sym, ◌∙◌, List, ◌-◌, ◌*◌, ◌≤◌, sub-zero, arith, needs, not-true, not-false}
+use Rattle.property.proofs.Basics.{◌≡◌, List, ◌-◌, ◌*◌, ◌≤◌}
 use Rattle.property.specs.Property.{property}
 use Rattle.graph.specs.Limits.{max_vertices, max_edges}
 use Rattle.graph.specs.Edge.{Edge}
 use Rattle.graph.specs.Index.{OwnIn}
 use Rattle.run.specs.Run as spec
 use Rattle.run.specs.Code.{state, Ran}
-use Rattle.run.proofs.States.{bits_any, ran_none, ran_then, ran_within}
-use Rattle.run.proofs.Rounds.{settle_more, settle_stop, settle_none}
 use Rattle.run.proofs.settle.Given as goal
 
 abbrev pub invariant-loop-k : goal.invariant-loop-k

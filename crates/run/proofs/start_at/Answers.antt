@@ -1,5 +1,4 @@
 -- `run::start_at` meets its contract. Assumes nothing.
-use Rattle.property.proofs.Basics.{needs}
 use Rattle.run.proofs.Starts.{started_bits, started_marks}
 use Rattle.run.proofs.start_at.Goals as goal
 

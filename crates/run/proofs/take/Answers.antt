@@ -1,5 +1,5 @@
 -- `run::take` meets its contract. Assumes nothing.
-use Rattle.property.proofs.Basics.{sym, ◌∙◌, arith, needs}
+use Rattle.property.proofs.Basics.{sym, ◌∙◌, arith}
 use Rattle.property.specs.Property.{property}
 use Rattle.graph.specs.Limits.{max_edges}
 use Rattle.run.proofs.States.{ran_none, take_waiting, take_idle, ran_taken}

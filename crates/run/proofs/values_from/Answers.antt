@@ -1,5 +1,5 @@
 -- `run::values_from` meets its contract. Assumes nothing.
-use Rattle.property.proofs.Basics.{needs, ◌∙◌, ap}
+use Rattle.property.proofs.Basics.{◌∙◌, ap}
 use Rattle.property.specs.Property.{property}
 use Rattle.run.specs.Run.{settle}
 use Rattle.run.proofs.values_from.Goals as goal
