@@ -1,5 +1,5 @@
 -- `items::apply_item` meets its contract. Assumes nothing.
-use Rattle.property.proofs.Basics.{needs, arith, ◌≡◌, refl}
+use Rattle.property.proofs.Basics.{arith, ◌≡◌, refl}
 use Rattle.network.specs.Change.{words}
 use Rattle.graph.specs.Refusal.{accept}
 use Rattle.graph.proofs.Judging.{fine_accept}

@@ -1,5 +1,5 @@
 -- `items::judge_words` meets its contract. Assumes nothing.
-use Rattle.property.proofs.Basics.{needs, eqb, eq-eqb, ◌≡◌, ap, ap₂, ◌∙◌, inl, inr, ⊎_elim, Bool, true, not, ◌&&◌, ◌||◌}
+use Rattle.property.proofs.Basics.{eqb, eq-eqb, ◌≡◌, ap, ap₂, ◌∙◌, inl, inr, ⊎_elim, Bool, true, not, ◌&&◌, ◌||◌}
 use Rattle.graph.specs.Refusal.{refuse_if}
 use Rattle.graph.specs.Code.{told}
 use Rattle.graph.proofs.Tests.{or_right}

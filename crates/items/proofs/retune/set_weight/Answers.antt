@@ -1,5 +1,5 @@
 -- `items::retune::set_weight` meets its contract. Assumes nothing.
-use Rattle.property.proofs.Basics.{needs, arith, ap, ◌∙◌, List, ℕ, get_or, inl, inr, ⊎_elim}
+use Rattle.property.proofs.Basics.{arith, ap, ◌∙◌, List, ℕ, get_or, inl, inr}
 use Rattle.graph.specs.Edge.{edge, edges}
 use Rattle.graph.specs.Code.{Room, position}
 use Rattle.graph.proofs.Records.{room_less, edges_length}
