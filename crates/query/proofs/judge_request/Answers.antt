@@ -1,5 +1,5 @@
 -- `query::judge_request` meets its contract. Assumes nothing.
-use Rattle.property.proofs.Basics.{needs, lt-ltb, le-ltb, arith, sym, ap, ◌∙◌, not, ltb}
+use Rattle.property.proofs.Basics.{lt-ltb, le-ltb, arith, sym, ap, ◌∙◌, not, ltb}
 use Rattle.graph.proofs.Judging.{if_refused, if_judged}
 use Rattle.property.specs.Property.{is_property}
 use Rattle.query.proofs.judge_request.Goals as goal

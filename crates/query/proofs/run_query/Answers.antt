@@ -1,5 +1,5 @@
 -- `query::run_query` meets its contract. Assumes nothing.
-use Rattle.property.proofs.Basics.{needs, arith, ◌≡◌, sym, ap, ◌∙◌, length, take, take_at, length-take-le}
+use Rattle.property.proofs.Basics.{arith, ◌≡◌, sym, ap, ◌∙◌, length, take, take_at, length-take-le}
 use Rattle.property.specs.Property.{property}
 use Rattle.query.specs.Code.{run_from}
 use Rattle.graph.proofs.Copies.{paste_over}
