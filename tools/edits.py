@@ -60,18 +60,13 @@ def main():
     os.chdir(here)
     now = names_now()
     done = left = 0
-    for path in sorted(glob.glob("crates/*/must-fail/*.edit") + glob.glob("tests/faults/**/*.edit", recursive=True)):
+    for path in [p for p in sorted(glob.glob("crates/*/must-fail/*.edit") + glob.glob("tests/faults/**/*.edit", recursive=True)) if "must-fail" not in sys.argv[2:] or "/must-fail/" in p]:
         with open(f"{landed}/{path}", encoding="utf-8") as f:
             lines = f.read().split("\n")
         file = re.sub(r"^file: ", "", next(l for l in lines if l.startswith("file: ")))
-        crate = path.split("/")[1] if path.startswith("crates/") else None
-        target = f"crates/{crate}/{file}" if crate else None
-        if not target or not os.path.isfile(target):
-            target = file if os.path.isfile(file) else f"crates/{file}" if os.path.isfile(f"crates/{file}") else None
-        if not target:
-            print("left", path, "no file", file)
-            left += 1
-            continue
+        of = [l[7:] for l in lines if l.startswith("crate: ")]
+        crate = of[0] if of else path.split("/")[3 if "/refused/" in path else 1]
+        target = f"crates/{crate}/{file}"
         with open(target, encoding="utf-8") as f:
             text = f.read()
         how = turn if file.endswith(".antt") else source
