@@ -1,5 +1,5 @@
 -- `effects::put_effect` meets its contract, by the variants. Assumes nothing.
-use Rattle.property.proofs.Basics.{needs, ◌≡◌, refl, sym, ap, ◌∙◌, ⊎_elim, Bool, true, false, cond, List, ℕ, set}
+use Rattle.property.proofs.Basics.{◌≡◌, refl, sym, ap, ◌∙◌, Bool, true, false, cond, List, ℕ, set}
 use lib.IntN.{ℤ, pos}
 use mir.Syntax.{w64}
 use mir.Val.{SFits, to_z, of_z}
