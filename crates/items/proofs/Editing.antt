@@ -1,6 +1,6 @@
 -- The changes of a batch, judged and applied one by one: one change's refusals, what is left of a chain of changes after one. Assumes nothing.
 use Rattle.property.proofs.Basics.{◌≡◌, sym, ap, ◌∙◌, ◌⊎◌, inl, inr, true, false, not, ◌&&◌, ◌||◌, cond, List, [], ◌∷◌, ℕ, ◌+◌, ◌<◌, ◌≤◌, add-one, arith, length, ltb, eqb, lt-ltb, le-ltb, eq-eqb, ne_eqb, eqb-true, not-false}
-use mathlib.Core.Bool.{and_false, or_false}
+use mathlib.Core.Bool.{and-false, or-false}
 use Rattle.graph.specs.declared.Found.TheVariants.{At, Absent}
 use Rattle.graph.specs.declared.Judged.{Judged}
 use Rattle.graph.specs.declared.Judged.TheVariants as judged
@@ -28,7 +28,7 @@ module _ (n i k t h w o : ℕ) where
   pub words_outside : (n ≤ t) ⊎ (n ≤ h) → refuse 6 i ≡ words n i (change k t h w o)
   unfolding words refuse_if ◌▷◌
   words_outside (inl a) = rw (le-ltb t n a)
-  words_outside (inr a) = rw (le-ltb h n a, and_false)
+  words_outside (inr a) = rw (le-ltb h n a, and-false)
 
   module _ (a : t < n) (b : h < n) where
     pub words_unkind : (k ≡ 1 → ⊥) → (k ≡ 2 → ⊥) → (k ≡ 3 → ⊥) → refuse 7 i ≡ words n i (change k t h w o)
@@ -60,7 +60,7 @@ module _ (n i k t h w o : ℕ) where
     words_insert p = rw (p, plain.1)
 
     pub words_delete : (k ≡ 1 → ⊥) → change k t h w o ≡ change 2 t h w 0
-    words_delete p = let u : eqb k 2 ≡ true = sym (or_false (eqb k 2)) ∙ (rw (ne_eqb k 1 p) at plain.0) in rw (eqb-true k 2 u, plain.1)
+    words_delete p = let u : eqb k 2 ≡ true = sym (or-false (eqb k 2)) ∙ (rw (ne_eqb k 1 p) at plain.0) in rw (eqb-true k 2 u, plain.1)
 
 -- ---- a change against the edges
 

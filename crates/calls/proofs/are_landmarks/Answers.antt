@@ -1,6 +1,5 @@
 -- `calls::are_landmarks` meets its contract: what is left of the list decides. Assumes nothing.
-use Rattle.property.proofs.Basics.{needs, arith, ◌-◌, ◌≤◌, ◌≡◌, refl, sym, ◌∙◌, length, get_or, drop}
-use Rattle.network.specs.Network.{are_landmarks}
+use Rattle.property.proofs.Basics.{arith, ◌≤◌, refl, sym, ◌∙◌, get_or}
 use Rattle.calls.proofs.Judging.{landmark_high, landmark_twice, landmark_more, landmark_none}
 use Rattle.calls.proofs.are_landmarks.Goals as goal
 

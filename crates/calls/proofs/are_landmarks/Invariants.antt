@@ -1,7 +1,6 @@
 -- `calls::are_landmarks` meets its contract: what is left of the list decides. Assumes nothing.
-use Rattle.property.proofs.Basics.{needs, arith, ◌-◌, ◌≤◌, ◌≡◌, refl, sym, ◌∙◌, length, get_or, drop}
+use Rattle.property.proofs.Basics.{◌-◌, ◌≡◌, length, drop}
 use Rattle.network.specs.Network.{are_landmarks}
-use Rattle.calls.proofs.Judging.{landmark_high, landmark_twice, landmark_more, landmark_none}
 use Rattle.calls.proofs.are_landmarks.Given as goal
 
 abbrev pub invariant-loop-i : goal.invariant-loop-i

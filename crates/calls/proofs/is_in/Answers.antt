@@ -1,6 +1,5 @@
 -- `calls::is_in` meets its contract: what is left of the list decides. Assumes nothing.
-use Rattle.property.proofs.Basics.{needs, ◌-◌, ◌≡◌, refl, length, drop}
-use Rattle.network.specs.Network.{is_in}
+use Rattle.property.proofs.Basics.{refl}
 use Rattle.calls.proofs.Judging.{in_found, in_more, in_none}
 use Rattle.calls.proofs.is_in.Goals as goal
 

@@ -1,5 +1,5 @@
 -- `calls::is_short` meets its contract. Assumes nothing.
-use Rattle.property.proofs.Basics.{needs, arith, ◌<◌}
+use Rattle.property.proofs.Basics.{arith, ◌<◌}
 use Rattle.calls.proofs.Judging.{short_none, short_some}
 use Rattle.calls.proofs.is_short.Goals as goal
 

@@ -1,5 +1,5 @@
 -- `calls::judge_all` meets its contract. Assumes nothing.
-use Rattle.property.proofs.Basics.{needs, ◌∙◌}
+use Rattle.property.proofs.Basics.{◌∙◌}
 use Rattle.graph.proofs.Verdicts.{then_accept, then_assoc}
 use Rattle.graph.proofs.Judging.{lengths_accept, then_refused, then_judged, fine_accept}
 use Rattle.calls.proofs.judge_all.Goals as goal

@@ -1,5 +1,4 @@
 -- `calls::judge_lists` meets its contract. Assumes nothing.
-use Rattle.property.proofs.Basics.{needs}
 use Rattle.graph.proofs.Judging.{then_refused, then_judged}
 use Rattle.calls.proofs.judge_lists.Goals as goal
 

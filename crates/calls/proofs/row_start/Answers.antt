@@ -1,5 +1,5 @@
 -- `calls::row_start` meets its contract. Assumes nothing.
-use Rattle.property.proofs.Basics.{needs, arith}
+use Rattle.property.proofs.Basics.{arith}
 use Rattle.calls.proofs.Rows.{row_fits}
 use Rattle.calls.proofs.row_start.Goals as goal
 

@@ -1,5 +1,5 @@
 -- `items::apply_item` meets its contract. Assumes nothing.
-use Rattle.property.proofs.Basics.{needs, arith, ◌≡◌, refl}
+use Rattle.property.proofs.Basics.{arith, ◌≡◌, refl}
 use Rattle.network.specs.Change.{words}
 use Rattle.graph.specs.Refusal.{accept}
 use Rattle.graph.proofs.Judging.{fine_accept}
@@ -25,7 +25,7 @@ returns-then-kind-eq1 c =
     let inserted : let a = c.args in change a.kind a.t a.h a.w a.old ≡ change 1 a.t a.h a.w 0 = let a = c.args in
     let p = c.if-kind-eq1.true in
     words_insert a.n a.place a.kind a.t a.h a.w a.old (λ q. omega arith) fine p in
-    let both = item_as _ _ _ _ _ inserted fine c.insert_item.ensures in record { result_value = both.0; leaves = both.1 }
+    let both = item_as _ _ _ _ _ inserted fine (c.insert_item.ensures.result_value, c.insert_item.ensures.leaves) in record { result_value = both.0; leaves = both.1 }
 
 pub update_item-requires : goal.update_item-requires
 update_item-requires c =
@@ -35,7 +35,7 @@ update_item-requires c =
 pub returns-then-kind-eq3 : goal.returns-then-kind-eq3
 returns-then-kind-eq3 c =
     let fine : let a = c.args in words a.n a.place (change a.kind a.t a.h a.w a.old) ≡ accept = fine_accept _ _ c.judge_words-own.ensures c.in_default.is in
-    let both = item_as _ _ _ _ _ (change_kind _ _ _ _ c.if-kind-eq3.true) fine c.update_item.ensures in record { result_value = both.0; leaves = both.1 }
+    let both = item_as _ _ _ _ _ (change_kind _ _ _ _ c.if-kind-eq3.true) fine (c.update_item.ensures.result_value, c.update_item.ensures.leaves) in record { result_value = both.0; leaves = both.1 }
 
 pub delete_item-requires : goal.delete_item-requires
 delete_item-requires c =
@@ -49,4 +49,4 @@ returns c =
     let fine : let a = c.args in words a.n a.place (change a.kind a.t a.h a.w a.old) ≡ accept = fine_accept _ _ c.judge_words-own.ensures c.in_default.is in
     let deleted : let a = c.args in change a.kind a.t a.h a.w a.old ≡ change 2 a.t a.h a.w 0 = let a = c.args in
     words_delete a.n a.place a.kind a.t a.h a.w a.old c.if-kind-eq3.false fine c.if-kind-eq1.false in
-    let both = item_as _ _ _ _ _ deleted fine c.delete_item.ensures in record { result_value = both.0; leaves = both.1 }
+    let both = item_as _ _ _ _ _ deleted fine (c.delete_item.ensures.result_value, c.delete_item.ensures.leaves) in record { result_value = both.0; leaves = both.1 }

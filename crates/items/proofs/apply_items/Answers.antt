@@ -1,9 +1,7 @@
 -- `items::apply_items` meets its contract: what is left of the changes gives, from here, the verdict and the edges of all. Assumes nothing.
-use Rattle.property.proofs.Basics.{needs, arith, ◌≡◌, refl, ◌∙◌, List, ◌∷◌, ◌+◌, ◌-◌, ◌≤◌, length, drop, drop_of_length-le}
-use Rattle.graph.specs.Edge.{edges}
-use Rattle.network.specs.Change.{Change, edits, items}
+use Rattle.property.proofs.Basics.{arith, ◌≡◌, refl, ◌∙◌, List, ◌∷◌, ◌+◌, drop, drop_of_length-le}
+use Rattle.network.specs.Change.{Change}
 use Rattle.items.specs.Code.{change_at, Laid}
-use Rattle.calls.specs.Code.{Tabled}
 use Rattle.items.proofs.Editing.{items_more, items_stop, items_none, edits_more, edits_none, leaves_refused, leaves_count}
 use Rattle.items.proofs.Laying.{laid_more}
 use Rattle.items.proofs.apply_items.Goals as goal
@@ -17,7 +15,7 @@ apply_item-edited-requires c =
     c.loop-k.invariant.1
 
 pub returns-in_default : goal.returns-in_default
-returns-in_default cs h c =
+returns-in_default c cs h =
     let next : let a = c.args in let k = c.loop-k.k in
     (cs : List Change) → Laid a.size cs a.lists.now → drop k cs ≡ change_at a.lists.now k ∷ drop (k + 1) cs = λ cs h. let k = c.loop-k-test.true in
     let z = c.requires.1 in
@@ -42,7 +40,7 @@ loop-k-preserved c =
     )
 
 pub returns : goal.returns
-returns cs h c =
+returns c cs h =
     let i = c.loop-k.invariant in
     let z = drop_of_length-le cs {i = c.loop-k.k} (omega (arith, h.size, c.loop-k-test.false)) in
     leaves_count _ _ _ _ _ _ i.1 (edits_none _ _ z (i.0 cs h).1) (items_none _ _ _ _ z (i.0 cs h).0)

@@ -1,11 +1,9 @@
 -- `items::apply_items` meets its contract: what is left of the changes gives, from here, the verdict and the edges of all. Assumes nothing.
-use Rattle.property.proofs.Basics.{needs, arith, ◌≡◌, refl, ◌∙◌, List, ◌∷◌, ◌+◌, ◌-◌, ◌≤◌, length, drop, drop_of_length-le}
+use Rattle.property.proofs.Basics.{◌≡◌, List, ◌-◌, ◌≤◌, length, drop}
 use Rattle.graph.specs.Edge.{edges}
 use Rattle.network.specs.Change.{Change, edits, items}
-use Rattle.items.specs.Code.{change_at, Laid}
+use Rattle.items.specs.Code.{Laid}
 use Rattle.calls.specs.Code.{Tabled}
-use Rattle.items.proofs.Editing.{items_more, items_stop, items_none, edits_more, edits_none, leaves_refused, leaves_count}
-use Rattle.items.proofs.Laying.{laid_more}
 use Rattle.items.proofs.apply_items.Given as goal
 
 abbrev pub invariant-loop-k : goal.invariant-loop-k

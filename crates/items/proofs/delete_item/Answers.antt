@@ -1,5 +1,5 @@
 -- `items::delete_item` meets its contract. Assumes nothing.
-use Rattle.property.proofs.Basics.{needs, arith, ◌≡◌, refl, sym, ◌∙◌, ◌<◌, ◌≤◌}
+use Rattle.property.proofs.Basics.{arith, ◌≡◌, refl, sym, ◌∙◌, ◌<◌, ◌≤◌}
 use Rattle.graph.specs.declared.Found.TheVariants.{At}
 use Rattle.graph.specs.Limits.{max_edges}
 use Rattle.graph.specs.Edge.{edge, edges}

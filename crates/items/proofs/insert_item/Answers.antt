@@ -1,5 +1,5 @@
 -- `items::insert_item` meets its contract. Assumes nothing.
-use Rattle.property.proofs.Basics.{needs, arith, ◌≡◌, refl, sym, ◌∙◌, length}
+use Rattle.property.proofs.Basics.{arith, ◌≡◌, refl, sym, ◌∙◌, length}
 use Rattle.graph.specs.declared.Found.TheVariants.{Absent}
 use Rattle.graph.specs.Limits.{max_edges}
 use Rattle.graph.specs.Edge.{edge, edges}

@@ -1,5 +1,5 @@
 -- `items::is_suited` meets its contract. Assumes nothing.
-use Rattle.property.proofs.Basics.{needs, eq-eqb, ne_eqb}
+use Rattle.property.proofs.Basics.{eq-eqb, ne_eqb}
 use Rattle.items.proofs.is_suited.Goals as goal
 
 pub returns-then-kind-eq3 : goal.returns-then-kind-eq3

@@ -1,5 +1,5 @@
 -- `items::is_taken` meets its contract. Assumes nothing.
-use Rattle.property.proofs.Basics.{needs, sym, ◌∙◌, eq-eqb, ne_eqb}
+use Rattle.property.proofs.Basics.{sym, ◌∙◌, eq-eqb, ne_eqb}
 use Rattle.graph.specs.Table.{table_order}
 use Rattle.graph.proofs.Seek.{found_has, absent_has}
 use Rattle.items.proofs.is_taken.Goals as goal

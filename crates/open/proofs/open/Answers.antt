@@ -1,5 +1,5 @@
 -- `open::open` meets its contract. Assumes nothing.
-use Rattle.property.proofs.Basics.{◌≡◌, ◌*◌, ◌≤◌, length, needs}
+use Rattle.property.proofs.Basics.{◌≡◌, ◌*◌, ◌≤◌, length}
 use Rattle.graph.proofs.Judging.{fine_accept}
 use Rattle.graph.specs.Refusal.{accept}
 use Rattle.network.specs.Network.{row_count, faults}

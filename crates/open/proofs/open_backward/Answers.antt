@@ -1,5 +1,5 @@
 -- `open::open_backward` meets its contract. Assumes nothing.
-use Rattle.property.proofs.Basics.{arith, needs}
+use Rattle.property.proofs.Basics.{arith}
 use Rattle.open.proofs.open_backward.Goals as goal
 
 pub index_reversed-requires : goal.index_reversed-requires

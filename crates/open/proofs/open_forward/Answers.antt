@@ -1,5 +1,5 @@
 -- `open::open_forward` meets its contract. Assumes nothing.
-use Rattle.property.proofs.Basics.{arith, needs}
+use Rattle.property.proofs.Basics.{arith}
 use Rattle.open.proofs.open_forward.Goals as goal
 
 pub index-requires : goal.index-requires

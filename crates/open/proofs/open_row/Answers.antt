@@ -1,5 +1,5 @@
 -- `open::open_row` meets its contract. Assumes nothing.
-use Rattle.property.proofs.Basics.{arith, needs}
+use Rattle.property.proofs.Basics.{arith}
 use Rattle.open.proofs.Opening.{row_settled}
 use Rattle.open.proofs.open_row.Goals as goal
 

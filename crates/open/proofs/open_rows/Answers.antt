@@ -1,9 +1,8 @@
 -- `open::open_rows` meets its contract. The loop's invariant: the rows so far stand over the list. Assumes nothing.
-use Rattle.property.proofs.Basics.{◌≡◌, refl, ap, ◌∙◌, List, map, ◌+◌, ◌-◌, ◌*◌, ◌≤◌, arith, length, needs}
+use Rattle.property.proofs.Basics.{◌≡◌, refl, ap, ◌∙◌, map, ◌+◌, ◌-◌, ◌*◌, ◌≤◌, arith, length}
 use borrow.Rule.Slice.PartMut.{same_len_mid}
 use Rattle.graph.specs.Refusal.{over}
-use Rattle.graph.specs.Edge.{Edge, range}
-use Rattle.graph.specs.Index.{Own}
+use Rattle.graph.specs.Edge.{range}
 use Rattle.network.specs.Network.{row_count, flat}
 use Rattle.network.specs.Open.{open_row}
 use Rattle.network.proofs.Rows.{open_sized}

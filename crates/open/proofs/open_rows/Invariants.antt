@@ -1,14 +1,10 @@
 -- `open::open_rows` meets its contract. The loop's invariant: the rows so far stand over the list. Assumes nothing.
-use Rattle.property.proofs.Basics.{◌≡◌, refl, ap, ◌∙◌, List, map, ◌+◌, ◌-◌, ◌*◌, ◌≤◌, arith, length, needs}
-use borrow.Rule.Slice.PartMut.{same_len_mid}
+use Rattle.property.proofs.Basics.{◌≡◌, List, map, ◌-◌, ◌≤◌, length}
 use Rattle.graph.specs.Refusal.{over}
 use Rattle.graph.specs.Edge.{Edge, range}
 use Rattle.graph.specs.Index.{Own}
-use Rattle.network.specs.Network.{row_count, flat}
+use Rattle.network.specs.Network.{flat}
 use Rattle.network.specs.Open.{open_row}
-use Rattle.network.proofs.Rows.{open_sized}
-use Rattle.calls.proofs.Rows.{row_ends}
-use Rattle.calls.proofs.Flat.{row_size, over_none, over_turn}
 use Rattle.open.proofs.open_rows.Given as goal
 
 abbrev pub invariant-loop-r : goal.invariant-loop-r

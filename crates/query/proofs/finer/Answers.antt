@@ -1,5 +1,5 @@
 -- `query::finer` meets its contract. Assumes nothing.
-use Rattle.property.proofs.Basics.{needs, sym, ◌∙◌}
+use Rattle.property.proofs.Basics.{sym, ◌∙◌}
 use Rattle.query.proofs.finer.Goals as goal
 
 pub returns-then-better : goal.returns-then-better

@@ -1,5 +1,4 @@
 -- `query::join_row` meets its contract: each arm is the property of its number. Assumes nothing.
-use Rattle.property.proofs.Basics.{needs}
 use Rattle.property.specs.Property.{property}
 use Rattle.property.proofs.Instances.{property_rest}
 use Rattle.query.proofs.join_row.Goals as goal

@@ -1,5 +1,5 @@
 -- `query::join_row_of` meets its contract. Assumes nothing.
-use Rattle.property.proofs.Basics.{needs, arith, ◌≡◌, refl, sym, ap, ◌∙◌, ⊎_elim, ℕ, ◌+◌, ◌-◌, ◌<◌, ◌≤◌, length, get_or, length-set, get_or-set_other}
+use Rattle.property.proofs.Basics.{arith, refl, sym, ap, ◌∙◌, ⊎_elim, ℕ, ◌+◌, get_or, length-set, get_or-set_other}
 use Rattle.property.specs.Property.{property}
 use Rattle.graph.proofs.Lists.{at_set}
 use Rattle.run.specs.Start.{finer}

@@ -1,5 +1,5 @@
 -- `query::judge_query` meets its contract. Assumes nothing.
-use Rattle.property.proofs.Basics.{◌∙◌, needs}
+use Rattle.property.proofs.Basics.{◌∙◌}
 use Rattle.graph.proofs.Verdicts.{then_accept}
 use Rattle.graph.proofs.Judging.{lengths_accept, then_refused, then_judged, fine_accept}
 use Rattle.query.proofs.AskingFaults.{faults_flat}

@@ -1,6 +1,5 @@
 -- `query::judge_schedule` meets its contract. Assumes nothing.
-use Rattle.property.proofs.Basics.{needs, arith, ◌≡◌, refl, ◌-◌, ◌≤◌, length, drop}
-use Rattle.network.specs.Query.{scheduled}
+use Rattle.property.proofs.Basics.{arith, refl}
 use Rattle.query.proofs.Asking.{schedule_more, schedule_broken, schedule_none}
 use Rattle.query.proofs.judge_schedule.Goals as goal
 

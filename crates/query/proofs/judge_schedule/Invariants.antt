@@ -1,7 +1,6 @@
 -- `query::judge_schedule` meets its contract. Assumes nothing.
-use Rattle.property.proofs.Basics.{needs, arith, ◌≡◌, refl, ◌-◌, ◌≤◌, length, drop}
+use Rattle.property.proofs.Basics.{◌≡◌, ◌-◌, ◌≤◌, length, drop}
 use Rattle.network.specs.Query.{scheduled}
-use Rattle.query.proofs.Asking.{schedule_more, schedule_broken, schedule_none}
 use Rattle.query.proofs.judge_schedule.Given as goal
 
 abbrev pub invariant-loop-i : goal.invariant-loop-i

@@ -1,5 +1,4 @@
 -- `query::judge_sizes` meets its contract. Assumes nothing.
-use Rattle.property.proofs.Basics.{needs}
 use Rattle.graph.proofs.Judging.{then_refused, then_judged}
 use Rattle.query.proofs.judge_sizes.Goals as goal
 

@@ -1,5 +1,5 @@
 -- `query::query` meets its contract. Assumes nothing.
-use Rattle.property.proofs.Basics.{needs, arith, ◌≡◌, false, sym, ap, ◌∙◌, ◌++◌, ℕ, length, drop, take, replicate, length-append, length-drop, take_at, length-take-le}
+use Rattle.property.proofs.Basics.{arith, ◌≡◌, false, sym, ap, ◌∙◌, ◌++◌, ℕ, length, drop, take, replicate, length-append, length-drop, take_at, length-take-le}
 use Rattle.graph.proofs.Judging.{fine_accept}
 use Rattle.graph.proofs.Records.{room_less}
 use Rattle.graph.proofs.Copies.{paste_front}

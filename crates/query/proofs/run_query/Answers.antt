@@ -1,5 +1,5 @@
 -- `query::run_query` meets its contract. Assumes nothing.
-use Rattle.property.proofs.Basics.{needs, arith, ◌≡◌, sym, ap, ◌∙◌, length, take, take_at, length-take-le}
+use Rattle.property.proofs.Basics.{arith, ◌≡◌, sym, ap, ◌∙◌, length, take, take_at, length-take-le}
 use Rattle.property.specs.Property.{property}
 use Rattle.query.specs.Code.{run_from}
 use Rattle.graph.proofs.Copies.{paste_over}
@@ -21,7 +21,7 @@ run_counted-requires c =
     (c.requires.fit_in.0, record { words = room; waiting = c.start_at.ensures.marks }, c.requires.fit_in.1)
 
 pub returns : goal.returns
-returns es o c =
+returns c es o =
     let started : take c.args.n c.copy.new.dst ≡ c.args.start.now = ap (take c.args.n) (c.copy.ensures ∙ paste_over c.args.settled.now _ c.args.n c.requires.start_len.0) ∙ take_at _ _ c.args.n c.requires.start_len.0 in
     run_ended c.args.n (run_from (property c.args.p) es c.args.n c.args.source c.args.schedule.now c.args.start.now) c.args.start.now c.args.settled.now _ _ _ _
     (rw (started, c.start_at.ensures.waiting_after) at (c.run_counted.ensures.0 es o)) c.requires.start_len.0 c.run_counted.ensures.1.sized.words c.copy.ensures

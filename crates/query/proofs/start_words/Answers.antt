@@ -1,10 +1,10 @@
 -- `query::start_words` meets its contract. The loop's invariant: the words are the bounds over the landmarks from i on. Assumes nothing.
-use Rattle.property.proofs.Basics.{needs, arith, ◌≡◌, refl, sym, ap, ◌∙◌, ⊎_elim, ℕ, ◌+◌, ◌-◌, ◌<◌, ◌≤◌, length, get_or, set, replicate, length-set, length-replicate}
+use Rattle.property.proofs.Basics.{needs, arith, ◌≡◌, refl, sym, ap, ◌∙◌, ⊎_elim, ℕ, ◌+◌, ◌-◌, ◌≤◌, length, get_or, set, replicate, length-set, length-replicate}
 use Rattle.property.specs.Property.{property}
-use Rattle.graph.proofs.Lists.{at_set, get_d_within, replicate_at}
+use Rattle.graph.proofs.Lists.{at_set, get_or_within, replicate_at}
 use Rattle.run.specs.Start.{Landmark, asked}
 use Rattle.query.specs.Code.{known_by}
-use Rattle.query.proofs.Asking.{entry, bound_from, bound_none, bound_turn, bound_done, entry_join, start_of, start_source, start_other, words_done}
+use Rattle.query.proofs.Asking.{entry, bound_none, bound_turn, bound_done, entry_join, start_of, start_source, start_other, words_done}
 use Rattle.calls.proofs.Rows.{row_within}
 use Rattle.query.proofs.start_words.Goals as goal
 
@@ -15,7 +15,7 @@ loop-i-init c =
     let e = c.fill.ensures in
     let z = length-replicate (length a.out.now) c.none.result in (
       (λ t l.
-          ap (λ x. get_or x t 0) e ∙ get_d_within (replicate (length a.out.now) c.none.result) t 0 c.none.result (omega (arith, c.requires.0)) ∙ replicate_at (length a.out.now) t c.none.result ∙ c.none.ensures
+          ap (λ x. get_or x t 0) e ∙ get_or_within (replicate (length a.out.now) c.none.result) t 0 c.none.result (omega (arith, c.requires.0)) ∙ replicate_at (length a.out.now) t c.none.result ∙ c.none.ensures
           ∙ sym (bound_none (property a.p) told (length a.landmarks.now) t)),
       ap length e ∙ z ∙ c.requires.0,
       omega arith,

@@ -1,11 +1,7 @@
 -- `query::start_words` meets its contract. The loop's invariant: the words are the bounds over the landmarks from i on. Assumes nothing.
-use Rattle.property.proofs.Basics.{needs, arith, ◌≡◌, refl, sym, ap, ◌∙◌, ⊎_elim, ℕ, ◌+◌, ◌-◌, ◌<◌, ◌≤◌, length, get_or, set, replicate, length-set, length-replicate}
+use Rattle.property.proofs.Basics.{◌≡◌, ℕ, ◌<◌, ◌≤◌, length, get_or}
 use Rattle.property.specs.Property.{property}
-use Rattle.graph.proofs.Lists.{at_set, get_d_within, replicate_at}
-use Rattle.run.specs.Start.{Landmark, asked}
-use Rattle.query.specs.Code.{known_by}
-use Rattle.query.proofs.Asking.{entry, bound_from, bound_none, bound_turn, bound_done, entry_join, start_of, start_source, start_other, words_done}
-use Rattle.calls.proofs.Rows.{row_within}
+use Rattle.query.proofs.Asking.{entry, bound_from}
 use Rattle.query.proofs.start_words.Given as goal
 
 abbrev pub invariant-loop-i : goal.invariant-loop-i

@@ -1,8 +1,7 @@
 -- `items::lay::lay` meets its contract: the changes below i are laid. Assumes nothing.
-use Rattle.property.proofs.Basics.{needs, arith, ◌≡◌, refl, ap, ◌∙◌, List, [], ℕ, ◌+◌, ◌-◌, ◌≤◌, length, get_or}
+use Rattle.property.proofs.Basics.{◌≡◌, List, [], ℕ, ◌+◌, ◌-◌, ◌≤◌, length, get_or}
 use Rattle.network.specs.Change.{Change}
-use Rattle.items.specs.Code.{change_of, put_change, laid_all}
-use Rattle.items.proofs.Laying.{filled_more, filled_laid, part_length, part_at}
+use Rattle.items.specs.Code.{change_of, laid_all}
 use Rattle.items.proofs.lay.lay.Given as goal
 
 -- change i of those from an index on

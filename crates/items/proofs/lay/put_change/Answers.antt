@@ -1,5 +1,5 @@
 -- `items::lay::put_change` meets its contract. Assumes nothing.
-use Rattle.property.proofs.Basics.{needs, arith, length-set}
+use Rattle.property.proofs.Basics.{arith, length-set}
 use Rattle.items.proofs.lay.put_change.Goals as goal
 
 pub bounds-lists-i-2 : goal.bounds-lists-i-2

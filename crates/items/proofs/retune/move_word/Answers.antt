@@ -1,6 +1,6 @@
 -- `items::retune::move_word` meets its contract: with the word at k struck, the list is the one at entry with that at i struck. Assumes nothing.
-use Rattle.property.proofs.Basics.{needs, arith, suc, add-one, ◌-◌, ◌≤◌, ◌<◌, ◌≡◌, refl, ap, ◌∙◌, length, length-set}
-use Rattle.graph.specs.Code.{insert_at, delete_at}
+use Rattle.property.proofs.Basics.{needs, arith, suc, add-one, ◌-◌, ◌≡◌, refl, ap, ◌∙◌, length-set}
+use Rattle.graph.specs.Code.{insert_at}
 use Rattle.items.proofs.Retuning.{struck_next, struck_last, put_back}
 use Rattle.items.proofs.retune.move_word.Goals as goal
 

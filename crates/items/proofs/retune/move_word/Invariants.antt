@@ -1,7 +1,6 @@
 -- `items::retune::move_word` meets its contract: with the word at k struck, the list is the one at entry with that at i struck. Assumes nothing.
-use Rattle.property.proofs.Basics.{needs, arith, suc, add-one, ◌-◌, ◌≤◌, ◌<◌, ◌≡◌, refl, ap, ◌∙◌, length, length-set}
-use Rattle.graph.specs.Code.{insert_at, delete_at}
-use Rattle.items.proofs.Retuning.{struck_next, struck_last, put_back}
+use Rattle.property.proofs.Basics.{◌-◌, ◌≤◌, ◌<◌, ◌≡◌, length}
+use Rattle.graph.specs.Code.{delete_at}
 use Rattle.items.proofs.retune.move_word.Given as goal
 
 abbrev pub invariant-loop-k : goal.invariant-loop-k
