@@ -4,7 +4,7 @@
 --   effect_number e == the number of an effect
 --   effect_move e   == the move that an effect tells
 --   shown_of xs ys  == two lists as those lent for a preview's answer
-use Rattle.std.specs.Prelude.{Bool, true, false, cond, List, ℕ, ℤ, pos, negsuc, eqb}
+use Rattle.std.specs.Prelude.{Bool, false, cond, List, ℕ, ℤ, pos, negsuc, eqb}
 use Rattle.effects.specs.declared.Effect.{Effect}
 use Rattle.effects.specs.declared.Effect.TheVariants.{Neither, Gained, Lost, Both}
 use Rattle.answers.specs.Preview.{Shown}

@@ -1,5 +1,4 @@
 -- `effects::difference` meets its contract, by the laws of `Differences.antt`. Assumes nothing.
-use Rattle.property.proofs.Basics.{needs}
 use Rattle.effects.proofs.Differences.{fits, is}
 use Rattle.effects.proofs.difference.Goals as goal
 

@@ -1,5 +1,5 @@
 -- `effects::effect_of` meets its contract, by its four cases. Assumes nothing.
-use Rattle.property.proofs.Basics.{needs, ◌≡◌, refl, ap, ◌∙◌, ◌≢◌, ℕ, eq-eqb, ne_eqb}
+use Rattle.property.proofs.Basics.{◌≡◌, refl, ap, ◌∙◌, ◌≢◌, ℕ, eq-eqb, ne_eqb}
 use lib.IntN.{ℤ, pos, ◌-ℤ◌}
 use mir.Syntax.{w64}
 use mir.Val.{SFits, to_z, of_z}

@@ -1,10 +1,7 @@
 -- `effects::show` meets its contract: the effects and moves of the vertices below t are written. Assumes nothing.
-use Rattle.property.proofs.Basics.{needs, arith, ◌≡◌, refl, sym, ap, ap₂, ◌∙◌, List, [], ◌∷◌, map, ℕ, zero, suc, ◌+◌, ◌-◌, ◌<◌, ◌≤◌, length, get_or, set, add-zero, zero-add, add-one}
-use lib.IntN.{ℤ}
-use Rattle.property.specs.Property.{property}
+use Rattle.property.proofs.Basics.{needs, arith, ◌≡◌, refl, sym, ap, ap₂, ◌∙◌, List, [], ◌∷◌, map, ℕ, zero, suc, ◌+◌, ◌<◌, length, set, add-zero, zero-add, add-one}
 use Rattle.graph.specs.Refusal.{over}
 use Rattle.graph.specs.Edge.{range}
-use Rattle.answers.specs.Preview.{effect_of, move_of}
 use Rattle.effects.specs.Code.{shown_of}
 use Rattle.effects.proofs.show.Invariants.{effect_at, move_at}
 use Rattle.effects.proofs.show.Goals as goal

@@ -1,11 +1,10 @@
 -- `effects::show` meets its contract: the effects and moves of the vertices below t are written. Assumes nothing.
-use Rattle.property.proofs.Basics.{needs, arith, ◌≡◌, refl, sym, ap, ap₂, ◌∙◌, List, [], ◌∷◌, map, ℕ, zero, suc, ◌+◌, ◌-◌, ◌<◌, ◌≤◌, length, get_or, set, add-zero, zero-add, add-one}
+use Rattle.property.proofs.Basics.{◌≡◌, List, map, ℕ, ◌-◌, ◌≤◌, length, get_or}
 use lib.IntN.{ℤ}
 use Rattle.property.specs.Property.{property}
 use Rattle.graph.specs.Refusal.{over}
 use Rattle.graph.specs.Edge.{range}
 use Rattle.answers.specs.Preview.{effect_of, move_of}
-use Rattle.effects.specs.Code.{shown_of}
 use Rattle.effects.proofs.show.Given as goal
 
 abbrev pub effect_at : ℕ → List ℕ → List ℕ → ℕ → ℕ
