@@ -6,6 +6,7 @@ use Rattle.answers.specs.Digest.{digest_faults}
 use Rattle.digest.proofs.judge_digest.Goals as goal
 
 pub returns-in_default : goal.returns-in_default
+unfolding digest_faults
 returns-in_default c =
     then_refused _ _ _ _ _ c.judge_size-size.ensures c.in_default.is
 
