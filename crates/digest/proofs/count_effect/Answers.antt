@@ -1,7 +1,6 @@
 -- `digest::count_effect` meets its contract: the vertices below t are counted. Assumes nothing.
-use Rattle.property.proofs.Basics.{needs, ⊎_elim, Bool, true, false, List, ℕ, ◌-◌, eqb, eq-eqb, ne_eqb}
-use Rattle.answers.specs.Digest.{effect_at}
-use Rattle.digest.proofs.Turning.{Counted, count_start, count_turn, count_end}
+use Rattle.property.proofs.Basics.{true, false, eq-eqb, ne_eqb}
+use Rattle.digest.proofs.Turning.{count_start, count_turn, count_end}
 use Rattle.digest.proofs.count_effect.Invariants.{has}
 use Rattle.digest.proofs.count_effect.Goals.{then-effects-t, else-effects-t}
 use Rattle.digest.proofs.count_effect.Goals as goal

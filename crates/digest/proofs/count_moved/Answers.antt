@@ -1,11 +1,10 @@
 -- `digest::count_moved` meets its contract: the vertices below t are counted. Assumes nothing.
-use Rattle.property.proofs.Basics.{needs, sym, ap, ◌∙◌, inl, inr, ⊎_elim, Bool, true, false, ◌&&◌, List, ℕ, ◌-◌, eqb, eq-eqb, ne_eqb}
-use lib.IntN.{ℤ}
+use Rattle.property.proofs.Basics.{sym, ap, ◌∙◌, inl, inr, true, false, eqb, eq-eqb, ne_eqb}
 use Rattle.property.specs.Property.{property}
 use Rattle.graph.proofs.Tests.{and_true, and_false}
 use Rattle.answers.specs.Digest.{effect_at, move_at, moves_to}
 use Rattle.digest.proofs.Choosing.{told}
-use Rattle.digest.proofs.Turning.{Counted, count_start, count_turn, count_end}
+use Rattle.digest.proofs.Turning.{count_start, count_turn, count_end}
 use Rattle.digest.proofs.count_moved.Invariants.{moved}
 use Rattle.digest.proofs.count_moved.Goals.{then-effects-t-eq3+then-moves_to, else-effects-t-eq3, else-effects-t-eq3-via-then-effects-t-eq3+else-moves_to, else-effects-t-eq3-via-else-effects-t-eq3}
 use Rattle.digest.proofs.count_moved.Goals as goal

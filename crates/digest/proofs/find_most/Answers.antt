@@ -1,16 +1,9 @@
 -- `digest::find_most` meets its contract: of the vertices below t the one that loses most is found. Assumes nothing.
-use Rattle.property.proofs.Basics.{needs, arith, ◌≡◌, refl, sym, ap, ap₂, ◌∙◌, ◌≢◌, inl, inr, ⊎_elim, Bool, true, false, cond, ◌&&◌, ◌||◌, List, ℕ, ◌+◌, ◌-◌, ◌^◌, ◌<◌, ◌≤◌, eqb, eq-eqb, ne_eqb, foldl}
-use lib.IntN.{ℤ}
-use lib.Signed.{mag}
-use mir.Syntax.{w64}
-use mir.Val.{to_z, of_z}
-use Rattle.property.specs.Property.{Property, property}
+use Rattle.property.proofs.Basics.{arith, ◌≡◌, sym, ap, ◌∙◌, ℕ, foldl}
+use Rattle.property.specs.Property.{property}
 use Rattle.graph.specs.Edge.{range}
-use Rattle.graph.proofs.Tests.{and_true, and_false, or_right, or_false}
-use Rattle.effects.specs.Code.{shown_of}
-use Rattle.answers.specs.Digest.{effect_at, move_at, is_loss, is_more, loses, loses_more}
+use Rattle.answers.specs.Digest.{effect_at, move_at, is_loss}
 use Rattle.digest.proofs.Choosing.{told}
-use Rattle.digest.proofs.Turning.{fold_more}
 use Rattle.digest.proofs.find_most.Invariants.{more_told, next, found_start, turn}
 use Rattle.digest.proofs.find_most.Goals.{then-is_loser+then-most-n, then-is_loser+else-most-n+then-loses_more, then-is_loser+else-most-n+else-loses_more, else-is_loser}
 use Rattle.digest.proofs.find_most.Goals as goal

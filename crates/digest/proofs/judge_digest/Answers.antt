@@ -1,5 +1,5 @@
 -- `digest::judge_digest` meets its contract. Assumes nothing.
-use Rattle.property.proofs.Basics.{needs, ◌∙◌, ap, Bool, not}
+use Rattle.property.proofs.Basics.{◌∙◌, ap, Bool, not}
 use Rattle.graph.specs.Refusal.{refuse_if}
 use Rattle.graph.proofs.Judging.{then_refused, then_judged}
 use Rattle.answers.specs.Digest.{digest_faults}
