@@ -11,7 +11,7 @@ use Rattle.property.proofs.Basics.{◌≡◌, sym, ap, ◌∙◌, ◌⊎◌, inl
 use Rattle.property.proofs.Tests.{by_test, is_false}
 use Rattle.graph.specs.Edge.{Edge, edge, same, same_pair, among, precedes}
 use Rattle.graph.proofs.Tests.{both}
-use Rattle.graph.proofs.Edges.{pair_ends, ends_pair, same_own, mem_among, among_mem}
+use Rattle.graph.proofs.Edges.{pair_ends, ends_pair, same_own, among_mem}
 use Rattle.graph.proofs.Simple.{pair_turn}
 use Rattle.graph.proofs.Order.{Less, less_of, table_ordered}
 use Rattle.affected.specs.Net.{counterpart, Retuned}

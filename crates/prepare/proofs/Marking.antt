@@ -1,5 +1,5 @@
 -- The changes of a batch that lose an edge, and the tails of removed edges from which the hunt for affected vertices starts. Assumes nothing.
-use Rattle.property.proofs.Basics.{◌≡◌, sym, ap, ◌∙◌, Bool, true, false, true≢false, false≢true, List, Memᴰ, ℕ, ◌-◌, ◌<◌, arith, length, replicate, ltb, ltb-true, lt-ltb, ne_eqb}
+use Rattle.property.proofs.Basics.{◌≡◌, sym, ap, ◌∙◌, Bool, true, false, true≢false, false≢true, List, Memᴰ, ℕ, ◌<◌, arith, length, replicate, ltb, ltb-true, lt-ltb, ne_eqb}
 use Rattle.property.specs.Property.{Property}
 use Rattle.property.specs.Laws.{Laws}
 use Rattle.property.proofs.Tests.{by_test}

@@ -22,7 +22,7 @@ use Rattle.affected.specs.Net.{added}
 use Rattle.affected.specs.Affected.{marked, affected}
 use Rattle.affected.specs.Prepared.{cleared, reopened, prepared}
 use Rattle.affected.proofs.Closure.{raise_keeps, raise_only}
-use Rattle.compare.specs.Code.{before, after, changes_in}
+use Rattle.compare.specs.Code.{after, changes_in}
 use Rattle.hunt.proofs.Bits.{bits_all, bits_length, marks_if}
 use Rattle.prepare.specs.Code.{Batched, Raised, Reached, Woken, Entering}
 use Rattle.prepare.proofs.Marking.{listed_lost, lost_listed, unmarked}

@@ -1,6 +1,6 @@
 -- `compare::align` meets its contract: a copy of the index, and the changes gone over one by one. Assumes nothing.
-use Rattle.property.proofs.Basics.{needs, arith, ◌≡◌, refl, ◌∙◌, ◌-◌, length}
-use Rattle.compare.proofs.Beside.{Aligned, aligned_none, aligned_turn, aligned_done}
+use Rattle.property.proofs.Basics.{arith, ◌≡◌, refl, ◌∙◌, length}
+use Rattle.compare.proofs.Beside.{aligned_none, aligned_turn, aligned_done}
 use Rattle.compare.proofs.align.Goals as goal
 
 pub loop-k-init : goal.loop-k-init

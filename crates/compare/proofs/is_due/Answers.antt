@@ -1,5 +1,5 @@
 -- `compare::is_due` meets its contract. Assumes nothing.
-use Rattle.property.proofs.Basics.{needs, ap, not, lt-ltb, le-ltb}
+use Rattle.property.proofs.Basics.{ap, not, lt-ltb, le-ltb}
 use Rattle.compare.proofs.is_due.Goals as goal
 
 pub returns-then-i-count1 : goal.returns-then-i-count1

@@ -1,5 +1,4 @@
 -- `compare::is_pair` meets its contract. Assumes nothing.
-use Rattle.property.proofs.Basics.{needs}
 use Rattle.compare.proofs.is_pair.Goals as goal
 
 pub returns : goal.returns

@@ -1,5 +1,5 @@
 -- `compare::join_retune` meets its contract. Assumes nothing.
-use Rattle.property.proofs.Basics.{needs, arith, sym, ◌∙◌, ◌+◌, ◌*◌, ◌<◌, length, length-set}
+use Rattle.property.proofs.Basics.{arith, sym, ◌∙◌, ◌+◌, ◌*◌, ◌<◌, length, length-set}
 use Rattle.compare.specs.Code.{put, joined}
 use Rattle.compare.proofs.Ruled.{length_put}
 use Rattle.compare.proofs.Joining.{retune_next}
@@ -15,27 +15,12 @@ bounds-list-next-then-is_retune c =
     let within : let a = c.args in 2 * (a.k + 1) + 1 < length a.list.now = omega (arith, c.requires.1, retune_next c.args.list.now c.args.size c.args.k (sym c.is_retune.ensures ∙ c.if-is_retune.true)) in
     within
 
-pub bounds-list-at-then-is_retune-3 : goal.bounds-list-at-then-is_retune-3
-bounds-list-at-then-is_retune-3 c =
-    let within : let a = c.args in 2 * (a.k + 1) + 1 < length a.list.now = omega (arith, c.requires.1, retune_next c.args.list.now c.args.size c.args.k (sym c.is_retune.ensures ∙ c.if-is_retune.true)) in
-    let a = c.args in
-    let w = within in
-    omega (arith, length-set a.list.now (2 * a.k) c.chosen.result)
-
-pub arc-requires : goal.arc-requires
-arc-requires c =
-    (omega (arith, c.head.ensures, c.type_inv.list (2 * c.args.k)), omega arith)
-
 pub bounds-list-next-then-is_retune-2 : goal.bounds-list-next-then-is_retune-2
 bounds-list-next-then-is_retune-2 c =
     let within : let a = c.args in 2 * (a.k + 1) + 1 < length a.list.now = omega (arith, c.requires.1, retune_next c.args.list.now c.args.size c.args.k (sym c.is_retune.ensures ∙ c.if-is_retune.true)) in
     let a = c.args in
     let w = within in
     omega (arith, length_put a.list.now a.k c.chosen.result c.chosen-then-is_retune.result)
-
-pub arc-requires-then-is_retune : goal.arc-requires-then-is_retune
-arc-requires-then-is_retune c =
-    (omega (arith, c.head-then-is_retune.ensures, c.type_inv.list (2 * c.args.k + 1)), omega arith)
 
 pub bounds-list-next-then-is_retune-3 : goal.bounds-list-next-then-is_retune-3
 bounds-list-next-then-is_retune-3 c =
@@ -58,7 +43,3 @@ returns-then-is_retune c =
       c.arc-then-is_retune.ensures,
       c.head-then-is_retune.ensures,
     )
-
-pub returns-else-is_retune : goal.returns-else-is_retune
-returns-else-is_retune c =
-    rw (sym c.is_retune.ensures ∙ c.if-is_retune.false)

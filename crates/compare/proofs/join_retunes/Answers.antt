@@ -1,5 +1,5 @@
 -- `compare::join_retunes` meets its contract: the changes are gone over one by one. Assumes nothing.
-use Rattle.property.proofs.Basics.{needs, arith, ◌≡◌, ◌-◌, ◌*◌, ◌≤◌, length}
+use Rattle.property.proofs.Basics.{arith, ◌≡◌, ◌*◌, ◌≤◌, length}
 use Rattle.compare.proofs.Joining.{Joined, joined_none, joined_step, joined_differences, joined_inside}
 use Rattle.compare.proofs.join_retunes.Goals as goal
 

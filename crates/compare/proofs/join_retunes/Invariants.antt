@@ -1,6 +1,6 @@
 -- `compare::join_retunes` meets its contract: the changes are gone over one by one. Assumes nothing.
-use Rattle.property.proofs.Basics.{needs, arith, ◌≡◌, ◌-◌, ◌*◌, ◌≤◌, length}
-use Rattle.compare.proofs.Joining.{Joined, joined_none, joined_step, joined_differences, joined_inside}
+use Rattle.property.proofs.Basics.{◌-◌, ◌≤◌}
+use Rattle.compare.proofs.Joining.{Joined}
 use Rattle.compare.proofs.join_retunes.Given as goal
 
 abbrev pub invariant-loop-k : goal.invariant-loop-k

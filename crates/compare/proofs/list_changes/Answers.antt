@@ -1,55 +1,15 @@
 -- `compare::list_changes` meets its contract. Assumes nothing.
-use Rattle.property.proofs.Basics.{needs, arith, ◌≡◌, refl, ◌⊎◌, inl, inr, ⊎_elim, ℕ, ◌+◌, ◌-◌, ◌*◌, ◌≤◌, length, ltb-true, ltb-false}
+use Rattle.property.proofs.Basics.{needs, arith, inl, inr, ℕ, ◌+◌, ◌*◌, ◌≤◌, length}
 use Rattle.compare.specs.Code.{Tables}
-use Rattle.compare.proofs.Walking.{Step, step_due, step_other, step_flip, step_on, Words, words_low, Listed, walk_start, walk_room, walk_turn, walk_inside, walk_done, old_table, new_table}
+use Rattle.compare.proofs.Walking.{Step, step_on, Words, words_low, Listed, walk_room, walk_turn, walk_inside, walk_done, old_table, new_table}
+use Rattle.compare.proofs.list_changes.Goals.{then-i-count1, else-i-count1+then-j-count2}
 use Rattle.compare.proofs.list_changes.Goals as goal
-
-pub loop-i-init : goal.loop-i-init
-loop-i-init c =
-    ((λ n t. (walk_start _ _ _ _, λ k l. absurd (omega arith))), refl)
-
-pub is_due-gone-requires : goal.is_due-gone-requires
-is_due-gone-requires c =
-    let t = c.requires.0.1 in (t.old.1, t.new.1)
-
-pub is_due-come-requires : goal.is_due-come-requires
-is_due-come-requires c =
-    let t = c.requires.0.1 in (t.new.1, t.old.1)
-
-pub either-t-requires : goal.either-t-requires
-either-t-requires c =
-    let Given : ℕ → Type 0 = λ n. let g = c.args in Tables n g.count1 g.tails1.now g.heads1.now g.weights1.now g.count2 g.tails2.now g.heads2.now g.weights2.now in
-    let step : (n : ℕ) (t : Given n) → let l = c.loop-i in
-    Step (old_table t) (new_table t) l.i l.j c.is_due-gone.result c.is_due-come.result = λ n t. record { go = ⊎_elim (λ w. inl w.taken) (λ w. inr (ltb-true c.loop-i.j c.args.count2 w.1.taken)) c.if-i-count1.branch; old = c.is_due-gone.ensures; new = c.is_due-come.ensures } in
-    let (n, t) = c.requires.0 in ((λ q. let z = step_due (step n t) q in omega (arith, t.old.1.tails)), (λ q. let z = step_other (step n t) q in omega (arith, t.new.1.tails)))
-
-pub either-h-requires : goal.either-h-requires
-either-h-requires c =
-    let Given : ℕ → Type 0 = λ n. let g = c.args in Tables n g.count1 g.tails1.now g.heads1.now g.weights1.now g.count2 g.tails2.now g.heads2.now g.weights2.now in
-    let step : (n : ℕ) (t : Given n) → let l = c.loop-i in
-    Step (old_table t) (new_table t) l.i l.j c.is_due-gone.result c.is_due-come.result = λ n t. record { go = ⊎_elim (λ w. inl w.taken) (λ w. inr (ltb-true c.loop-i.j c.args.count2 w.1.taken)) c.if-i-count1.branch; old = c.is_due-gone.ensures; new = c.is_due-come.ensures } in
-    let (n, t) = c.requires.0 in
-    ((λ q. let z = step_due (step n t) q in omega (arith, t.old.1.heads)), (λ q. let z = step_other (step n t) q in omega (arith, t.new.1.heads)))
-
-pub weight_if-old-requires : goal.weight_if-old-requires
-weight_if-old-requires q c =
-    let Given : ℕ → Type 0 = λ n. let g = c.args in Tables n g.count1 g.tails1.now g.heads1.now g.weights1.now g.count2 g.tails2.now g.heads2.now g.weights2.now in
-    let step : (n : ℕ) (t : Given n) → let l = c.loop-i in
-    Step (old_table t) (new_table t) l.i l.j c.is_due-gone.result c.is_due-come.result = λ n t. record { go = ⊎_elim (λ w. inl w.taken) (λ w. inr (ltb-true c.loop-i.j c.args.count2 w.1.taken)) c.if-i-count1.branch; old = c.is_due-gone.ensures; new = c.is_due-come.ensures } in
-    let (n, t) = c.requires.0 in let z = step_due (step n t) q in omega (arith, t.old.1.weights)
-
-pub weight_if-new-requires : goal.weight_if-new-requires
-weight_if-new-requires q c =
-    let Given : ℕ → Type 0 = λ n. let g = c.args in Tables n g.count1 g.tails1.now g.heads1.now g.weights1.now g.count2 g.tails2.now g.heads2.now g.weights2.now in
-    let step : (n : ℕ) (t : Given n) → let l = c.loop-i in
-    Step (old_table t) (new_table t) l.i l.j c.is_due-gone.result c.is_due-come.result = λ n t. record { go = ⊎_elim (λ w. inl w.taken) (λ w. inr (ltb-true c.loop-i.j c.args.count2 w.1.taken)) c.if-i-count1.branch; old = c.is_due-gone.ensures; new = c.is_due-come.ensures } in
-    let (n, t) = c.requires.0 in let z = step_due (step_flip (step n t)) q in omega (arith, t.new.1.weights)
 
 pub note-size-requires : goal.note-size-requires
 note-size-requires c =
     let Given : ℕ → Type 0 = λ n. let g = c.args in Tables n g.count1 g.tails1.now g.heads1.now g.weights1.now g.count2 g.tails2.now g.heads2.now g.weights2.now in
     let step : (n : ℕ) (t : Given n) → let l = c.loop-i in
-    Step (old_table t) (new_table t) l.i l.j c.is_due-gone.result c.is_due-come.result = λ n t. record { go = ⊎_elim (λ w. inl w.taken) (λ w. inr (ltb-true c.loop-i.j c.args.count2 w.1.taken)) c.if-i-count1.branch; old = c.is_due-gone.ensures; new = c.is_due-come.ensures } in
+    Step (old_table t) (new_table t) l.i l.j c.is_due-gone.result c.is_due-come.result = λ n t. record { go = elim c.if-i-count1.branch [ then-i-count1 w ↦ inl w.if-i-count1.true | else-i-count1+then-j-count2 w ↦ inr w.if-j-count2.true ]; old = c.is_due-gone.ensures; new = c.is_due-come.ensures } in
     let words : (n : ℕ) (t : Given n) →
     Words (old_table t) (new_table t) c.loop-i.i c.loop-i.j c.is_due-gone.result c.is_due-come.result c.either-t.result c.either-h.result c.weight_if-old.result c.weight_if-new.result = λ n t. record { step = step n t; tail = c.either-t.ensures; head = c.either-h.ensures; old = c.weight_if-old.ensures; new = c.weight_if-new.ensures } in
     let room : c.loop-i.size + 1 ≤ c.args.count1 + c.args.count2 = let (n, t) = c.requires.0 in
@@ -72,7 +32,7 @@ pub loop-i-smaller : goal.loop-i-smaller
 loop-i-smaller c =
     let Given : ℕ → Type 0 = λ n. let g = c.args in Tables n g.count1 g.tails1.now g.heads1.now g.weights1.now g.count2 g.tails2.now g.heads2.now g.weights2.now in
     let step : (n : ℕ) (t : Given n) → let l = c.loop-i in
-    Step (old_table t) (new_table t) l.i l.j c.is_due-gone.result c.is_due-come.result = λ n t. record { go = ⊎_elim (λ w. inl w.taken) (λ w. inr (ltb-true c.loop-i.j c.args.count2 w.1.taken)) c.if-i-count1.branch; old = c.is_due-gone.ensures; new = c.is_due-come.ensures } in
+    Step (old_table t) (new_table t) l.i l.j c.is_due-gone.result c.is_due-come.result = λ n t. record { go = elim c.if-i-count1.branch [ then-i-count1 w ↦ inl w.if-i-count1.true | else-i-count1+then-j-count2 w ↦ inr w.if-j-count2.true ]; old = c.is_due-gone.ensures; new = c.is_due-come.ensures } in
     let words : (n : ℕ) (t : Given n) →
     Words (old_table t) (new_table t) c.loop-i.i c.loop-i.j c.is_due-gone.result c.is_due-come.result c.either-t.result c.either-h.result c.weight_if-old.result c.weight_if-new.result = λ n t. record { step = step n t; tail = c.either-t.ensures; head = c.either-h.ensures; old = c.weight_if-old.ensures; new = c.weight_if-new.ensures } in
     let room : c.loop-i.size + 1 ≤ c.args.count1 + c.args.count2 = let (n, t) = c.requires.0 in
@@ -90,7 +50,7 @@ pub loop-i-preserved : goal.loop-i-preserved
 loop-i-preserved c =
     let Given : ℕ → Type 0 = λ n. let g = c.args in Tables n g.count1 g.tails1.now g.heads1.now g.weights1.now g.count2 g.tails2.now g.heads2.now g.weights2.now in
     let step : (n : ℕ) (t : Given n) → let l = c.loop-i in
-    Step (old_table t) (new_table t) l.i l.j c.is_due-gone.result c.is_due-come.result = λ n t. record { go = ⊎_elim (λ w. inl w.taken) (λ w. inr (ltb-true c.loop-i.j c.args.count2 w.1.taken)) c.if-i-count1.branch; old = c.is_due-gone.ensures; new = c.is_due-come.ensures } in
+    Step (old_table t) (new_table t) l.i l.j c.is_due-gone.result c.is_due-come.result = λ n t. record { go = elim c.if-i-count1.branch [ then-i-count1 w ↦ inl w.if-i-count1.true | else-i-count1+then-j-count2 w ↦ inr w.if-j-count2.true ]; old = c.is_due-gone.ensures; new = c.is_due-come.ensures } in
     let words : (n : ℕ) (t : Given n) →
     Words (old_table t) (new_table t) c.loop-i.i c.loop-i.j c.is_due-gone.result c.is_due-come.result c.either-t.result c.either-h.result c.weight_if-old.result c.weight_if-new.result = λ n t. record { step = step n t; tail = c.either-t.ensures; head = c.either-h.ensures; old = c.weight_if-old.ensures; new = c.weight_if-new.ensures } in
     let room : c.loop-i.size + 1 ≤ c.args.count1 + c.args.count2 = let (n, t) = c.requires.0 in
@@ -105,4 +65,4 @@ pub returns : goal.returns
 returns c =
     let (n, t) = c.requires.0 in
     let w = (c.loop-i.invariant.0 n t).0 in
-    let long : 2 * c.loop-i.size ≤ length c.loop-i.list = omega (arith, c.loop-i.invariant.1, w.old.low, w.new.low, w.few, c.requires.1) in record { result_in_bounds = (long, omega (arith, w.old.low, w.new.low, w.few, t.old.0, t.new.0), (λ n t. walk_inside (old_table t) (new_table t) c.loop-i.list c.loop-i.i c.loop-i.j c.loop-i.size (c.loop-i.invariant.0 n t) long)); unjoined = walk_done (old_table t) (new_table t) c.loop-i.list c.loop-i.i c.loop-i.j c.loop-i.size (c.loop-i.invariant.0 n t) (λ q. omega (arith, q, c.if-i-count1.false)) (λ q. let z = ltb-false c.loop-i.j c.args.count2 c.if-j-count2.false in omega arith) }
+    let long : 2 * c.loop-i.size ≤ length c.loop-i.list = omega (arith, c.loop-i.invariant.1, w.old.low, w.new.low, w.few, c.requires.1) in record { result_in_bounds = (long, omega (arith, w.old.low, w.new.low, w.few, t.old.0, t.new.0), (λ n t. walk_inside (old_table t) (new_table t) c.loop-i.list c.loop-i.i c.loop-i.j c.loop-i.size (c.loop-i.invariant.0 n t) long)); unjoined = walk_done (old_table t) (new_table t) c.loop-i.list c.loop-i.i c.loop-i.j c.loop-i.size (c.loop-i.invariant.0 n t) (λ q. omega arith) (λ q. omega arith) }

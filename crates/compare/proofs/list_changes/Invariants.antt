@@ -1,7 +1,7 @@
 -- `compare::list_changes` meets its contract. Assumes nothing.
-use Rattle.property.proofs.Basics.{needs, arith, ◌≡◌, refl, ◌⊎◌, inl, inr, ⊎_elim, ℕ, ◌+◌, ◌-◌, ◌*◌, ◌≤◌, length, ltb-true, ltb-false}
+use Rattle.property.proofs.Basics.{◌≡◌, ℕ, ◌+◌, ◌-◌, length}
 use Rattle.compare.specs.Code.{Tables}
-use Rattle.compare.proofs.Walking.{Step, step_due, step_other, step_flip, step_on, Words, words_low, Listed, walk_start, walk_room, walk_turn, walk_inside, walk_done, old_table, new_table}
+use Rattle.compare.proofs.Walking.{Listed, old_table, new_table}
 use Rattle.compare.proofs.list_changes.Given as goal
 
 abbrev pub invariant-loop-i : goal.invariant-loop-i

@@ -1,5 +1,5 @@
 -- `compare::note` meets its contract. Assumes nothing.
-use Rattle.property.proofs.Basics.{needs, eq-eqb, ne_eqb}
+use Rattle.property.proofs.Basics.{eq-eqb, ne_eqb}
 use Rattle.compare.proofs.note.Goals as goal
 
 pub returns-then-old-new : goal.returns-then-old-new

@@ -1,5 +1,4 @@
 -- `compare::past` meets its contract. Assumes nothing.
-use Rattle.property.proofs.Basics.{needs}
 use Rattle.compare.proofs.past.Goals as goal
 
 pub returns-then-due : goal.returns-then-due

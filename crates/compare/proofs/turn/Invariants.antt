@@ -1,7 +1,7 @@
 -- `compare::turn` meets its contract. Assumes nothing.
-use Rattle.property.proofs.Basics.{needs, arith, ◌≡◌, refl, ◌∙◌, ◌+◌, ◌-◌, ◌*◌, ◌<◌, ◌≤◌, length, length-set}
+use Rattle.property.proofs.Basics.{◌≡◌, ◌-◌, ◌≤◌}
 use Rattle.compare.specs.Code.{changes_in}
-use Rattle.compare.proofs.Reversed.{Turned, turned_none, turned_turn, turned_net, turned_inside}
+use Rattle.compare.proofs.Reversed.{Turned}
 use Rattle.compare.proofs.turn.Given as goal
 
 abbrev pub invariant-loop-k : goal.invariant-loop-k

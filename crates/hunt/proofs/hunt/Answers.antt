@@ -1,8 +1,6 @@
 -- `hunt::hunt` meets its contract. The loop's invariant is `Hunted`; what falls is the number of vertices without a mark, while any is to do. Assumes nothing.
-use Rattle.property.proofs.Basics.{sym, ◌∙◌, cond, suc, ◌-◌, needs}
-use Rattle.property.specs.Property.{property}
-use Rattle.frontier.specs.Waiting.{waiting_of, capacity, any_of, count_of}
-use Rattle.hunt.proofs.Sweeping.{Hunted, hunted_turn, hunted_less, hunted_done}
+use Rattle.property.proofs.Basics.{sym, ◌∙◌}
+use Rattle.hunt.proofs.Sweeping.{hunted_turn, hunted_less, hunted_done}
 use Rattle.hunt.proofs.hunt.Goals as goal
 
 pub loop-marks-init : goal.loop-marks-init

@@ -1,8 +1,8 @@
 -- `hunt::hunt` meets its contract. The loop's invariant is `Hunted`; what falls is the number of vertices without a mark, while any is to do. Assumes nothing.
-use Rattle.property.proofs.Basics.{sym, ◌∙◌, cond, suc, ◌-◌, needs}
+use Rattle.property.proofs.Basics.{cond, suc, ◌-◌}
 use Rattle.property.specs.Property.{property}
 use Rattle.frontier.specs.Waiting.{waiting_of, capacity, any_of, count_of}
-use Rattle.hunt.proofs.Sweeping.{Hunted, hunted_turn, hunted_less, hunted_done}
+use Rattle.hunt.proofs.Sweeping.{Hunted}
 use Rattle.hunt.proofs.hunt.Given as goal
 
 abbrev pub invariant-loop-marks : goal.invariant-loop-marks

@@ -1,10 +1,9 @@
 -- `hunt::sweep` meets its contract. The loop's invariant is `Sweeping`: the vertices of the numbers below `i` are done. Assumes nothing.
-use Rattle.property.proofs.Basics.{refl, sym, ◌∙◌, ◌-◌, ◌<◌, arith, needs}
-use Rattle.property.specs.Property.{property}
+use Rattle.property.proofs.Basics.{refl, sym, ◌∙◌, ◌<◌, arith, needs}
 use Rattle.frontier.specs.Waiting.{waiting_of}
 use Rattle.frontier.proofs.Laws.{First, next_none}
 use Rattle.hunt.proofs.Bits.{marks_next}
-use Rattle.hunt.proofs.Sweeping.{Sweeping, sweeping_start, sweeping_done, sweeping_next, sweeping_turn}
+use Rattle.hunt.proofs.Sweeping.{sweeping_start, sweeping_done, sweeping_next, sweeping_turn}
 use Rattle.hunt.proofs.sweep.Goals as goal
 
 pub loop-i-init : goal.loop-i-init

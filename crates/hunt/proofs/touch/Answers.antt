@@ -1,5 +1,5 @@
 -- `hunt::touch` meets its contract. Assumes nothing.
-use Rattle.property.proofs.Basics.{◌≡◌, sym, ◌∙◌, ◌&&◌, ◌||◌, needs}
+use Rattle.property.proofs.Basics.{◌≡◌, sym, ◌∙◌, ◌&&◌, ◌||◌}
 use Rattle.property.specs.Property.{property}
 use Rattle.frontier.specs.Waiting.{waiting_of}
 use Rattle.graph.specs.Arc.{arc_head}

@@ -1,9 +1,7 @@
 -- `hunt::touch_all` meets its contract. The loop's invariant: the edges from place j on were taken (`Touched`). Assumes nothing.
-use Rattle.property.proofs.Basics.{◌≡◌, ◌+◌, ◌-◌, ◌≤◌, ◌<◌, arith, length, get_or, needs}
-use Rattle.property.specs.Property.{property}
+use Rattle.property.proofs.Basics.{◌≡◌, ◌+◌, ◌-◌, ◌<◌, arith, length, get_or, needs}
 use Rattle.graph.specs.Arc.{arc_head}
 use Rattle.graph.proofs.Arcs.{fit_arc}
-use Rattle.hunt.specs.Code.{Touched}
 use Rattle.hunt.proofs.Touching.{touched_none, touched_turn}
 use Rattle.hunt.proofs.touch_all.Goals as goal
 

@@ -1,5 +1,5 @@
 -- `hunt::touch_vertex` meets its contract. Assumes nothing.
-use Rattle.property.proofs.Basics.{sym, ◌∙◌, needs}
+use Rattle.property.proofs.Basics.{sym, ◌∙◌, arith}
 use Rattle.property.specs.Property.{property}
 use Rattle.property.proofs.Instances.{property_rest}
 use Rattle.hunt.proofs.touch_vertex.Goals as goal
@@ -21,8 +21,9 @@ returns-in-4 c =
     rw (c.in-4.is, sym c.contains.ensures ∙ c.if-contains.true) c.touch_all-in-4.ensures
 
 pub returns-in_default : goal.returns-in_default
+unfolding property
 returns-in_default c =
-    rw (property_rest _ c.in_default.in_default-own.rest, sym c.contains.ensures ∙ c.if-contains.true) c.touch_all-in_default.ensures
+    rw (property_rest c.args.p ((((tt, λ z. omega arith), λ z. omega arith), λ z. omega arith), λ z. omega arith), sym c.contains.ensures ∙ c.if-contains.true) c.touch_all-in_default.ensures
 
 pub returns-in-1-p : goal.returns-in-1-p
 returns-in-1-p c =
@@ -41,5 +42,6 @@ returns-in-4-p c =
     rw (c.in-4-p.is, sym c.contains.ensures ∙ c.if-contains.false) c.touch_all-in-4-p.ensures
 
 pub returns-in_default-p : goal.returns-in_default-p
+unfolding property
 returns-in_default-p c =
-    rw (property_rest _ c.in_default-p.in_default-p-own.rest, sym c.contains.ensures ∙ c.if-contains.false) c.touch_all-in_default-p.ensures
+    rw (property_rest c.args.p ((((tt, λ z. omega arith), λ z. omega arith), λ z. omega arith), λ z. omega arith), sym c.contains.ensures ∙ c.if-contains.false) c.touch_all-in_default-p.ensures

@@ -1,5 +1,5 @@
 -- `prepare::is_edge_lost` meets its contract. Assumes nothing.
-use Rattle.property.proofs.Basics.{needs, lt-ltb, le-ltb}
+use Rattle.property.proofs.Basics.{lt-ltb, le-ltb}
 use Rattle.prepare.proofs.is_edge_lost.Goals as goal
 
 pub returns-then-w-gt0 : goal.returns-then-w-gt0

@@ -1,5 +1,5 @@
 -- `prepare::prepare` meets its contract. Assumes nothing.
-use Rattle.property.proofs.Basics.{sym, ap, ◌∙◌, arith, needs}
+use Rattle.property.proofs.Basics.{sym, ap, ◌∙◌, arith}
 use Rattle.property.proofs.Instances.{property_laws}
 use Rattle.frontier.specs.Waiting.{count_of}
 use Rattle.frontier.proofs.Counts.{count_le}
@@ -37,6 +37,6 @@ returns c =
           let f = c.hunt.ensures.marks_after es fs (λ e i. let z = d.inside e i in (z.0, z.1)) d.old
           record { other = face; loopless = λ u j h x y q. (d.inside _ (own_reads a.n a.old.now es d.old u j h x y)).2 (sym q) }
           (λ t q. absurd (unmarked none t q)) (start_shut laws a.s a.words.now a.old.now a.net.now d.old d.net.old c.requires.4 none c.take_changes.ensures.raised.0) in
-          (prepared_made laws d _ _ m c.clear.ensures c.take_changes.ensures.raised_2.0 r.1.0 r.1.1 a.s a.words.now f r.0, c.count.ensures ∙ k ∙ ap count_of f));
-      marks = (r.1.1, (let x = count_le (bits a.n ms) in let y = bits_length a.n ms m in omega (arith, c.count.ensures, k, c.requires.1.few)));
+          (prepared_made laws d _ _ m c.clear.ensures c.take_changes.ensures.raised_2.0 r.raised r.marks a.s a.words.now f r.words_after, c.count.ensures ∙ k ∙ ap count_of f));
+      marks = (r.marks, (let x = count_le (bits a.n ms) in let y = bits_length a.n ms m in omega (arith, c.count.ensures, k, c.requires.1.few)));
     }

@@ -1,10 +1,9 @@
 -- `prepare::reopen_marked` meets its contract. The loop's invariant is `Reopening`. Assumes nothing.
-use Rattle.property.proofs.Basics.{sym, ◌∙◌, ◌-◌, ◌<◌, arith, needs}
-use Rattle.property.specs.Property.{property}
+use Rattle.property.proofs.Basics.{sym, ◌∙◌, ◌<◌, arith, needs}
 use Rattle.frontier.specs.Waiting.{waiting_of}
 use Rattle.frontier.proofs.Laws.{First, next_none}
 use Rattle.hunt.proofs.Bits.{marks_next}
-use Rattle.prepare.proofs.Starts.{Reopening, reopen_start, reopen_turn, reopen_over}
+use Rattle.prepare.proofs.Starts.{reopen_start, reopen_turn, reopen_over}
 use Rattle.prepare.proofs.reopen_marked.Goals as goal
 
 pub loop-i-init : goal.loop-i-init
@@ -49,7 +48,7 @@ loop-i-preserved c =
     let found : let a = c.args in let v = c.in-At.v in First (waiting_of a.marks.now) c.loop-i.i v × (v < a.n) = marks_next c.requires.1 (sym c.next_from-next.ensures.next ∙ c.in-At.is) in
     let f = found in
     let e = c.wake_into.ensures in
-    reopen_turn c.requires.2 c.loop-i.invariant f.1 f.0 c.none.ensures _ e.0 e.1
+    reopen_turn c.requires.2 c.loop-i.invariant f.1 f.0 c.none.ensures _ e.raised e.marks
 
 pub returns : goal.returns
 returns c =

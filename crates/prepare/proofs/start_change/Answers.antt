@@ -1,5 +1,5 @@
 -- `prepare::start_change` meets its contract. Assumes nothing.
-use Rattle.property.proofs.Basics.{arith, ◌≡◌, sym, ap₂, ◌∙◌, ◌&&◌, ◌+◌, ◌*◌, ◌<◌, length, not-true, not-false, needs}
+use Rattle.property.proofs.Basics.{arith, ◌≡◌, sym, ap₂, ◌∙◌, ◌&&◌, ◌+◌, ◌*◌, ◌<◌, length}
 use Rattle.property.specs.Property.{property}
 use Rattle.graph.specs.Edge.{edge}
 use Rattle.affected.specs.Affected.{held}
@@ -50,7 +50,7 @@ returns-then-is_held c =
     let l = c.requires.0 in
     (omega (arith, c.requires.1 (2 * k) (omega arith), c.head-t.ensures), omega (arith, c.requires.1 (2 * k + 1) (omega arith), c.head-h.ensures)) in
     let begins : let a = c.args in c.is_held.result ≡ starts (property a.p) a.s a.words.now a.net.now a.k = let a = c.args in
-    let lost = sym (not-false _ c.if-not-is_edge_lost.false) ∙ removes in
+    let lost = sym c.if-not-is_edge_lost.false ∙ removes in
     c.is_held.ensures
     ∙ same_held (property a.p) a.s _ _ _ a.words.now ends.0 ends.1
     ∙ (λ i. lost i && held (property a.p) a.s a.words.now (edge (c.head-t.ensures i) (c.head-h.ensures i) (c.weight-w.ensures i))) in
@@ -64,7 +64,7 @@ returns-else-is_held c =
     let l = c.requires.0 in
     (omega (arith, c.requires.1 (2 * k) (omega arith), c.head-t.ensures), omega (arith, c.requires.1 (2 * k + 1) (omega arith), c.head-h.ensures)) in
     let begins : let a = c.args in c.is_held.result ≡ starts (property a.p) a.s a.words.now a.net.now a.k = let a = c.args in
-    let lost = sym (not-false _ c.if-not-is_edge_lost.false) ∙ removes in
+    let lost = sym c.if-not-is_edge_lost.false ∙ removes in
     c.is_held.ensures
     ∙ same_held (property a.p) a.s _ _ _ a.words.now ends.0 ends.1
     ∙ (λ i. lost i && held (property a.p) a.s a.words.now (edge (c.head-t.ensures i) (c.head-h.ensures i) (c.weight-w.ensures i))) in

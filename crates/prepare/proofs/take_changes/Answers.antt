@@ -1,10 +1,5 @@
 -- `prepare::take_changes` meets its contract. The loop's invariant is `Raised` of the tails that are to do and of those that wait. Assumes nothing.
-use Rattle.property.proofs.Basics.{◌-◌, ◌*◌, ◌≤◌, arith, length, needs}
-use Rattle.property.specs.Property.{property}
-use Rattle.frontier.specs.Waiting.{waiting_of}
-use Rattle.run.specs.Code.{Marks}
-use Rattle.compare.specs.Code.{changes_in}
-use Rattle.prepare.specs.Code.{Raised, Started, Woken}
+use Rattle.property.proofs.Basics.{◌*◌, arith}
 use Rattle.prepare.proofs.Starts.{raised_none, raised_turn, raised_as}
 use Rattle.prepare.proofs.take_changes.Goals as goal
 

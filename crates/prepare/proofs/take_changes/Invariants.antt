@@ -1,11 +1,10 @@
 -- `prepare::take_changes` meets its contract. The loop's invariant is `Raised` of the tails that are to do and of those that wait. Assumes nothing.
-use Rattle.property.proofs.Basics.{◌-◌, ◌*◌, ◌≤◌, arith, length, needs}
+use Rattle.property.proofs.Basics.{◌-◌, ◌≤◌, length}
 use Rattle.property.specs.Property.{property}
 use Rattle.frontier.specs.Waiting.{waiting_of}
 use Rattle.run.specs.Code.{Marks}
 use Rattle.compare.specs.Code.{changes_in}
 use Rattle.prepare.specs.Code.{Raised, Started, Woken}
-use Rattle.prepare.proofs.Starts.{raised_none, raised_turn, raised_as}
 use Rattle.prepare.proofs.take_changes.Given as goal
 
 abbrev pub invariant-loop-k : goal.invariant-loop-k

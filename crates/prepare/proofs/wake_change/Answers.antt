@@ -1,5 +1,5 @@
 -- `prepare::wake_change` meets its contract. Assumes nothing.
-use Rattle.property.proofs.Basics.{arith, ◌≡◌, sym, ap₂, ◌∙◌, ◌*◌, needs}
+use Rattle.property.proofs.Basics.{arith, ◌≡◌, sym, ap₂, ◌∙◌, ◌*◌}
 use Rattle.property.specs.Property.{property}
 use Rattle.compare.specs.Code.{before, after}
 use Rattle.prepare.specs.Code.{edge_lost}

@@ -1,5 +1,5 @@
 -- `rows::batch_row` meets its contract. Assumes nothing.
-use Rattle.property.proofs.Basics.{needs, arith, refl, ◌∙◌}
+use Rattle.property.proofs.Basics.{arith, refl, ◌∙◌}
 use Rattle.rows.proofs.Row.{row_done}
 use Rattle.rows.proofs.batch_row.Goals as goal
 

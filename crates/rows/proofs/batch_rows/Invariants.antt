@@ -1,11 +1,8 @@
 -- `rows::batch_rows` meets its contract. Assumes nothing.
-use Rattle.property.proofs.Basics.{needs, arith, refl, ◌+◌, ◌-◌, ◌*◌, ◌≤◌, length, List}
+use Rattle.property.proofs.Basics.{◌-◌, List}
 use Rattle.graph.specs.Edge.{Edge}
 use Rattle.compare.specs.Code.{Faces}
-use Rattle.network.specs.Network.{row_count}
-use Rattle.calls.proofs.Flat.{row_size}
-use Rattle.calls.proofs.Rows.{row_ends}
-use Rattle.rows.proofs.Rows.{Counting, counting_start, counting_turn, counting_done, Rowing, rows_start, rows_turn, rows_done}
+use Rattle.rows.proofs.Rows.{Counting, Rowing}
 use Rattle.rows.specs.Code.{Sided}
 use Rattle.rows.proofs.batch_rows.Given as goal
 

@@ -1,5 +1,5 @@
 -- `rows::batch_side` meets its contract. Assumes nothing.
-use Rattle.property.proofs.Basics.{needs, arith, length-replicate, ℕ}
+use Rattle.property.proofs.Basics.{arith, length-replicate, ℕ}
 use Rattle.rows.proofs.batch_side.Goals as goal
 
 pub batch_rows-requires : goal.batch_rows-requires
@@ -10,4 +10,4 @@ batch_rows-requires c =
 pub returns : goal.returns
 returns c =
     let e = c.batch_rows.ensures in
-    let l = c.requires.2 in record { rows_low = e.0; rows_done = λ es fs d. e.1 es fs d (c.align.ensures.by_index c.args.n es fs l.inside l.old d.batch.old d.batch.net) }
+    let l = c.requires.2 in record { rows_low = e.rows_low; rows_done = λ es fs d. e.rows_done es fs d (c.align.ensures.by_index c.args.n es fs l.inside l.old d.batch.old d.batch.net) }
