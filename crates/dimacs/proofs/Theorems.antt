@@ -3,7 +3,7 @@ use Rattle.property.proofs.Basics.{◌≡◌, refl, ap, List, [], ℕ, ◌≤◌
 use Rattle.graph.specs.Limits.{max_vertices}
 use Rattle.graph.specs.Refusal.{accept}
 use Rattle.graph.specs.Edge.{exists, same}
-use Rattle.graph.specs.Table.{edges_of, is_edge, table_order, rules, size}
+use Rattle.graph.specs.Table.{edges_of, is_edge, table_order, size}
 use Rattle.graph.proofs.Verdicts.{accept_if}
 use Rattle.graph.proofs.Tests.{or_false}
 use Rattle.graph.proofs.Gather.{exists_into, length_sorted, fresh_none, into_sorted}

@@ -4,7 +4,7 @@ use Rattle.property.proofs.Basics.{◌≡◌, refl, sym, ap, ◌∙◌, List, []
 use Rattle.graph.specs.Limits.{max_edges}
 use Rattle.graph.specs.Refusal.{accept, ◌▷◌, refuse_if, accepted, replied, choose}
 use Rattle.graph.specs.Edge.{Edge}
-use Rattle.graph.specs.Table.{Columns, edges_of, is_edge, table_order, rules, size, short_table, table}
+use Rattle.graph.specs.Table.{Columns, edges_of, is_edge, table_order, size, short_table, table}
 use Rattle.graph.proofs.Verdicts.{then_accept, if_accept, reply_accepted}
 use Rattle.graph.proofs.Sorted.{sorted_all, sorted_distinct}
 use Rattle.graph.proofs.Gather.{into_ascending}

@@ -11,7 +11,7 @@
 --   spoken_by o          == a line that says what o has
 --   heard .. st x        == the state after what a line says
 --   ended .. r k st      == the end of the text after k complete lines: r stands after the last line feed
-use Rattle.std.specs.Prelude.{Bool, ◌&&◌, cond, List, [], ◌∷◌, ℕ, zero, suc, eqb}
+use Rattle.std.specs.Prelude.{Bool, cond, List, [], ◌∷◌, ℕ, zero, suc, eqb}
 use Rattle.std.proofs.Math.Option.{Option, none, some, bind}
 use Rattle.dimacs.specs.Decimal.{number}
 use Rattle.dimacs.specs.Lines.{Line, bare, comment, says, split}

@@ -13,7 +13,7 @@
 --   header_from vs, source_from vs == the item of a line with these numbers; none where there is none
 --   act n st x                     == the state after an item; none where no good text can go on with it
 --   complete st                    == the state may be the last
-use Rattle.std.specs.Prelude.{◌≡◌, Bool, true, false, ◌&&◌, cond, List, [], ◌∷◌, ◌++◌, map, ℕ, zero, suc, ◌≤◌, ◌<◌, ltb, leb, eqb, length}
+use Rattle.std.specs.Prelude.{Bool, false, ◌&&◌, cond, List, [], ◌∷◌, ◌++◌, map, ℕ, zero, suc, ◌≤◌, ◌<◌, ltb, leb, eqb, length}
 use Rattle.std.proofs.Math.Option.{Option, none, some, bind}
 use Rattle.dimacs.specs.Lines.{Spelled, fields_of}
 use Rattle.dimacs.specs.Read.{after, fields, Read, read}

@@ -5,7 +5,7 @@ use Rattle.property.proofs.Instances.{property_laws}
 use Rattle.graph.specs.Limits.{max_edges}
 use Rattle.graph.specs.Refusal.{accept, accepted, verdict_of, over}
 use Rattle.graph.specs.Edge.{Edge, reverse}
-use Rattle.graph.specs.Table.{Columns, rules, short_table, table}
+use Rattle.graph.specs.Table.{Columns, short_table}
 use Rattle.graph.proofs.Verdicts.{accept_then}
 use Rattle.graph.proofs.Order.{rules_accept}
 use Rattle.graph.proofs.Judging.{lengths_accept, table_accept}

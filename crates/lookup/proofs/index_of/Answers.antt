@@ -1,6 +1,5 @@
 -- `lookup::index_of` meets its contract: what is left of the list decides. Assumes nothing.
-use Rattle.property.proofs.Basics.{needs, zero-add, ◌+◌, ◌-◌, ◌≡◌, length, drop}
-use Rattle.network.specs.Lookup.{index_of}
+use Rattle.property.proofs.Basics.{zero-add}
 use Rattle.lookup.proofs.Showing.{index_found, index_more, index_none}
 use Rattle.lookup.proofs.index_of.Goals as goal
 

@@ -1,14 +1,15 @@
 -- `lookup::row` meets its contract. Assumes nothing.
-use Rattle.property.proofs.Basics.{needs, arith, ◌≡◌, ap, ◌∙◌, true, false, ℕ, ◌+◌, ◌*◌, ◌≤◌, length, eq-eqb, ne_eqb}
+use Rattle.property.proofs.Basics.{arith, ◌≡◌, ap, ◌∙◌, true, false, ℕ, ◌+◌, ◌*◌, ◌≤◌, length, eq-eqb, ne_eqb}
 use Rattle.network.specs.Query.{row_at}
 use Rattle.network.specs.Lookup.{index_of}
 use Rattle.lookup.proofs.Showing.{Shown, lookup_accept, row_refused, part_refused, row_shown}
 use Rattle.lookup.proofs.row.Goals as goal
 
-record Lies (c : tie.After-row-start) : Type 0 where
-  at : c.row-start.result ≡ row_at (index_of (start c.before.before).args.landmark (start c.before.before).args.landmarks.now) (start c.before.before).args.property * (start c.before.before).args.n
-  forward : c.row-start.result + (start c.before.before).args.n ≤ length (start c.before.before).args.forward.now
-  backward : c.row-start.result + (start c.before.before).args.n ≤ length (start c.before.before).args.backward.now
+-- where the row lies: it starts at s, which is its place r, and its n words are within lists of f and of b words
+record Lies (s r n f b : ℕ) : Type 0 where
+  at : s ≡ r
+  forward : s + n ≤ f
+  backward : s + n ≤ b
 
 pub returns-in_default : goal.returns-in_default
 returns-in_default c =
@@ -28,7 +29,8 @@ overflow_add-end c =
     let shown : let a = c.args in
     Shown a.n a.landmarks.now a.forward.now a.backward.now a.side a.landmark a.property = let a = c.args in
     lookup_accept a.n a.landmarks.now a.forward.now a.backward.now a.side a.landmark a.property _ c.row_number-number.ensures c.in-Fine.is in
-    let lies : Lies c = let a = c.args in
+    let lies : let a = c.args in
+    Lies c.row_start-start.result (row_at (index_of a.landmark a.landmarks.now) a.property * a.n) a.n (length a.forward.now) (length a.backward.now) = let a = c.args in
     let s = shown in
     let e = c.row_start-start.ensures ∙ ap (λ (i : ℕ). row_at i a.property * a.n) c.index_of.ensures in
     record { at = e; forward = omega (arith, e, s.forward); backward = omega (arith, e, s.backward) } in
@@ -39,7 +41,8 @@ offset_bounds-forward-start c =
     let shown : let a = c.args in
     Shown a.n a.landmarks.now a.forward.now a.backward.now a.side a.landmark a.property = let a = c.args in
     lookup_accept a.n a.landmarks.now a.forward.now a.backward.now a.side a.landmark a.property _ c.row_number-number.ensures c.in-Fine.is in
-    let lies : Lies c = let a = c.args in
+    let lies : let a = c.args in
+    Lies c.row_start-start.result (row_at (index_of a.landmark a.landmarks.now) a.property * a.n) a.n (length a.forward.now) (length a.backward.now) = let a = c.args in
     let s = shown in
     let e = c.row_start-start.ensures ∙ ap (λ (i : ℕ). row_at i a.property * a.n) c.index_of.ensures in
     record { at = e; forward = omega (arith, e, s.forward); backward = omega (arith, e, s.backward) } in
@@ -50,7 +53,8 @@ slice_bounds-result-end-then-side-eq0 c =
     let shown : let a = c.args in
     Shown a.n a.landmarks.now a.forward.now a.backward.now a.side a.landmark a.property = let a = c.args in
     lookup_accept a.n a.landmarks.now a.forward.now a.backward.now a.side a.landmark a.property _ c.row_number-number.ensures c.in-Fine.is in
-    let lies : Lies c = let a = c.args in
+    let lies : let a = c.args in
+    Lies c.row_start-start.result (row_at (index_of a.landmark a.landmarks.now) a.property * a.n) a.n (length a.forward.now) (length a.backward.now) = let a = c.args in
     let s = shown in
     let e = c.row_start-start.ensures ∙ ap (λ (i : ℕ). row_at i a.property * a.n) c.index_of.ensures in
     record { at = e; forward = omega (arith, e, s.forward); backward = omega (arith, e, s.backward) } in
@@ -61,19 +65,21 @@ returns-then-side-eq0 c =
     let shown : let a = c.args in
     Shown a.n a.landmarks.now a.forward.now a.backward.now a.side a.landmark a.property = let a = c.args in
     lookup_accept a.n a.landmarks.now a.forward.now a.backward.now a.side a.landmark a.property _ c.row_number-number.ensures c.in-Fine.is in
-    let lies : Lies c = let a = c.args in
+    let lies : let a = c.args in
+    Lies c.row_start-start.result (row_at (index_of a.landmark a.landmarks.now) a.property * a.n) a.n (length a.forward.now) (length a.backward.now) = let a = c.args in
     let s = shown in
     let e = c.row_start-start.ensures ∙ ap (λ (i : ℕ). row_at i a.property * a.n) c.index_of.ensures in
     record { at = e; forward = omega (arith, e, s.forward); backward = omega (arith, e, s.backward) } in
     let a = c.args in let both = row_shown a.n a.landmarks.now a.forward.now a.backward.now a.side a.landmark a.property _ c.row_number-number.ensures c.in-Fine.is
-    c.row_start-start.result lies.at a.forward.ptr a.backward.ptr true (eq-eqb _ _ c.if-side-eq0.true) in record { words = both.0; part = both.1 }
+    c.row_start-start.result lies.at a.forward.ref_ptr a.backward.ref_ptr true (eq-eqb _ _ c.if-side-eq0.true) in record { words = both.0; part = both.1 }
 
 pub offset_bounds-backward-start : goal.offset_bounds-backward-start
 offset_bounds-backward-start c =
     let shown : let a = c.args in
     Shown a.n a.landmarks.now a.forward.now a.backward.now a.side a.landmark a.property = let a = c.args in
     lookup_accept a.n a.landmarks.now a.forward.now a.backward.now a.side a.landmark a.property _ c.row_number-number.ensures c.in-Fine.is in
-    let lies : Lies c = let a = c.args in
+    let lies : let a = c.args in
+    Lies c.row_start-start.result (row_at (index_of a.landmark a.landmarks.now) a.property * a.n) a.n (length a.forward.now) (length a.backward.now) = let a = c.args in
     let s = shown in
     let e = c.row_start-start.ensures ∙ ap (λ (i : ℕ). row_at i a.property * a.n) c.index_of.ensures in
     record { at = e; forward = omega (arith, e, s.forward); backward = omega (arith, e, s.backward) } in
@@ -84,7 +90,8 @@ slice_bounds-result-end-2 c =
     let shown : let a = c.args in
     Shown a.n a.landmarks.now a.forward.now a.backward.now a.side a.landmark a.property = let a = c.args in
     lookup_accept a.n a.landmarks.now a.forward.now a.backward.now a.side a.landmark a.property _ c.row_number-number.ensures c.in-Fine.is in
-    let lies : Lies c = let a = c.args in
+    let lies : let a = c.args in
+    Lies c.row_start-start.result (row_at (index_of a.landmark a.landmarks.now) a.property * a.n) a.n (length a.forward.now) (length a.backward.now) = let a = c.args in
     let s = shown in
     let e = c.row_start-start.ensures ∙ ap (λ (i : ℕ). row_at i a.property * a.n) c.index_of.ensures in
     record { at = e; forward = omega (arith, e, s.forward); backward = omega (arith, e, s.backward) } in
@@ -95,9 +102,10 @@ returns c =
     let shown : let a = c.args in
     Shown a.n a.landmarks.now a.forward.now a.backward.now a.side a.landmark a.property = let a = c.args in
     lookup_accept a.n a.landmarks.now a.forward.now a.backward.now a.side a.landmark a.property _ c.row_number-number.ensures c.in-Fine.is in
-    let lies : Lies c = let a = c.args in
+    let lies : let a = c.args in
+    Lies c.row_start-start.result (row_at (index_of a.landmark a.landmarks.now) a.property * a.n) a.n (length a.forward.now) (length a.backward.now) = let a = c.args in
     let s = shown in
     let e = c.row_start-start.ensures ∙ ap (λ (i : ℕ). row_at i a.property * a.n) c.index_of.ensures in
     record { at = e; forward = omega (arith, e, s.forward); backward = omega (arith, e, s.backward) } in
     let a = c.args in let both = row_shown a.n a.landmarks.now a.forward.now a.backward.now a.side a.landmark a.property _ c.row_number-number.ensures c.in-Fine.is
-    c.row_start-start.result lies.at a.forward.ptr a.backward.ptr false (ne_eqb _ _ c.if-side-eq0.false) in record { words = both.0; part = both.1 }
+    c.row_start-start.result lies.at a.forward.ref_ptr a.backward.ref_ptr false (ne_eqb _ _ c.if-side-eq0.false) in record { words = both.0; part = both.1 }

@@ -1,5 +1,5 @@
 -- `lookup::row_number` meets its contract: one refusal after the other. Assumes nothing.
-use Rattle.property.proofs.Basics.{needs, ◌≡◌, sym, ap, ◌∙◌, not}
+use Rattle.property.proofs.Basics.{◌≡◌, sym, ap, ◌∙◌, not}
 use Rattle.graph.proofs.Judging.{then_refused, then_judged, if_refused, if_judged}
 use Rattle.graph.specs.declared.Judged.{Judged}
 use Rattle.graph.specs.Refusal.{Verdict, ◌▷◌}
@@ -36,7 +36,7 @@ returns-then-not-is_in c =
     let listed : (r : Judged) (w : Verdict) → told r ≡ w →
     let a = c.args in
     told r ≡ (size a.n ▷ short_rows a.n a.landmarks.now (row_lists a.forward.now a.backward.now) ▷ landmarks a.n a.landmarks.now ▷ w) = λ r w e. spaced r _ (then_judged _ r _ w c.judge_landmarks-list.ensures c.in-Fine-list.is e) in
-    number_told _ _ _ _ _ _ _ _ (listed _ _ (if_refused _ _ _ _ (sym (ap not c.is_in.ensures) ∙ c.if-not-is_in.true)))
+    number_told _ _ _ _ _ _ _ _ (listed _ _ (if_refused _ _ _ _ (sym (ap not c.is_in.ensures) ∙ ap not c.if-not-is_in.true)))
 
 pub returns : goal.returns
 returns c =
@@ -48,4 +48,4 @@ returns c =
     let a = c.args in
     told r ≡ (size a.n ▷ short_rows a.n a.landmarks.now (row_lists a.forward.now a.backward.now) ▷ landmarks a.n a.landmarks.now ▷ w) = λ r w e. spaced r _ (then_judged _ r _ w c.judge_landmarks-list.ensures c.in-Fine-list.is e) in
     number_told _ _ _ _ _ _ _ _
-    (listed _ _ (if_judged _ _ _ _ _ (sym (ap not c.is_in.ensures) ∙ c.if-not-is_in.false) (c.refuse_if.ensures ∙ rw c.is_property.ensures)))
+    (listed _ _ (if_judged _ _ _ _ _ (sym (ap not c.is_in.ensures) ∙ ap not c.if-not-is_in.false) (c.refuse_if.ensures ∙ rw c.is_property.ensures)))

@@ -1,6 +1,5 @@
 -- `scanner::begins` meets its contract: what is left of the mark, from here on in the line, comes to the same. Assumes nothing.
-use Rattle.property.proofs.Basics.{needs, arith, ◌≡◌, refl, sym, ◌∙◌, ◌-◌, ◌≤◌, not-true, not-false, length, drop}
-use Rattle.dimacs.specs.Read.{after}
+use Rattle.property.proofs.Basics.{arith, refl, sym, ◌∙◌}
 use Rattle.scanner.proofs.Fields.{mark_more, mark_other, mark_done}
 use Rattle.scanner.proofs.begins.Goals as goal
 

@@ -1,7 +1,6 @@
 -- `scanner::begins` meets its contract: what is left of the mark, from here on in the line, comes to the same. Assumes nothing.
-use Rattle.property.proofs.Basics.{needs, arith, ◌≡◌, refl, sym, ◌∙◌, ◌-◌, ◌≤◌, not-true, not-false, length, drop}
+use Rattle.property.proofs.Basics.{◌≡◌, ◌-◌, ◌≤◌, length, drop}
 use Rattle.dimacs.specs.Read.{after}
-use Rattle.scanner.proofs.Fields.{mark_more, mark_other, mark_done}
 use Rattle.scanner.proofs.begins.Given as goal
 
 abbrev pub invariant-loop-i : goal.invariant-loop-i

@@ -1,5 +1,5 @@
 -- `scanner::is_comment` meets its contract. Assumes nothing.
-use Rattle.property.proofs.Basics.{needs, ◌∙◌, drop_of_length-le, drop-cons}
+use Rattle.property.proofs.Basics.{◌∙◌, drop_of_length-le, drop-cons}
 use Rattle.scanner.specs.Capped.{starts, commented}
 use Rattle.scanner.proofs.is_comment.Goals as goal
 

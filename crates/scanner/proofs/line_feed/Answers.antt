@@ -1,6 +1,5 @@
 -- `scanner::line_feed` meets its contract: no byte passed is a line feed. Assumes nothing.
-use Rattle.property.proofs.Basics.{arith, ◌≡◌, sym, true, ◌-◌, ◌≤◌, length, take, drop}
-use Rattle.dimacs.specs.Lines.{plain}
+use Rattle.property.proofs.Basics.{arith, sym}
 use Rattle.dimacs.proofs.Positions.{feed_start, feed_more, feed_ends, feed_open}
 use Rattle.scanner.proofs.line_feed.Goals as goal
 

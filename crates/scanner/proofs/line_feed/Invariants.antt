@@ -1,7 +1,6 @@
 -- `scanner::line_feed` meets its contract: no byte passed is a line feed. Assumes nothing.
-use Rattle.property.proofs.Basics.{arith, ◌≡◌, sym, true, ◌-◌, ◌≤◌, length, take, drop}
+use Rattle.property.proofs.Basics.{◌≡◌, true, ◌-◌, ◌≤◌, length, take, drop}
 use Rattle.dimacs.specs.Lines.{plain}
-use Rattle.dimacs.proofs.Positions.{feed_start, feed_more, feed_ends, feed_open}
 use Rattle.scanner.proofs.line_feed.Given as goal
 
 abbrev pub invariant-loop-i : goal.invariant-loop-i

@@ -1,14 +1,12 @@
 -- `search::expand` meets its contract. The loop's invariant: the edges that are left, from the search now, come to what all edges of the vertex come
 -- to from the search at entry. Assumes nothing.
-use Rattle.property.proofs.Basics.{◌≡◌, refl, sym, ap, ◌∙◌, foldl, ◌-◌, ◌+◌, ◌≤◌, length, get_or, arith, needs}
+use Rattle.property.proofs.Basics.{refl, sym, ap, ◌∙◌, ◌+◌, get_or, arith}
 use Rattle.graph.specs.Arc.{arc, arc_head, arc_weight}
 use Rattle.graph.specs.Edge.{edge}
-use Rattle.graph.specs.Index.{part}
 use Rattle.answers.specs.Routing.{eligible}
 use Rattle.graph.proofs.Lists.{fold_turn, fold_done}
 use Rattle.run.proofs.Folds.{part_more, part_none}
 use Rattle.search.specs.Search.{look}
-use Rattle.search.specs.Code.{search_of, Searching}
 use Rattle.search.proofs.Steps.{eligible_word, expand_own}
 use Rattle.search.proofs.expand.Goals as goal
 

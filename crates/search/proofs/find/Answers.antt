@@ -1,5 +1,5 @@
 -- `search::find` meets its contract. Assumes nothing.
-use Rattle.property.proofs.Basics.{◌≡◌, sym, ap, ◌∙◌, ℕ, length, take, replicate, length-take-le, arith, needs}
+use Rattle.property.proofs.Basics.{◌≡◌, sym, ap, ◌∙◌, ℕ, length, take, replicate, length-take-le, arith}
 use Rattle.graph.specs.Limits.{max_vertices}
 use Rattle.graph.specs.Edge.{edges}
 use Rattle.graph.proofs.Records.{room_less}

@@ -1,5 +1,4 @@
 -- `search::is_eligible` meets its contract. Assumes nothing.
-use Rattle.property.proofs.Basics.{needs}
 use Rattle.search.proofs.Steps.{eligible_low, eligible_high}
 use Rattle.search.proofs.is_eligible.Goals as goal
 

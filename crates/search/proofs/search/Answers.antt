@@ -1,13 +1,10 @@
 -- `search::search` meets its contract. The loop's invariant: the steps that are left, from the search now, come to what `n` steps come to from the
 -- search before its first. Assumes nothing.
-use Rattle.property.proofs.Basics.{◌≡◌, refl, sym, ap, ◌∙◌, inl, inr, ⊎_elim, not, List, ℕ, ◌-◌, length, length-set, arith, needs}
-use Rattle.graph.specs.Edge.{Edge}
-use Rattle.graph.specs.Index.{Own}
+use Rattle.property.proofs.Basics.{◌≡◌, refl, sym, ap, ◌∙◌, inl, inr, ◌⊎◌, ◌≤◌, false, get_or, eqb, eq-eqb, ne_eqb, not, ◌-◌, length, length-set, arith}
 use Rattle.answers.specs.Routing.{eligible}
-use Rattle.search.specs.Search.{is_unfound, begun}
-use Rattle.search.specs.Search as spec
-use Rattle.search.specs.Code.{search_of, Searching}
+use Rattle.search.specs.Search.{unfound, is_unfound}
 use Rattle.search.proofs.Steps.{searching_begun, search_begins, search_turn, search_ends}
+use Rattle.search.proofs.search.Goals.{then-loop-i-test+else-via-t, else-loop-i-test}
 use Rattle.search.proofs.search.Goals as goal
 
 pub loop-i-init : goal.loop-i-init
@@ -48,7 +45,7 @@ loop-i-preserved c =
     let at = c.loop-i in (
       λ n h es o.
           let z : n ≡ length at.via = h ∙ c.expand-count.auto.via in
-          sym (search_turn (eligible g.p g.row.now g.v) es g.t at.i at.count at.queue at.via at.invariant.3 n _ z c.loop-i-test.true c.if-via-t.true
+          sym (search_turn (eligible g.p g.row.now g.v) es g.t at.i at.count at.queue at.via at.invariant.3 n _ z c.loop-i-test.true (eq-eqb _ _ c.if-via-t.true)
           (c.expand-count.ensures.via_after es (rw z at o)))
           ∙ at.invariant.0 n z es o,
       c.expand-count.auto.via ∙ at.invariant.1,
@@ -70,10 +67,12 @@ returns c =
     let size : length c.args.via.now ≡ length c.loop-i.via = sym (c.loop-i.invariant.1 ∙ length-set c.fill.new.dst _ _ ∙ c.fill.auto.dst) in
     let g = c.args in
     let at = c.loop-i in
-    let z = size in
-    let w = c.loop-i-test.branch in (
+    let over : (at.count ≤ at.i) ⊎ (eqb (get_or at.via g.t 0) unfound ≡ false) = elim c.loop-i-test.branch [
+      | then-loop-i-test+else-via-t w ↦ inr (ne_eqb _ _ w.if-via-t.false)
+      | else-loop-i-test w ↦ inl w.loop-i-test.false
+    ] in (
     λ es o.
     let F = eligible g.p g.row.now g.v in
-    let e = sym (search_ends F es g.t at.i at.count at.queue at.via at.invariant.3 (length g.via.now - at.i) (⊎_elim (λ q. inr q.2.left) (λ q. inl q.left) w)) ∙ at.invariant.0 (length g.via.now) z es o in
+    let e = sym (search_ends F es g.t at.i at.count at.queue at.via at.invariant.3 (length g.via.now - at.i) over) ∙ at.invariant.0 (length g.via.now) size es o in
     (ap (λ st. st.via) e, ap (λ st. not (is_unfound st g.t)) e)
     )

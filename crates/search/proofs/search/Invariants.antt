@@ -1,13 +1,12 @@
 -- `search::search` meets its contract. The loop's invariant: the steps that are left, from the search now, come to what `n` steps come to from the
 -- search before its first. Assumes nothing.
-use Rattle.property.proofs.Basics.{◌≡◌, refl, sym, ap, ◌∙◌, inl, inr, ⊎_elim, not, List, ℕ, ◌-◌, length, length-set, arith, needs}
+use Rattle.property.proofs.Basics.{◌≡◌, List, ℕ, ◌-◌, length}
 use Rattle.graph.specs.Edge.{Edge}
 use Rattle.graph.specs.Index.{Own}
 use Rattle.answers.specs.Routing.{eligible}
 use Rattle.search.specs.Search.{is_unfound, begun}
 use Rattle.search.specs.Search as spec
 use Rattle.search.specs.Code.{search_of, Searching}
-use Rattle.search.proofs.Steps.{searching_begun, search_begins, search_turn, search_ends}
 use Rattle.search.proofs.search.Given as goal
 
 abbrev pub invariant-loop-i : goal.invariant-loop-i

@@ -1,5 +1,5 @@
 -- `search::search_best` meets its contract: the eligible edges are searched, or every edge. Assumes nothing.
-use Rattle.property.proofs.Basics.{length, arith, needs, eqb-false}
+use Rattle.property.proofs.Basics.{length, arith, eqb-false}
 use Rattle.graph.proofs.Tests.{neither}
 use Rattle.search.proofs.Steps.{searched_best, searched_all, told_of}
 use Rattle.search.proofs.search_best.Goals as goal

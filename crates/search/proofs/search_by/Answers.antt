@@ -1,5 +1,5 @@
 -- `search::search_by` meets its contract: each arm is the search of its number. Assumes nothing.
-use Rattle.property.proofs.Basics.{length, needs}
+use Rattle.property.proofs.Basics.{length}
 use Rattle.search.proofs.Steps.{search_rest, told_of}
 use Rattle.search.proofs.search_by.Goals as goal
 

@@ -1,5 +1,4 @@
 -- `settled_check::find_relaxable` meets its contract. Assumes nothing.
-use Rattle.property.proofs.Basics.{needs}
 use Rattle.graph.proofs.Judging.{fine_accept}
 use Rattle.network.specs.Settled.{settled_call}
 use Rattle.settled_check.proofs.Checking.{checking_refused, checking_accepted}

@@ -1,15 +1,12 @@
 -- `settled_check::first_spot` meets its contract: each loop's invariant says that what is left from here on gives the whole
 -- check. Assumes nothing.
-use Rattle.property.proofs.Basics.{needs, arith, ◌+◌, ◌-◌, ◌*◌, ◌<◌, ◌≤◌, ◌≡◌, refl, sym, ◌∙◌, cond, List, ℕ, length, drop, eqb}
+use Rattle.property.proofs.Basics.{◌+◌, ◌-◌, ◌≤◌, ◌≡◌, cond, List, ℕ, drop, eqb}
 use Rattle.graph.specs.Edge.{edges, range}
-use Rattle.graph.proofs.Own.{tails_below, heads_below}
 use Rattle.settled_check.specs.declared.Checked.TheVariants as checked
 use Rattle.network.specs.Network.{row, row_count, property_of}
 use Rattle.network.specs.Settled.{Check, check, in_records, in_rows}
-use Rattle.calls.specs.Code.{network, Openable}
-use Rattle.calls.proofs.Judging.{network_accept}
-use Rattle.settled_check.proofs.Checking.{edges_on, records_more, records_found, records_none, rows_more, rows_none, in_sides, sides_all, sides_more, sides_none, checking_found, checking_settled}
-use Rattle.calls.proofs.Rows.{row_ends}
+use Rattle.calls.specs.Code.{network}
+use Rattle.settled_check.proofs.Checking.{edges_on, in_sides}
 use Rattle.settled_check.proofs.first_spot.Given as goal
 
 -- what is left of a side after row r, and after the side

@@ -1,5 +1,4 @@
 -- `settled_check::is_relaxable` meets its contract. Assumes nothing.
-use Rattle.property.proofs.Basics.{needs}
 use Rattle.settled_check.proofs.Checking.{relaxable_told}
 use Rattle.settled_check.proofs.is_relaxable.Goals as goal
 

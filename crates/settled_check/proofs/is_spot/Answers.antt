@@ -1,5 +1,5 @@
 -- `settled_check::is_spot` meets its contract. Assumes nothing.
-use Rattle.property.proofs.Basics.{needs, ◌∙◌, true, false, eq-eqb, ne_eqb}
+use Rattle.property.proofs.Basics.{◌∙◌, true, false, eq-eqb, ne_eqb}
 use Rattle.graph.specs.Code.{edge_at}
 use Rattle.network.specs.Network.{property_of}
 use Rattle.settled_check.proofs.Checking.{spot_on}

@@ -1,5 +1,5 @@
 -- `sources::end_text` meets its contract. Assumes nothing.
-use Rattle.property.proofs.Basics.{needs, add-one, arith, eq-eqb, ne_eqb}
+use Rattle.property.proofs.Basics.{add-one, arith, eq-eqb, ne_eqb}
 use Rattle.dimacs.specs.Read.{ended}
 use Rattle.dimacs.specs.Sources.{complete}
 use Rattle.sources.specs.Code.{state_of, read_of}

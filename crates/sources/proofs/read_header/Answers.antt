@@ -1,5 +1,5 @@
 -- `sources::read_header` meets its contract. Assumes nothing.
-use Rattle.property.proofs.Basics.{needs, bind}
+use Rattle.property.proofs.Basics.{bind}
 use Rattle.dimacs.specs.Sources.{header_from}
 use Rattle.sources.specs.Capped.{cap_sources}
 use Rattle.scanner.specs.Code.{one_of}

@@ -1,5 +1,5 @@
 -- `sources::read_in` meets its contract. Assumes nothing.
-use Rattle.property.proofs.Basics.{needs, arith, ◌≡◌, sym, ap, subst, ◌∙◌, ◌≤◌, length, length-take-le, lt-ltb, le-ltb}
+use Rattle.property.proofs.Basics.{arith, ◌≡◌, sym, ap, subst, ◌∙◌, ◌≤◌, length, length-take-le, lt-ltb, le-ltb}
 use Rattle.graph.specs.Refusal.{accept, ◌▷◌, refuse_if, replied, choose}
 use Rattle.dimacs.specs.Call.{judged, sources_read, sources_call}
 use Rattle.graph.specs.Table.{size}
@@ -16,10 +16,10 @@ returns-in-Refused c =
     unfold told sources_call reading ◌▷◌ replied choose in rw (← (ap told (sym c.in-Refused.is) ∙ c.judge_size-size.ensures))
 
 pub returns-then-sources-lt-MAX_SOURCES : goal.returns-then-sources-lt-MAX_SOURCES
-unfolding told
+unfolding told sources_call reading ◌▷◌ refuse_if replied choose
 returns-then-sources-lt-MAX_SOURCES c =
     let fine : accept ≡ size c.args.n = rw c.in_default.is at c.judge_size-size.ensures in
-    unfold sources_call reading ◌▷◌ refuse_if replied choose in rw (← fine, lt-ltb (length c.args.sources.now) max_sources (omega arith))
+    rw (← fine, lt-ltb (length c.args.sources.now) max_sources (omega arith))
 
 pub read_text-requires : goal.read_text-requires
 unfolding told

@@ -1,5 +1,5 @@
 -- `sources::read_item` meets its contract. Assumes nothing.
-use Rattle.property.proofs.Basics.{needs, arith}
+use Rattle.property.proofs.Basics.{arith}
 use Rattle.dimacs.specs.Sources.{item_in}
 use Rattle.sources.specs.Capped.{cap_sources}
 use Rattle.scanner.proofs.Marks.{first_mark, second_mark, neither_mark}

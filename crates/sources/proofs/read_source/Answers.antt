@@ -1,5 +1,5 @@
 -- `sources::read_source` meets its contract. Assumes nothing.
-use Rattle.property.proofs.Basics.{arith, ◌≡◌, ◌∙◌, [], ◌∷◌, bind, drop, needs}
+use Rattle.property.proofs.Basics.{arith, ◌≡◌, ◌∙◌, [], ◌∷◌, bind, drop}
 use Rattle.dimacs.specs.Read.{fields}
 use Rattle.dimacs.specs.Sources.{source_from}
 use Rattle.sources.specs.Capped.{cap_sources}

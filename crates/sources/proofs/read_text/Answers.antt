@@ -1,15 +1,13 @@
 -- `sources::read_text` meets its contract: what is left of the file, from the state so far, comes to the same answer. Assumes nothing.
-use Rattle.property.proofs.Basics.{needs, arith, ◌≡◌, refl, ◌∙◌, ◌+◌, ◌-◌, ◌^◌, ◌≤◌, ◌<◌, length}
+use Rattle.property.proofs.Basics.{arith, refl, ◌∙◌, ◌+◌, ◌^◌, ◌≤◌, ◌<◌, length}
 use Rattle.dimacs.specs.Read.{read}
 use Rattle.dimacs.specs.Sources as src
-use Rattle.sources.specs.Code.{Held, state_of, step_of, read_of}
-use Rattle.scanner.proofs.Steps.{Left, left_open, left_stop, left_next, left_end}
+use Rattle.sources.specs.Code.{state_of, step_of, read_of}
+use Rattle.scanner.proofs.Steps.{left_open, left_stop, left_next, left_end}
 use Rattle.sources.proofs.read_text.Goals as goal
 
 pub loop-at-init : goal.loop-at-init
 loop-at-init c =
-    let counted : c.loop-at.k + 1 < 2 ^ 64 = omega (arith, c.loop-at.invariant.0.counted, c.loop-at.invariant.0.inside, c.well_formed) in
-    let inside : (c.loop-at.at ≤ c.in-Ends.end) × (c.in-Ends.end < length c.args.text.now) = rw c.in-Ends.is at c.line_feed.ensures.1 in
     unfold src.read_sources read state_of in (record { comes = refl; inside = omega arith; counted = omega arith }, record { room = c.requires.1; inside = tt }, refl)
 
 pub overflow_add-result : goal.overflow_add-result
@@ -60,7 +58,7 @@ returns-in_default-take_line c =
 pub overflow_add-at : goal.overflow_add-at
 overflow_add-at c =
     let inside : (c.loop-at.at ≤ c.in-Ends.end) × (c.in-Ends.end < length c.args.text.now) = rw c.in-Ends.is at c.line_feed.ensures.1 in
-    omega (arith, inside, c.good)
+    omega (arith, inside)
 
 pub overflow_add-k : goal.overflow_add-k
 overflow_add-k c =

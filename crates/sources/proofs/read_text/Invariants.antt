@@ -1,9 +1,8 @@
 -- `sources::read_text` meets its contract: what is left of the file, from the state so far, comes to the same answer. Assumes nothing.
-use Rattle.property.proofs.Basics.{needs, arith, ◌≡◌, refl, ◌∙◌, ◌+◌, ◌-◌, ◌^◌, ◌≤◌, ◌<◌, length}
-use Rattle.dimacs.specs.Read.{read}
+use Rattle.property.proofs.Basics.{◌≡◌, ◌-◌, length}
 use Rattle.dimacs.specs.Sources as src
-use Rattle.sources.specs.Code.{Held, state_of, step_of, read_of}
-use Rattle.scanner.proofs.Steps.{Left, left_open, left_stop, left_next, left_end}
+use Rattle.sources.specs.Code.{Held, state_of}
+use Rattle.scanner.proofs.Steps.{Left}
 use Rattle.sources.proofs.read_text.Given as goal
 
 abbrev pub invariant-loop-at : goal.invariant-loop-at

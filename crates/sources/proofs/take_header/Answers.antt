@@ -1,5 +1,5 @@
 -- `sources::take_header` meets its contract. Assumes nothing.
-use Rattle.property.proofs.Basics.{needs, arith, lt-leb, le-leb}
+use Rattle.property.proofs.Basics.{arith, lt-leb, le-leb}
 use Rattle.dimacs.specs.Sources.{max_sources, act}
 use Rattle.sources.specs.Code.{state_of, step_of}
 use Rattle.sources.proofs.take_header.Goals as goal

@@ -1,5 +1,5 @@
 -- `sources::take_item` meets its contract, kind by kind. Assumes nothing.
-use Rattle.property.proofs.Basics.{needs, arith, bind}
+use Rattle.property.proofs.Basics.{arith, bind}
 use Rattle.sources.specs.Code.{step_of}
 use Rattle.sources.proofs.take_item.Goals as goal
 

@@ -1,5 +1,5 @@
 -- `sources::take_line` meets its contract. Assumes nothing.
-use Rattle.property.proofs.Basics.{needs, arith, true, false}
+use Rattle.property.proofs.Basics.{arith, true, false}
 use Rattle.dimacs.specs.Sources.{item_in, complete}
 use Rattle.sources.specs.Code.{step_of}
 use Rattle.scanner.proofs.Steps.{step_comment, step_item}

@@ -1,5 +1,5 @@
 -- `sources::take_source` meets its contract. Assumes nothing.
-use Rattle.property.proofs.Basics.{needs, arith, ◌≤◌, ◌<◌, length, length-set, lt-ltb, le-ltb}
+use Rattle.property.proofs.Basics.{arith, ◌≤◌, ◌<◌, length, length-set, lt-ltb, le-ltb}
 use Rattle.dimacs.specs.Sources.{act}
 use Rattle.sources.specs.Code.{state_of, step_of}
 use Rattle.sources.proofs.Steps.{held_inside, act_source, source_next}

@@ -1,5 +1,5 @@
 -- `scanner::numbers::holds` meets its contract. Assumes nothing.
-use Rattle.property.proofs.Basics.{arith, sym, drop_of_length-le, needs}
+use Rattle.property.proofs.Basics.{arith, sym, drop_of_length-le}
 use Rattle.scanner.specs.Capped.{starts}
 use Rattle.scanner.proofs.Fields.{starts_at}
 use Rattle.scanner.proofs.numbers.holds.Goals as goal

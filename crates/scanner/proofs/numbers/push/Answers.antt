@@ -1,5 +1,5 @@
 -- `scanner::numbers::push` meets its contract. Assumes nothing.
-use Rattle.property.proofs.Basics.{needs, arith}
+use Rattle.property.proofs.Basics.{arith}
 use Rattle.dimacs.proofs.Digits.{is_digit_lem}
 use Rattle.scanner.proofs.numbers.push.Goals as goal
 

@@ -1,5 +1,5 @@
 -- `scanner::numbers::read_field` meets its contract. Assumes nothing.
-use Rattle.property.proofs.Basics.{arith, sym, ◌∙◌, [], bind, ◌<◌, length, not-true, not-false, needs}
+use Rattle.property.proofs.Basics.{arith, sym, ◌∙◌, [], bind, ◌<◌, length}
 use Rattle.dimacs.specs.Read.{after}
 use Rattle.scanner.specs.Capped.{cap_number, field}
 use Rattle.scanner.proofs.Fields.{after_other, after_one, starts_inside}
@@ -11,12 +11,12 @@ returns-then-not-holds c =
 
 pub overflow_add-at : goal.overflow_add-at
 overflow_add-at c =
-    let inside : c.args.at < length c.args.s.now = starts_inside 32 _ _ (sym c.holds.ensures ∙ not-false _ c.if-not-holds.false) in
+    let inside : c.args.at < length c.args.s.now = starts_inside 32 _ _ (sym c.holds.ensures ∙ c.if-not-holds.false) in
     omega (arith, inside)
 
 pub read_number-requires : goal.read_number-requires
 read_number-requires c =
-    let inside : c.args.at < length c.args.s.now = starts_inside 32 _ _ (sym c.holds.ensures ∙ not-false _ c.if-not-holds.false) in
+    let inside : c.args.at < length c.args.s.now = starts_inside 32 _ _ (sym c.holds.ensures ∙ c.if-not-holds.false) in
     omega (arith, inside)
 
 pub returns : goal.returns

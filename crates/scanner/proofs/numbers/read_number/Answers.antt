@@ -1,5 +1,5 @@
 -- `scanner::numbers::read_number` meets its contract: each way out is a law of `number`. Assumes nothing.
-use Rattle.property.proofs.Basics.{arith, sym, ap, ◌∙◌, List, some, ℕ, add-one, drop_of_length-le, drop-cons, eq-eqb, ne_eqb, not-true, not-false, needs}
+use Rattle.property.proofs.Basics.{arith, sym, ap, ◌∙◌, List, some, ℕ, add-one, drop_of_length-le, drop-cons, eq-eqb, ne_eqb}
 use Rattle.dimacs.proofs.Digits.{is_digit_lem}
 use Rattle.dimacs.specs.Decimal.{number}
 use Rattle.scanner.specs.Capped.{cap_number, cap_scan}

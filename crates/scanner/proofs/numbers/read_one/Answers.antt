@@ -1,5 +1,4 @@
 -- `scanner::numbers::read_one` meets its contract. Assumes nothing.
-use Rattle.property.proofs.Basics.{needs}
 use Rattle.scanner.proofs.Fields.{put, fields_none, fields_more, fields_over, fields_long}
 use Rattle.scanner.proofs.numbers.read_one.Goals as goal
 

@@ -1,5 +1,4 @@
 -- `scanner::numbers::read_three` meets its contract. Assumes nothing.
-use Rattle.property.proofs.Basics.{needs}
 use Rattle.scanner.proofs.Fields.{put, fields_none, fields_more}
 use Rattle.scanner.proofs.numbers.read_three.Goals as goal
 

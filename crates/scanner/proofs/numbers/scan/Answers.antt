@@ -1,5 +1,5 @@
 -- `scanner::numbers::scan` meets its contract: what is left to read, from the value so far, comes to the same. Assumes nothing.
-use Rattle.property.proofs.Basics.{needs, arith, ◌≡◌, refl, sym, ap, ◌∙◌, ℕ, ◌+◌, ◌-◌, ◌≤◌, not-true, not-false, length, drop}
+use Rattle.property.proofs.Basics.{needs, arith, refl, sym, ap, ◌∙◌, ℕ, ◌+◌, drop}
 use Rattle.scanner.specs.Capped.{cap_scan}
 use Rattle.scanner.proofs.Caps.{scan_more, scan_stop, scan_end}
 use Rattle.scanner.proofs.numbers.scan.Goals as goal

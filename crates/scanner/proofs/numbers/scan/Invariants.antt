@@ -1,7 +1,6 @@
 -- `scanner::numbers::scan` meets its contract: what is left to read, from the value so far, comes to the same. Assumes nothing.
-use Rattle.property.proofs.Basics.{needs, arith, ◌≡◌, refl, sym, ap, ◌∙◌, ℕ, ◌+◌, ◌-◌, ◌≤◌, not-true, not-false, length, drop}
+use Rattle.property.proofs.Basics.{◌≡◌, ◌-◌, ◌≤◌, length, drop}
 use Rattle.scanner.specs.Capped.{cap_scan}
-use Rattle.scanner.proofs.Caps.{scan_more, scan_stop, scan_end}
 use Rattle.scanner.proofs.numbers.scan.Given as goal
 
 abbrev pub invariant-loop-i : goal.invariant-loop-i

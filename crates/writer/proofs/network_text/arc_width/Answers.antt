@@ -1,5 +1,5 @@
 -- `writer::network_text::arc_width` meets its contract. Assumes nothing.
-use Rattle.property.proofs.Basics.{needs, arith, sym, ap, ◌∙◌, [], ◌∷◌, ◌+◌, length}
+use Rattle.property.proofs.Basics.{arith, sym, ap, ◌∙◌, [], ◌∷◌, ◌+◌, length}
 use Rattle.dimacs.specs.Lines.{fields_of}
 use Rattle.dimacs.specs.Network.{arc_mark}
 use Rattle.writer.proofs.Text.{arc_fields, line_length}

@@ -1,8 +1,7 @@
 -- `writer::network_text::arcs_width` meets its contract: the lines below k are summed. Assumes nothing.
-use Rattle.property.proofs.Basics.{needs, arith, ◌≡◌, ◌+◌, ◌*◌, ◌-◌, ◌≤◌, length, drop}
+use Rattle.property.proofs.Basics.{◌≡◌, ◌+◌, ◌*◌, ◌-◌, ◌≤◌, length, drop}
 use Rattle.graph.specs.Edge.{edges}
 use Rattle.writer.specs.Code.{arcs_of}
-use Rattle.writer.proofs.Text.{arcs_sum, arcs_all}
 use Rattle.writer.proofs.network_text.arcs_width.Given as goal
 
 abbrev pub invariant-loop-k : goal.invariant-loop-k

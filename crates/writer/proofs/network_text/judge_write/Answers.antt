@@ -1,5 +1,5 @@
 -- `writer::network_text::judge_write` meets its contract: one refusal after the other. Assumes nothing.
-use Rattle.property.proofs.Basics.{needs, ◌≡◌}
+use Rattle.property.proofs.Basics.{◌≡◌}
 use Rattle.graph.specs.declared.Judged.{Judged}
 use Rattle.graph.specs.Refusal.{Verdict, ◌▷◌}
 use Rattle.graph.specs.Table.{size}

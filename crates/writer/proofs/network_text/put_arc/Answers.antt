@@ -1,5 +1,4 @@
 -- `writer::network_text::put_arc` meets its contract. Assumes nothing.
-use Rattle.property.proofs.Basics.{needs}
 use Rattle.writer.proofs.Text.{arc_fields}
 use Rattle.writer.proofs.network_text.put_arc.Goals as goal
 

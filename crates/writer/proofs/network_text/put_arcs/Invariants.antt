@@ -1,9 +1,8 @@
 -- `writer::network_text::put_arcs` meets its contract: the lines from k on are still to be put. Assumes nothing.
-use Rattle.property.proofs.Basics.{needs, arith, ◌-◌, ◌≤◌, drop}
+use Rattle.property.proofs.Basics.{◌-◌, ◌≤◌, drop}
 use Rattle.graph.specs.Edge.{edges}
 use Rattle.writer.specs.Code.{arcs_of}
-use Rattle.writer.proofs.Laid.{Pending, pending_start, pending_fits, pending_turn, pending_done}
-use Rattle.writer.proofs.Text.{arcs_more, arcs_none}
+use Rattle.writer.proofs.Laid.{Pending}
 use Rattle.writer.proofs.network_text.put_arcs.Given as goal
 
 abbrev pub invariant-loop-k : goal.invariant-loop-k

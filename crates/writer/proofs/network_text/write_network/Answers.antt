@@ -1,5 +1,5 @@
 -- `writer::network_text::write_network` meets its contract: judged, measured, and written from the start of the buffer. Assumes nothing.
-use Rattle.property.proofs.Basics.{needs, arith, ◌≡◌, sym, ap, ◌∙◌, List, ◌++◌, ℕ, ◌+◌, length, length-append, lt-ltb, le-ltb}
+use Rattle.property.proofs.Basics.{arith, ◌≡◌, sym, ap, ◌∙◌, List, ◌++◌, ℕ, ◌+◌, length, length-append, lt-ltb, le-ltb}
 use Rattle.graph.proofs.Judging.{fine_accept}
 use Rattle.graph.specs.Refusal.{accept, ◌▷◌, refuse_if, replied, choose}
 use Rattle.graph.specs.Edge.{edges}

@@ -1,5 +1,5 @@
 -- `writer::put::end_line` meets its contract. Assumes nothing.
-use Rattle.property.proofs.Basics.{needs, refl, [], ◌∷◌}
+use Rattle.property.proofs.Basics.{refl, [], ◌∷◌}
 use Rattle.writer.proofs.Laid.{first_fits, second_fits, both_wrote}
 use Rattle.writer.proofs.put.end_line.Goals as goal
 

@@ -1,8 +1,6 @@
 -- `writer::put::fields_width` meets its contract: the bytes of the numbers below i are summed. Assumes nothing.
-use Rattle.property.proofs.Basics.{needs, arith, ◌≡◌, ◌+◌, ◌*◌, ◌-◌, ◌≤◌, length, get_or, drop}
-use Rattle.dimacs.specs.Decimal.{digits}
+use Rattle.property.proofs.Basics.{◌≡◌, ◌+◌, ◌*◌, ◌-◌, ◌≤◌, length, drop}
 use Rattle.dimacs.specs.Lines.{fields_of}
-use Rattle.writer.proofs.Fields.{width_word, fields_sum, fields_all}
 use Rattle.writer.proofs.put.fields_width.Given as goal
 
 abbrev pub invariant-loop-i : goal.invariant-loop-i

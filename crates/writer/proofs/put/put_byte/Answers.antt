@@ -1,5 +1,5 @@
 -- `writer::put::put_byte` meets its contract. Assumes nothing.
-use Rattle.property.proofs.Basics.{needs, refl, sym, [], ◌∷◌}
+use Rattle.property.proofs.Basics.{refl, sym, [], ◌∷◌}
 use Rattle.writer.proofs.Laid.{laid_sets}
 use Rattle.writer.proofs.put.put_byte.Goals as goal
 

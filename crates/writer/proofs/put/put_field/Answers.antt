@@ -1,5 +1,5 @@
 -- `writer::put::put_field` meets its contract. Assumes nothing.
-use Rattle.property.proofs.Basics.{needs, refl, [], ◌∷◌}
+use Rattle.property.proofs.Basics.{refl, [], ◌∷◌}
 use Rattle.writer.proofs.Laid.{both_wrote}
 use Rattle.writer.proofs.put.put_field.Goals as goal
 

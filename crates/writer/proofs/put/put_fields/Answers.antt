@@ -1,7 +1,6 @@
 -- `writer::put::put_fields` meets its contract: the numbers from i on are still to be put. Assumes nothing.
-use Rattle.property.proofs.Basics.{needs, arith, ◌-◌, ◌≤◌, length, drop}
-use Rattle.dimacs.specs.Lines.{fields_of}
-use Rattle.writer.proofs.Laid.{Pending, pending_start, pending_fits, pending_turn, pending_done}
+use Rattle.property.proofs.Basics.{arith}
+use Rattle.writer.proofs.Laid.{pending_start, pending_fits, pending_turn, pending_done}
 use Rattle.writer.proofs.Fields.{fields_more, fields_none}
 use Rattle.writer.proofs.put.put_fields.Goals as goal
 

@@ -1,8 +1,7 @@
 -- `writer::put::put_fields` meets its contract: the numbers from i on are still to be put. Assumes nothing.
-use Rattle.property.proofs.Basics.{needs, arith, ◌-◌, ◌≤◌, length, drop}
+use Rattle.property.proofs.Basics.{◌-◌, ◌≤◌, length, drop}
 use Rattle.dimacs.specs.Lines.{fields_of}
-use Rattle.writer.proofs.Laid.{Pending, pending_start, pending_fits, pending_turn, pending_done}
-use Rattle.writer.proofs.Fields.{fields_more, fields_none}
+use Rattle.writer.proofs.Laid.{Pending}
 use Rattle.writer.proofs.put.put_fields.Given as goal
 
 abbrev pub invariant-loop-i : goal.invariant-loop-i

@@ -1,5 +1,5 @@
 -- `writer::put::put_line` meets its contract. Assumes nothing.
-use Rattle.property.proofs.Basics.{needs, ◌≡◌, [], ◌∷◌, ◌++◌, append_assoc}
+use Rattle.property.proofs.Basics.{◌≡◌, [], ◌∷◌, ◌++◌, append_assoc}
 use Rattle.dimacs.specs.Lines.{fields_of}
 use Rattle.writer.proofs.Laid.{first_fits, second_fits, both_wrote}
 use Rattle.writer.proofs.put.put_line.Goals as goal

@@ -1,7 +1,7 @@
 -- `writer::put::put_number` meets its contract: what is still to store from here comes to the same. Assumes nothing.
-use Rattle.property.proofs.Basics.{arith, ◌≡◌, refl, sym, ◌∙◌, ◌+◌, ◌-◌, ◌≤◌, length, length-set, sets}
+use Rattle.property.proofs.Basics.{arith, ◌≡◌, refl, sym, ◌∙◌, ◌+◌, ◌-◌, length, length-set, sets}
 use Rattle.dimacs.specs.Decimal.{digits}
-use Rattle.writer.proofs.Digits.{pad, digits_pad}
+use Rattle.writer.proofs.Digits.{digits_pad}
 use Rattle.writer.proofs.Laid.{laid_sets, pad_turn, pad_done}
 use Rattle.writer.proofs.put.put_number.Goals as goal
 

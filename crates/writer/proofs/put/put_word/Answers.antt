@@ -1,5 +1,5 @@
 -- `writer::put::put_word` meets its contract: the bytes below i are put. Assumes nothing.
-use Rattle.property.proofs.Basics.{needs, arith, ◌≡◌, refl, ◌-◌, ◌≤◌, length, length-set, paste, paste-zero}
+use Rattle.property.proofs.Basics.{needs, arith, refl, length-set, paste-zero}
 use Rattle.graph.proofs.Copies.{copy_turn}
 use Rattle.writer.proofs.Laid.{paste_wrote}
 use Rattle.writer.proofs.put.put_word.Goals as goal

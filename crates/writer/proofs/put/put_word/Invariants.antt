@@ -1,7 +1,5 @@
 -- `writer::put::put_word` meets its contract: the bytes below i are put. Assumes nothing.
-use Rattle.property.proofs.Basics.{needs, arith, ◌≡◌, refl, ◌-◌, ◌≤◌, length, length-set, paste, paste-zero}
-use Rattle.graph.proofs.Copies.{copy_turn}
-use Rattle.writer.proofs.Laid.{paste_wrote}
+use Rattle.property.proofs.Basics.{◌≡◌, ◌-◌, ◌≤◌, length, paste}
 use Rattle.writer.proofs.put.put_word.Given as goal
 
 abbrev pub invariant-loop-i : goal.invariant-loop-i

@@ -1,6 +1,5 @@
 -- `writer::put::width` meets its contract: a number from ten on has one digit more than its tenth. Assumes nothing.
-use Rattle.property.proofs.Basics.{arith, ◌≡◌, refl, ◌+◌, ◌≤◌, ◌<◌, length}
-use Rattle.dimacs.specs.Decimal.{digits}
+use Rattle.property.proofs.Basics.{arith, refl, ◌≤◌, ◌<◌}
 use Rattle.dimacs.proofs.Widths.{width_small, width_big}
 use Rattle.writer.proofs.put.width.Goals as goal
 
