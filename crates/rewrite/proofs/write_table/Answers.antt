@@ -1,5 +1,4 @@
 -- `rewrite::write_table` meets its contract. Assumes nothing.
-use Rattle.property.proofs.Basics.{needs}
 use Rattle.rewrite.proofs.Writing.{table_written}
 use Rattle.rewrite.proofs.write_table.Goals as goal
 

@@ -1,5 +1,4 @@
 -- `rewrite::write_words` meets its contract. Assumes nothing.
-use Rattle.property.proofs.Basics.{needs}
 use Rattle.rewrite.proofs.Writing.{words_written}
 use Rattle.rewrite.proofs.write_words.Goals as goal
 

@@ -26,4 +26,4 @@ returns c =
     λ es fs d.
     let x = c.batch_side-f.ensures.rows_done es fs (side_forward _ es fs _ _ _ _ _ d) in
     let y = c.batch_side-b.ensures.rows_done _ _ (side_backward _ es fs _ _ _ _ _ d _ (c.turn.ensures.1 es fs d.net)) in
-    record { affected = λ i. x.affected i + y.affected i; stores = λ i. x.stores i + y.stores i; c = x.words; backward = y.words }
+    record { affected = λ i. x.affected i + y.affected i; stores = λ i. x.stores i + y.stores i; forward = x.words; backward = y.words }
