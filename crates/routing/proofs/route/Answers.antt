@@ -1,5 +1,5 @@
 -- `routing::route` meets its contract: judged, then found. Assumes nothing.
-use Rattle.property.proofs.Basics.{needs, ◌≡◌, sym, ◌∙◌, ℕ, length, take, replicate, length-take-le}
+use Rattle.property.proofs.Basics.{◌≡◌, sym, ◌∙◌, ℕ, length, take, replicate, length-take-le}
 use Rattle.graph.specs.Limits.{max_vertices}
 use Rattle.graph.specs.Refusal.{accept}
 use Rattle.graph.specs.Table.{Columns}

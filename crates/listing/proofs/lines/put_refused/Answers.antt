@@ -1,5 +1,5 @@
 -- `listing::lines::put_refused` meets its contract. Assumes nothing.
-use Rattle.property.proofs.Basics.{needs, arith}
+use Rattle.property.proofs.Basics.{arith}
 use Rattle.listing.specs.Listing.{refused_line}
 use Rattle.listing.proofs.Rows.{refused_most}
 use Rattle.listing.proofs.lines.put_refused.Goals as goal

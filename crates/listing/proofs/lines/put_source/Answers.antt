@@ -1,14 +1,13 @@
 -- `listing::lines::put_source` meets its contract. The loop's invariant: the rows so far have the settled words of their queries. Assumes nothing.
-use Rattle.property.proofs.Basics.{arith, ◌≡◌, refl, sym, ◌∙◌, ◌+◌, ◌-◌, ◌*◌, ◌≤◌, length}
+use Rattle.property.proofs.Basics.{arith, refl, sym, ◌∙◌, ◌+◌, ◌-◌, ◌*◌, ◌≤◌, length}
 use borrow.Rule.Slice.PartMut.{same_len_mid}
 use Rattle.property.specs.Property.{properties}
-use Rattle.graph.specs.Limits.{max_vertices}
 use Rattle.calls.specs.Code.{network}
 use Rattle.calls.proofs.Rows.{row_ends}
 use Rattle.calls.proofs.Flat.{row_size}
 use Rattle.listing.specs.Listing.{graph}
 use Rattle.listing.specs.Code.{settled_row}
-use Rattle.listing.proofs.Rows.{Filled, filled_turn, lines_rows}
+use Rattle.listing.proofs.Rows.{filled_turn, lines_rows}
 use Rattle.listing.proofs.lines.put_source.Goals as goal
 
 pub loop-p-init : goal.loop-p-init

@@ -1,5 +1,5 @@
 -- `listing::lines::put_vertex` meets its contract. Assumes nothing.
-use Rattle.property.proofs.Basics.{needs, ◌≡◌, [], ◌∷◌, ◌++◌, ◌+◌}
+use Rattle.property.proofs.Basics.{◌≡◌, [], ◌∷◌, ◌++◌, ◌+◌}
 use Rattle.dimacs.specs.Decimal.{digits}
 use Rattle.dimacs.specs.Lines.{fields_of}
 use Rattle.listing.specs.Code.{rows_line}

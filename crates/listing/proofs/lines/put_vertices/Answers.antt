@@ -1,7 +1,7 @@
 -- `listing::lines::put_vertices` meets its contract: the lines from vertex t on are still to be put. Assumes nothing.
-use Rattle.property.proofs.Basics.{needs, arith, ◌≡◌, ◌+◌, ◌-◌, ◌≤◌}
+use Rattle.property.proofs.Basics.{arith, ◌≡◌, ◌+◌, ◌-◌}
 use Rattle.graph.specs.Edge.{range}
-use Rattle.writer.proofs.Laid.{Pending, pending_start, pending_fits, pending_turn, pending_done}
+use Rattle.writer.proofs.Laid.{pending_start, pending_fits, pending_turn, pending_done}
 use Rattle.listing.specs.Code.{rows_line, rows_lines}
 use Rattle.listing.proofs.Rows.{lines_more, lines_done, lines_most}
 use Rattle.listing.proofs.lines.put_vertices.Goals as goal

@@ -1,9 +1,8 @@
 -- `listing::lines::put_vertices` meets its contract: the lines from vertex t on are still to be put. Assumes nothing.
-use Rattle.property.proofs.Basics.{needs, arith, ◌≡◌, ◌+◌, ◌-◌, ◌≤◌}
+use Rattle.property.proofs.Basics.{◌-◌, ◌≤◌}
 use Rattle.graph.specs.Edge.{range}
-use Rattle.writer.proofs.Laid.{Pending, pending_start, pending_fits, pending_turn, pending_done}
-use Rattle.listing.specs.Code.{rows_line, rows_lines}
-use Rattle.listing.proofs.Rows.{lines_more, lines_done, lines_most}
+use Rattle.writer.proofs.Laid.{Pending}
+use Rattle.listing.specs.Code.{rows_lines}
 use Rattle.listing.proofs.lines.put_vertices.Given as goal
 
 abbrev pub invariant-loop-t : goal.invariant-loop-t

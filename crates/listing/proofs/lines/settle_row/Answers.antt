@@ -1,5 +1,5 @@
 -- `listing::lines::settle_row` meets its contract. Assumes nothing.
-use Rattle.property.proofs.Basics.{needs, sym, ap, ℕ, replicate, length-take-le}
+use Rattle.property.proofs.Basics.{sym, ap, ℕ, replicate, length-take-le}
 use Rattle.graph.specs.Limits.{max_vertices}
 use Rattle.graph.proofs.Lists.{take_replicate}
 use Rattle.listing.proofs.lines.settle_row.Goals as goal

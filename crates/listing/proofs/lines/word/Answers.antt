@@ -1,5 +1,5 @@
 -- `listing::lines::word` meets its contract. Assumes nothing.
-use Rattle.property.proofs.Basics.{needs, arith, ◌+◌, ◌*◌, ◌≤◌, length}
+use Rattle.property.proofs.Basics.{arith, ◌+◌, ◌*◌, ◌≤◌, length}
 use Rattle.property.specs.Property.{properties}
 use Rattle.calls.proofs.Rows.{row_ends}
 use Rattle.listing.proofs.lines.word.Goals as goal

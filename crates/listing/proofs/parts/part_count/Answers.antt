@@ -1,5 +1,5 @@
 -- `listing::parts::part_count` meets its contract. Assumes nothing.
-use Rattle.property.proofs.Basics.{needs, arith, sym, ap, length}
+use Rattle.property.proofs.Basics.{arith, sym, ap, length}
 use Rattle.listing.proofs.Pieces.{parts_refused, fine_accepts, parts_count}
 use Rattle.listing.proofs.parts.part_count.Goals as goal
 

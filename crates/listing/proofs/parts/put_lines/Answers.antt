@@ -1,5 +1,5 @@
 -- `listing::parts::put_lines` meets its contract. Assumes nothing.
-use Rattle.property.proofs.Basics.{needs, arith, ◌≡◌, sym, List, ℕ, ◌*◌, ◌≤◌, length, take, length-take-le}
+use Rattle.property.proofs.Basics.{arith, ◌≡◌, sym, List, ℕ, ◌*◌, ◌≤◌, length, take, length-take-le}
 use Rattle.property.specs.Property.{properties}
 use Rattle.dimacs.specs.Network.{read_network}
 use Rattle.dimacs.specs.Call.{edges_read}

@@ -1,12 +1,12 @@
 -- `listing::parts::put_part` meets its contract: a refusal, the header, or the lines of a source. Assumes nothing.
-use Rattle.property.proofs.Basics.{needs, arith, ◌≡◌, ◌+◌, ◌-◌}
+use Rattle.property.proofs.Basics.{arith, ◌≡◌, ◌+◌, ◌-◌}
 use Rattle.listing.specs.Code.{parts}
 use Rattle.listing.proofs.Pieces.{parts_refused, fine_accepts, parts_accepted, piece_only}
 use Rattle.listing.proofs.parts.put_part.Goals as goal
 
 pub returns-in-Refused : goal.returns-in-Refused
 returns-in-Refused c =
-    record { by_index = λ gr ss h l. rw (piece_only (parts gr ss) _ _ (parts_refused h _ _ c.in-Refused.is) l) c.Put-refused.ensures.0; upper_bound = c.Put-refused.ensures.1 }
+    record { by_index = λ gr ss h l. rw (piece_only (parts gr ss) _ _ (parts_refused h _ _ c.in-Refused.is) l) c.put_refused.ensures.wrote; upper_bound = c.put_refused.ensures.upper_bound }
 
 pub returns-then-i-eq0 : goal.returns-then-i-eq0
 returns-then-i-eq0 c =

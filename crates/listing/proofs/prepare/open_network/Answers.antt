@@ -1,5 +1,5 @@
 -- `listing::prepare::open_network` meets its contract: the landmarks of choice, and rows of zeros that the opening writes. Assumes nothing.
-use Rattle.property.proofs.Basics.{needs, arith, ◌≡◌, sym, ap, ◌∙◌, List, ℕ, ◌*◌, ◌≤◌, length, take, length-take-le}
+use Rattle.property.proofs.Basics.{arith, ◌≡◌, sym, ap, ◌∙◌, List, ℕ, ◌*◌, ◌≤◌, length, take, length-take-le}
 use Rattle.property.specs.Property.{properties}
 use Rattle.graph.specs.Code.{columns}
 use Rattle.graph.specs.Limits.{max_landmarks}
@@ -95,7 +95,7 @@ returns c =
       ready = λ es h.
           ready a.n es a.tails.now a.heads.now a.weights.now a.count h c.choose_landmarks-chosen.result c.choose_landmarks-chosen.ensures
           c.fill.new.dst c.fill-2.new.dst _ _ c.«open».result zf zb
-          (c.«open».auto.1.1.1.1.1.1.0 ∙ length-take-le cells c.fill.new.dst ahead)
-          (c.«open».auto.1.1.1.1.1.1.1.0 ∙ length-take-le cells c.fill-2.new.dst back)
+          (c.«open».auto.forward ∙ length-take-le cells c.fill.new.dst ahead)
+          (c.«open».auto.backward ∙ length-take-le cells c.fill-2.new.dst back)
           c.«open».ensures;
     }

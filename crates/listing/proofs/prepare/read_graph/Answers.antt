@@ -1,5 +1,5 @@
 -- `listing::prepare::read_graph` meets its contract: a file that is not too long is read into lists of zeros. Assumes nothing.
-use Rattle.property.proofs.Basics.{needs, arith, ap, ◌∙◌}
+use Rattle.property.proofs.Basics.{arith, ap, ◌∙◌}
 use Rattle.graph.specs.Table.{Columns}
 use Rattle.dimacs.specs.Call.{read_call}
 use Rattle.listing.proofs.Reading.{zero_columns, graph_long, graph_read}

@@ -1,5 +1,5 @@
 -- `listing::prepare::read_list` meets its contract. Assumes nothing.
-use Rattle.property.proofs.Basics.{needs, arith}
+use Rattle.property.proofs.Basics.{arith}
 use Rattle.listing.proofs.Reading.{sources_long, sources_read_lem}
 use Rattle.listing.proofs.prepare.read_list.Goals as goal
 

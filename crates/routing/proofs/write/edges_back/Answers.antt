@@ -1,12 +1,12 @@
 -- `routing::write::edges_back` meets its contract: on each trace, `k` edges before its end stands `u`. Assumes nothing.
-use Rattle.property.proofs.Basics.{needs, arith, ◌≡◌, List, ◌-◌, ◌+◌, ◌<◌, ◌≤◌, length}
+use Rattle.property.proofs.Basics.{needs, arith, ◌≡◌, List, ◌-◌, ◌+◌, ◌<◌, length}
 use Rattle.graph.specs.Edge.{Edge}
 use Rattle.search.specs.Code.{Trace}
-use Rattle.routing.proofs.Writing.{At, at_last, at_inside, at_source, at_other, at_back}
+use Rattle.routing.proofs.Writing.{at_last, at_inside, at_source, at_other, at_back}
 use Rattle.routing.proofs.write.edges_back.Goals as goal
 
 pub loop-u-init : goal.loop-u-init
-loop-u-init ps h c =
+loop-u-init c ps h =
     let e : length ps - 0 ≡ length ps = omega arith in (omega arith, rw e (at_last h))
 
 pub overflow_cast-u : goal.overflow_cast-u

@@ -1,8 +1,8 @@
 -- `routing::write::edges_back` meets its contract: on each trace, `k` edges before its end stands `u`. Assumes nothing.
-use Rattle.property.proofs.Basics.{needs, arith, ◌≡◌, List, ◌-◌, ◌+◌, ◌<◌, ◌≤◌, length}
+use Rattle.property.proofs.Basics.{List, ◌-◌, ◌≤◌, length}
 use Rattle.graph.specs.Edge.{Edge}
 use Rattle.search.specs.Code.{Trace}
-use Rattle.routing.proofs.Writing.{At, at_last, at_inside, at_source, at_other, at_back}
+use Rattle.routing.proofs.Writing.{At}
 use Rattle.routing.proofs.write.edges_back.Given as goal
 
 abbrev pub invariant-loop-u : goal.invariant-loop-u

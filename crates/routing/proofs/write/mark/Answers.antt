@@ -7,9 +7,9 @@ marked : (p v x y : ℕ) (b : Bool) → (leb p 2 || (leb p 4 && not (eqb x v))) 
 marked p v x y b e q = rw (← e, q)
 
 pub returns-then-p-x : goal.returns-then-p-x
-returns-then-p-x q c =
+returns-then-p-x c e q =
     let a = c.args in marked a.p a.v _ _ _ c.if-p-x.true q
 
 pub returns-else-p-x : goal.returns-else-p-x
-returns-else-p-x q c =
+returns-else-p-x c e q =
     let a = c.args in marked a.p a.v _ _ _ c.if-p-x.false q

@@ -1,12 +1,10 @@
 -- `routing::write::write_back` meets its contract: what is still to be written, over the lists as they are, comes to the same. Assumes nothing.
-use Rattle.property.proofs.Basics.{needs, arith, ◌≡◌, refl, sym, ◌∙◌, List, ℕ, suc, ◌-◌, ◌<◌, ◌≤◌, length, take, length-set}
-use Rattle.graph.specs.Limits.{max_vertices}
+use Rattle.property.proofs.Basics.{◌≡◌, List, ℕ, ◌≤◌, length, take}
 use Rattle.graph.specs.Refusal.{over}
 use Rattle.graph.specs.Edge.{Edge}
 use Rattle.graph.specs.Leads.{visited, weights_of}
-use Rattle.graph.proofs.Copies.{over_back_turn, over_set, over_back_start, over_back_done}
 use Rattle.search.specs.Code.{Trace}
-use Rattle.routing.proofs.Writing.{At, at_last, at_inside, at_back, at_weight, length_visited, length_weights}
+use Rattle.routing.proofs.Writing.{At}
 use Rattle.routing.proofs.write.write_back.Given as goal
 
 abbrev pub invariant-loop-i : goal.invariant-loop-i

@@ -1,5 +1,5 @@
 -- `routing::write::write_route` meets its contract. Assumes nothing.
-use Rattle.property.proofs.Basics.{needs, arith, sym, ◌<◌, ◌≤◌, length}
+use Rattle.property.proofs.Basics.{arith, sym, ◌<◌, ◌≤◌, length}
 use Rattle.graph.specs.Limits.{max_vertices}
 use Rattle.routing.proofs.write.write_route.Goals as goal
 
