@@ -1,5 +1,5 @@
 -- `plain_batch::batch_part` meets its contract. Assumes nothing.
-use Rattle.property.proofs.Basics.{needs, ◌≡◌, sym, ap, ◌∙◌, min, length, length-map}
+use Rattle.property.proofs.Basics.{◌≡◌, sym, ap, ◌∙◌, min, length, length-map}
 use Rattle.network.specs.Batch.{batch_call}
 use Rattle.calls.specs.Code.{network}
 use Rattle.items.specs.Code.{change_of, changes_of}

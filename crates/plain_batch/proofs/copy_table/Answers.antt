@@ -1,5 +1,4 @@
 -- `plain_batch::copy_table` meets its contract. Assumes nothing.
-use Rattle.property.proofs.Basics.{needs}
 use Rattle.plain_batch.proofs.Calling.{edges_copied}
 use Rattle.plain_batch.proofs.copy_table.Goals as goal
 

@@ -1,5 +1,4 @@
 -- `plain_batch::judge_batch` meets its contract. Assumes nothing.
-use Rattle.property.proofs.Basics.{needs}
 use Rattle.graph.specs.Code.{told}
 use Rattle.plain_batch.proofs.Calling.{faults_long, faults_rest}
 use Rattle.plain_batch.proofs.judge_batch.Goals as goal

@@ -1,24 +1,15 @@
 -- `plain_batch::try_changes` meets its contract. Assumes nothing.
-use Rattle.property.proofs.Basics.{needs, arith, ◌≡◌, sym, ap, ◌∙◌, List, length}
+use Rattle.property.proofs.Basics.{arith, ◌≡◌, sym, ap, ◌∙◌, length}
 use Rattle.graph.specs.Refusal.{accept}
 use Rattle.graph.specs.Edge.{edges}
 use Rattle.graph.proofs.Records.{room_less}
-use Rattle.network.specs.Change.{Change, items}
+use Rattle.network.specs.Change.{items}
 use Rattle.network.specs.Batch.{batch_faults}
 use Rattle.calls.specs.Code.{network, Tabled}
-use Rattle.items.specs.Code.{Laid, verdict}
+use Rattle.items.specs.Code.{verdict}
 use Rattle.sides.specs.Code.{Fair}
 use Rattle.plain_batch.proofs.Calling.{laid_some, faults_as, faults_short, faults_fair, call_item, call_applied}
 use Rattle.plain_batch.proofs.try_changes.Goals as goal
-
-module _ (a : tie.After-apply-items) (cs : List Change) (l : Laid (entry a).args.size cs (entry a).args.lists.now) where
-  -- numbers 1 to 4 of these changes
-  passed : let g = (entry a).args in batch_faults g.n g.landmarks.now (network g.tails.now g.heads.now g.weights.now g.forward.now g.backward.now g.records) (length cs) ≡ accept
-  passed = faults_as _ _ _ (sym l.size) (entry a).requires.1
-
-  -- what the items say of the lent table
-  judged : let g = (entry a).args in verdict a.apply-items.result ≡ items g.n 0 (edges g.tails.now g.heads.now g.weights.now g.records) cs
-  judged = rw (copied_at a).copy-table.ensures at (a.apply-items.ensures cs l).0
 
 pub copy_table-requires : goal.copy_table-requires
 copy_table-requires c =
@@ -31,7 +22,7 @@ apply_items-edited-requires c =
     let fair : let g = c.args in Fair g.n g.landmarks.now (network g.tails.now g.heads.now g.weights.now g.forward.now g.backward.now g.records) = faults_fair _ _ _ _ _ _ _ _ _ c.requires.1 in
     let tabled : let g = c.args in Tabled g.n g.records c.copy_table.new.tails2 c.copy_table.new.heads2 c.copy_table.new.weights2 = let t = fair.table in
     let k = c.copy_table.auto in
-    record { few = t.few; room = record { tails = omega (arith, k.1.1.1.1.0); heads = omega (arith, k.1.1.1.1.1.0); weights = omega (arith, k.1.1.1.1.1.1.0) }; rules = rw c.copy_table.ensures t.rules } in
+    record { few = t.few; room = record { tails = omega (arith, k.tails2); heads = omega (arith, k.heads2); weights = omega (arith, k.weights2) }; rules = rw c.copy_table.ensures t.rules } in
     (tabled, faults_short _ _ _ _ c.requires.1, c.requires.0)
 
 pub apply-requires : goal.apply-requires
@@ -41,11 +32,17 @@ apply-requires c =
 
 pub returns-in-Refused : goal.returns-in-Refused
 unfolding verdict
-returns-in-Refused cs l c =
-    call_item _ _ _ _ _ _ _ _ cs (passed c cs l) _ _ (ap verdict (sym c.in-Refused.is) ∙ judged c cs l)
+returns-in-Refused c = λ cs l.
+    let g = c.args in
+    let passed : batch_faults g.n g.landmarks.now (network g.tails.now g.heads.now g.weights.now g.forward.now g.backward.now g.records) (length cs) ≡ accept = faults_as _ _ _ (sym l.size) c.requires.1 in
+    let judged : verdict c.apply_items-edited.result ≡ items g.n 0 (edges g.tails.now g.heads.now g.weights.now g.records) cs = rw c.copy_table.ensures at (c.apply_items-edited.ensures cs l).0 in
+    call_item _ _ _ _ _ _ _ _ cs passed _ _ (ap verdict (sym c.in-Refused.is) ∙ judged)
 
 pub returns-in-Count : goal.returns-in-Count
 unfolding verdict
-returns-in-Count cs l c =
+returns-in-Count c = λ cs l.
+    let g = c.args in
+    let passed : batch_faults g.n g.landmarks.now (network g.tails.now g.heads.now g.weights.now g.forward.now g.backward.now g.records) (length cs) ≡ accept = faults_as _ _ _ (sym l.size) c.requires.1 in
+    let judged : verdict c.apply_items-edited.result ≡ items g.n 0 (edges g.tails.now g.heads.now g.weights.now g.records) cs = rw c.copy_table.ensures at (c.apply_items-edited.ensures cs l).0 in
     let q = c.in-Count.is in
-    c.apply.ensures ∙ call_applied _ _ _ _ _ _ _ _ cs (passed c cs l) (ap verdict (sym q) ∙ judged c cs l) _ (rw c.copy_table.ensures at ((c.apply_items-edited.ensures cs l).1.edges _ q))
+    c.apply.ensures ∙ call_applied _ _ _ _ _ _ _ _ cs passed (ap verdict (sym q) ∙ judged) _ (rw c.copy_table.ensures at ((c.apply_items-edited.ensures cs l).1.edges _ q))

@@ -1,10 +1,9 @@
 -- `replay::apply_parts` meets its contract: what is left of the batches gives, from here, the outcome of all. Assumes nothing.
-use Rattle.property.proofs.Basics.{needs, arith, ◌≡◌, refl, ◌∙◌, ⊎_elim, ◌+◌, ◌-◌, ◌≤◌, length, drop}
+use Rattle.property.proofs.Basics.{◌≡◌, ◌-◌, ◌≤◌, length, drop}
 use Rattle.calls.specs.Code.{network}
 use Rattle.items.specs.Code.{changes_of}
 use Rattle.replay.specs.Replay.{batches, batches_from}
 use Rattle.replay.specs.Code.{carried}
-use Rattle.replay.proofs.Replaying.{batches_more, batches_none, carried_done, carried_refused, carried_none}
 use Rattle.replay.proofs.apply_parts.Given as goal
 
 abbrev pub invariant-loop-i : goal.invariant-loop-i
