@@ -1,4 +1,1 @@
-pub mod Again
-pub mod Scratch
 pub mod Copying
-pub mod Walking
