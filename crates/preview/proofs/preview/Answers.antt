@@ -1,6 +1,5 @@
 -- `preview::preview` meets its contract: the changes that are copied are laid. Assumes nothing.
-use Rattle.property.proofs.Basics.{refl, map, replicate}
-use Rattle.graph.specs.Limits.{max_batch}
+use Rattle.property.proofs.Basics.{refl, map}
 use Rattle.batch.specs.Code.{recorded}
 use Rattle.batch.proofs.Copying.{copied_laid}
 use Rattle.preview.proofs.preview.Goals as goal
