@@ -15,7 +15,7 @@ zero_fits = record { sfits = lit< tt }
 
 -- the bits of a number that fits say the number
 pub told : (d : ℤ) → mag d < 2 ^ 63 → to_z w64 (of_z w64 d) ≡ d
-told d h = to_z-of_z (record { sfits = h })
+told d h = to_z-of_z {w = w64} (record { sfits = h })
 
 pub less : {d g : ℤ} → SFits w64 d → SFits w64 g → lt_z (to_z w64 (of_z w64 d)) (to_z w64 (of_z w64 g)) ≡ lt_z d g
 less s r = ap₂ lt_z (to_z-of_z s) (to_z-of_z r)

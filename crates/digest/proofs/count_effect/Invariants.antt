@@ -1,7 +1,7 @@
 -- `digest::count_effect` meets its contract: the vertices below t are counted. Assumes nothing.
-use Rattle.property.proofs.Basics.{needs, ⊎_elim, Bool, true, false, List, ℕ, ◌-◌, eqb, eq-eqb, ne_eqb}
+use Rattle.property.proofs.Basics.{Bool, List, ℕ, ◌-◌, eqb}
 use Rattle.answers.specs.Digest.{effect_at}
-use Rattle.digest.proofs.Turning.{Counted, count_start, count_turn, count_end}
+use Rattle.digest.proofs.Turning.{Counted}
 use Rattle.digest.proofs.count_effect.Given as goal
 
 abbrev pub has : ℕ → List ℕ → ℕ → Bool

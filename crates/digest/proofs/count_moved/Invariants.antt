@@ -1,11 +1,9 @@
 -- `digest::count_moved` meets its contract: the vertices below t are counted. Assumes nothing.
-use Rattle.property.proofs.Basics.{needs, sym, ap, ◌∙◌, inl, inr, ⊎_elim, Bool, true, false, ◌&&◌, List, ℕ, ◌-◌, eqb, eq-eqb, ne_eqb}
+use Rattle.property.proofs.Basics.{Bool, ◌&&◌, List, ℕ, ◌-◌, eqb}
 use lib.IntN.{ℤ}
 use Rattle.property.specs.Property.{property}
-use Rattle.graph.proofs.Tests.{and_true, and_false}
 use Rattle.answers.specs.Digest.{effect_at, move_at, moves_to}
-use Rattle.digest.proofs.Choosing.{told}
-use Rattle.digest.proofs.Turning.{Counted, count_start, count_turn, count_end}
+use Rattle.digest.proofs.Turning.{Counted}
 use Rattle.digest.proofs.count_moved.Given as goal
 
 abbrev pub moved : ℕ → Bool → List ℕ → List ℤ → ℕ → Bool

@@ -1,5 +1,5 @@
 -- `digest::digest_preview` meets its contract. Assumes nothing.
-use Rattle.property.proofs.Basics.{needs, ◌≡◌, ℕ, ◌≤◌, ltb, ltb-false, length}
+use Rattle.property.proofs.Basics.{◌≡◌, ℕ, ◌≤◌, ltb, ltb-false, length}
 use Rattle.property.specs.Property.{property}
 use Rattle.graph.specs.declared.Judged.{Judged}
 use Rattle.graph.specs.declared.Judged.TheVariants.{Fine, Refused}

@@ -1,5 +1,5 @@
 -- `digest::improves` meets its contract. Assumes nothing.
-use Rattle.property.proofs.Basics.{needs, true, false}
+use Rattle.property.proofs.Basics.{true, false}
 use Rattle.digest.proofs.Choosing.{chosen, zero_fits, less}
 use Rattle.digest.proofs.improves.Goals as goal
 

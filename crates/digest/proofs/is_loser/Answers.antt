@@ -1,5 +1,5 @@
 -- `digest::is_loser` meets its contract. Assumes nothing.
-use Rattle.property.proofs.Basics.{needs, ap, ◌∙◌, eq-eqb, ne_eqb}
+use Rattle.property.proofs.Basics.{ap, ◌∙◌, eq-eqb, ne_eqb}
 use mir.Facts.{to_z-of_z}
 use Rattle.property.specs.Property.{property}
 use Rattle.answers.specs.Digest.{worsens}

@@ -1,11 +1,12 @@
 -- `digest::judge_digest` meets its contract. Assumes nothing.
-use Rattle.property.proofs.Basics.{needs, ◌∙◌, ap, Bool, not}
+use Rattle.property.proofs.Basics.{◌∙◌, ap, Bool, not}
 use Rattle.graph.specs.Refusal.{refuse_if}
 use Rattle.graph.proofs.Judging.{then_refused, then_judged}
 use Rattle.answers.specs.Digest.{digest_faults}
 use Rattle.digest.proofs.judge_digest.Goals as goal
 
 pub returns-in_default : goal.returns-in_default
+unfolding digest_faults
 returns-in_default c =
     then_refused _ _ _ _ _ c.judge_size-size.ensures c.in_default.is
 

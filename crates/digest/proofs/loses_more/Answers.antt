@@ -1,5 +1,5 @@
 -- `digest::loses_more` meets its contract. Assumes nothing.
-use Rattle.property.proofs.Basics.{needs, true, false, eq-eqb, ne_eqb}
+use Rattle.property.proofs.Basics.{true, false, eq-eqb, ne_eqb}
 use Rattle.digest.proofs.Choosing.{chosen, less}
 use Rattle.digest.proofs.loses_more.Goals as goal
 

@@ -1,5 +1,5 @@
 -- `digest::moves_to` meets its contract. Assumes nothing.
-use Rattle.property.proofs.Basics.{needs, refl, ap, ◌∙◌, true, false}
+use Rattle.property.proofs.Basics.{refl, ap, ◌∙◌, true, false}
 use mir.Facts.{to_z-of_z}
 use Rattle.property.specs.Property.{property}
 use Rattle.answers.specs.Digest.{improves, worsens}

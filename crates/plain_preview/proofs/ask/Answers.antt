@@ -1,5 +1,5 @@
 -- `plain_preview::ask` meets its contract. Assumes nothing.
-use Rattle.property.proofs.Basics.{needs, sym, ap, length-take-le, replicate, ℕ}
+use Rattle.property.proofs.Basics.{sym, ap, length-take-le, replicate, ℕ}
 use Rattle.graph.specs.declared.Judged.TheVariants.{Fine}
 use Rattle.graph.specs.Limits.{max_vertices}
 use Rattle.graph.specs.Refusal.{verdict_of}

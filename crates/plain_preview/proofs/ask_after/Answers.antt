@@ -1,5 +1,5 @@
 -- `plain_preview::ask_after` meets its contract. Assumes nothing.
-use Rattle.property.proofs.Basics.{needs, arith, ◌*◌, ◌≤◌, length}
+use Rattle.property.proofs.Basics.{arith, ◌*◌, ◌≤◌, length}
 use Rattle.graph.specs.Limits.{max_vertices, max_landmarks}
 use Rattle.property.specs.Property.{properties}
 use Rattle.network.specs.Network.{row_count}
@@ -43,28 +43,28 @@ ask-requires c =
     (sound.0.few, c.requires.lists_len.1)
 
 pub returns-in-Refused : goal.returns-in-Refused
-returns-in-Refused cs l c =
+returns-in-Refused c cs l =
     let sound : let a = c.args in Openable a.n a.count a.landmarks.now a.tails.now a.heads.now a.weights.now
     × (row_count a.landmarks.now * a.n ≤ length a.forward.now) × (row_count a.landmarks.now * a.n ≤ length a.backward.now) = let a = c.args in network_accept a.n a.landmarks.now a.tails.now a.heads.now a.weights.now a.count a.forward.now a.backward.now c.requires.count_value in
     let room : row_count c.args.landmarks.now * c.args.n ≤ max_landmarks * properties * max_vertices = rows_most (length c.args.landmarks.now) c.args.n sound.0.landmarks.few sound.0.few in
-    let copied : let a = c.args in let k = c.copy_table.last in
+    let copied : let a = c.args in let k = c.copy_table.new in
     Alike a.n a.landmarks.now (network a.tails.now a.heads.now a.weights.now a.forward.now a.backward.now a.count)
-    (network k.1.1.1.1.0 k.1.1.1.1.1.0 k.1.1.1.1.1.1.0 c.copy.new.dst c.copy-2.new.dst a.count) = let k = c.copy_table.kept in
+    (network k.tails2 k.heads2 k.weights2 c.copy.new.dst c.copy-2.new.dst a.count) = let k = c.copy_table.auto in
     copied_alike c.args.n c.args.landmarks.now _ _ _ _ _ _ c.requires.count_value _ _ _ _ _ _ _
-    (record { tails = omega (arith, k.1.1.1.1.0); heads = omega (arith, k.1.1.1.1.1.0); weights = omega (arith, k.1.1.1.1.1.1.0) })
+    (record { tails = omega (arith, k.tails2); heads = omega (arith, k.heads2); weights = omega (arith, k.weights2) })
     c.copy_table.ensures (omega (arith, room, c.copy.auto.dst)) (omega (arith, room, c.copy-2.auto.dst)) c.copy.ensures c.copy-2.ensures in
     follows_refused _ _ _ _ c.requires.count_value copied _ _ cs _ _ c.in-Refused.is (c.batch_laid-applied.ensures cs l)
 
 pub returns-in-Done : goal.returns-in-Done
-returns-in-Done cs l c =
+returns-in-Done c cs l =
     let sound : let a = c.args in Openable a.n a.count a.landmarks.now a.tails.now a.heads.now a.weights.now
     × (row_count a.landmarks.now * a.n ≤ length a.forward.now) × (row_count a.landmarks.now * a.n ≤ length a.backward.now) = let a = c.args in network_accept a.n a.landmarks.now a.tails.now a.heads.now a.weights.now a.count a.forward.now a.backward.now c.requires.count_value in
     let room : row_count c.args.landmarks.now * c.args.n ≤ max_landmarks * properties * max_vertices = rows_most (length c.args.landmarks.now) c.args.n sound.0.landmarks.few sound.0.few in
-    let copied : let a = c.args in let k = c.copy_table.last in
+    let copied : let a = c.args in let k = c.copy_table.new in
     Alike a.n a.landmarks.now (network a.tails.now a.heads.now a.weights.now a.forward.now a.backward.now a.count)
-    (network k.1.1.1.1.0 k.1.1.1.1.1.0 k.1.1.1.1.1.1.0 c.copy.new.dst c.copy-2.new.dst a.count) = let k = c.copy_table.kept in
+    (network k.tails2 k.heads2 k.weights2 c.copy.new.dst c.copy-2.new.dst a.count) = let k = c.copy_table.auto in
     copied_alike c.args.n c.args.landmarks.now _ _ _ _ _ _ c.requires.count_value _ _ _ _ _ _ _
-    (record { tails = omega (arith, k.1.1.1.1.0); heads = omega (arith, k.1.1.1.1.1.0); weights = omega (arith, k.1.1.1.1.1.1.0) })
+    (record { tails = omega (arith, k.tails2); heads = omega (arith, k.heads2); weights = omega (arith, k.weights2) })
     c.copy_table.ensures (omega (arith, room, c.copy.auto.dst)) (omega (arith, room, c.copy-2.auto.dst)) c.copy.ensures c.copy-2.ensures in
     follows_asked _ _ _ _ c.requires.count_value copied _ _ cs _ _ _ _ c.in-Done.is
     (c.batch_laid-applied.ensures cs l) c.ask.ensures

@@ -1,5 +1,5 @@
 -- `plain_preview::judge_preview` meets its contract. Assumes nothing.
-use Rattle.property.proofs.Basics.{needs, lt-ltb, le-ltb}
+use Rattle.property.proofs.Basics.{lt-ltb, le-ltb}
 use Rattle.graph.specs.Limits.{max_batch}
 use Rattle.graph.proofs.Judging.{if_refused, if_judged, then_refused, then_judged}
 use Rattle.plain_preview.proofs.judge_preview.Goals as goal

@@ -1,5 +1,5 @@
 -- `plain_preview::preview_laid` meets its contract. Assumes nothing.
-use Rattle.property.proofs.Basics.{needs, arith, ◌≡◌, ◌≤◌, sym, ap, ◌∙◌, List, ◌++◌, ℕ, length, take, drop, replicate, take_at, length-take-le, length-append}
+use Rattle.property.proofs.Basics.{arith, ◌≡◌, ◌≤◌, sym, ap, ◌∙◌, List, ◌++◌, ℕ, length, take, drop, replicate, take_at, length-take-le, length-append}
 use Rattle.graph.specs.Limits.{max_vertices}
 use Rattle.graph.specs.Refusal.{accept, ◌▷◌}
 use Rattle.graph.specs.Table.{size}
@@ -31,7 +31,7 @@ at_most e h = omega arith
 
 -- ---- what it answers
 pub returns-in_default : goal.returns-in_default
-returns-in_default c =
+returns-in_default c cs l =
     let net : Network = let a = c.args in network a.tails.now a.heads.now a.weights.now a.forward.now a.backward.now a.count in
     let a = c.args in
     preview_faulty _ _ _ _ _ _ _ _ _ l.size c.in_default.is
@@ -58,7 +58,7 @@ ask-sooner-requires c =
     (few, zeros)
 
 pub returns-in_default-sooner : goal.returns-in_default-sooner
-returns-in_default-sooner c =
+returns-in_default-sooner c cs l =
     let net : Network = let a = c.args in network a.tails.now a.heads.now a.weights.now a.forward.now a.backward.now a.count in
     let first : let a = c.args in (long_batch a.size ▷ size a.n ▷ short_words a.n (length a.effects.now) (length a.moves.now)) ≡ accept = fine_accept _ _ c.judge_preview-judged.ensures c.in-Fine.is in
     let asked_says : let a = c.args in told c.ask-sooner.result ≡ (long_batch a.size ▷ query_faults a.n a.landmarks.now net (inquiry a.property a.source) (length a.effects.now) (length a.moves.now)) = let a = c.args in
@@ -95,7 +95,7 @@ ask_after-later-requires c =
     record { lists_len = (c.requires, zeros); count_value = passed_network passed }
 
 pub returns-in_default-later : goal.returns-in_default-later
-returns-in_default-later cs l c =
+returns-in_default-later c cs l =
     let net : Network = let a = c.args in network a.tails.now a.heads.now a.weights.now a.forward.now a.backward.now a.count in
     let first : let a = c.args in (long_batch a.size ▷ size a.n ▷ short_words a.n (length a.effects.now) (length a.moves.now)) ≡ accept = fine_accept _ _ c.judge_preview-judged.ensures c.in-Fine.is in
     let asked_says : let a = c.args in told c.ask-sooner.result ≡ (long_batch a.size ▷ query_faults a.n a.landmarks.now net (inquiry a.property a.source) (length a.effects.now) (length a.moves.now)) = let a = c.args in
@@ -157,7 +157,7 @@ show-requires c =
     (at_most (x ∙ sym after_back.size) (omega arith), at_most x s.starts, at_most x s.settled)
 
 pub returns : goal.returns
-returns cs l c =
+returns c cs l =
     let net : Network = let a = c.args in network a.tails.now a.heads.now a.weights.now a.forward.now a.backward.now a.count in
     let first : let a = c.args in (long_batch a.size ▷ size a.n ▷ short_words a.n (length a.effects.now) (length a.moves.now)) ≡ accept = fine_accept _ _ c.judge_preview-judged.ensures c.in-Fine.is in
     let few : c.args.n ≤ max_vertices = let a = c.args in (size_accept a.n (then_accept (size a.n) (short_words a.n (length a.effects.now) (length a.moves.now)) (then_accept (long_batch a.size) _ first).1).0).1 in

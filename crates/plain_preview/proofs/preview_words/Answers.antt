@@ -1,5 +1,5 @@
 -- `plain_preview::preview_words` meets its contract. Assumes nothing.
-use Rattle.property.proofs.Basics.{needs, arith, length}
+use Rattle.property.proofs.Basics.{arith, length}
 use Rattle.items.specs.Code.{changes_of}
 use Rattle.items.proofs.Laying.{part_all}
 use Rattle.plain_preview.proofs.preview_words.Goals as goal

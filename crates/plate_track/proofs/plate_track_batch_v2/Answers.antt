@@ -1,5 +1,5 @@
 -- `plate_track::plate_track_batch_v2` meets its contract. Assumes nothing.
-use Rattle.property.proofs.Basics.{needs, arith, ◌-◌, length}
+use Rattle.property.proofs.Basics.{arith, ◌-◌, length}
 use Rattle.items.proofs.Laying.{part_all}
 use Rattle.spelling.specs.Code.{report_words}
 use Rattle.plate_track.proofs.Spelling.{spelled_short, spelled_told}

@@ -1,5 +1,5 @@
 -- `plate_track::plate_track_choose` meets its contract. Assumes nothing.
-use Rattle.property.proofs.Basics.{needs, refl}
+use Rattle.property.proofs.Basics.{refl}
 use Rattle.spelling.specs.Code.{choice_words}
 use Rattle.plate_track.proofs.Spelling.{spelled_short, spelled_told}
 use Rattle.plate_track.proofs.plate_track_choose.Goals as goal

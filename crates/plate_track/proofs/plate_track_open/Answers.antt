@@ -1,5 +1,4 @@
 -- `plate_track::plate_track_open` meets its contract. Assumes nothing.
-use Rattle.property.proofs.Basics.{needs}
 use Rattle.spelling.specs.Code.{open_words}
 use Rattle.plate_track.proofs.Spelling.{spelled_short, spelled_told}
 use Rattle.plate_track.proofs.plate_track_open.Goals as goal
@@ -10,4 +9,4 @@ returns-then-reply-lt-REPLY_WORDS c =
 
 pub returns : goal.returns
 returns c =
-    spelled_told open_words _ _ _ _ c.if-reply-lt-REPLY_WORDS.false c.«open».ensures c.spell_open.ensures
+    spelled_told open_words _ _ _ _ c.if-reply-lt-REPLY_WORDS.false c.open-r.ensures c.spell_open.ensures

@@ -1,5 +1,4 @@
 -- `plate_track::plate_track_preview_v2` meets its contract. Assumes nothing.
-use Rattle.property.proofs.Basics.{needs}
 use Rattle.spelling.specs.Code.{open_words}
 use Rattle.plate_track.proofs.Spelling.{spelled_short, spelled_told}
 use Rattle.plate_track.proofs.plate_track_preview_v2.Goals as goal

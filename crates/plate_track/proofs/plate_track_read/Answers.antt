@@ -1,5 +1,4 @@
 -- `plate_track::plate_track_read` meets its contract. Assumes nothing.
-use Rattle.property.proofs.Basics.{needs}
 use Rattle.spelling.specs.Code.{size_words}
 use Rattle.plate_track.proofs.Spelling.{spelled_short, spelled_told}
 use Rattle.plate_track.proofs.plate_track_read.Goals as goal

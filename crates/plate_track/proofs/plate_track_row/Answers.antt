@@ -1,5 +1,5 @@
 -- `plate_track::plate_track_row` meets its contract. Assumes nothing.
-use Rattle.property.proofs.Basics.{needs, arith, ap, ◌∙◌, ℕ, ◌*◌}
+use Rattle.property.proofs.Basics.{arith, ap, ◌∙◌, ℕ, ◌*◌}
 use Rattle.network.specs.Query.{row_at}
 use Rattle.lookup.proofs.Showing.{Shown, lookup_accept}
 use Rattle.spelling.specs.Code.{one_word}

@@ -1,5 +1,5 @@
 -- `plate_track::plate_track_settled` meets its contract. Assumes nothing.
-use Rattle.property.proofs.Basics.{needs, ap}
+use Rattle.property.proofs.Basics.{ap}
 use Rattle.plate_track.specs.Code.{alone}
 use Rattle.spelling.specs.Code.{check_words}
 use Rattle.plate_track.proofs.Spelling.{spelled_short, spelled_told}

@@ -1,5 +1,4 @@
 -- `plate_track::plate_track_write` meets its contract. Assumes nothing.
-use Rattle.property.proofs.Basics.{needs}
 use Rattle.spelling.specs.Code.{one_word}
 use Rattle.plate_track.proofs.Spelling.{spelled_short, spelled_told}
 use Rattle.plate_track.proofs.plate_track_write.Goals as goal

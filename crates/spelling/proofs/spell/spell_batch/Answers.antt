@@ -1,5 +1,5 @@
 -- `spelling::spell::spell_batch` meets its contract. Assumes nothing.
-use Rattle.property.proofs.Basics.{needs, arith, length-set}
+use Rattle.property.proofs.Basics.{arith, length-set}
 use Rattle.apply.specs.Code.{applying}
 use Rattle.spelling.specs.Code.{report_words}
 use Rattle.spelling.proofs.Telling.{refused_tells, stored_tells}

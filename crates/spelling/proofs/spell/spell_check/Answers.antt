@@ -1,5 +1,5 @@
 -- `spelling::spell::spell_check` meets its contract. Assumes nothing.
-use Rattle.property.proofs.Basics.{needs, arith, length-set}
+use Rattle.property.proofs.Basics.{arith, length-set}
 use Rattle.settled_check.specs.Code.{checking}
 use Rattle.spelling.specs.Code.{check_words}
 use Rattle.spelling.proofs.Telling.{refused_tells, stored_tells}

@@ -1,5 +1,5 @@
 -- `spelling::spell::spell_digest` meets its contract. Assumes nothing.
-use Rattle.property.proofs.Basics.{needs, arith, length-set}
+use Rattle.property.proofs.Basics.{arith, length-set}
 use Rattle.digest.specs.Code.{digesting}
 use Rattle.spelling.specs.Code.{digest_words}
 use Rattle.spelling.proofs.Telling.{refused_tells, stored_tells}

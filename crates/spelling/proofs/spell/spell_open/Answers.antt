@@ -1,5 +1,5 @@
 -- `spelling::spell::spell_open` meets its contract. Assumes nothing.
-use Rattle.property.proofs.Basics.{needs, arith}
+use Rattle.property.proofs.Basics.{arith}
 use Rattle.open.specs.Code.{opening}
 use Rattle.spelling.specs.Code.{open_words}
 use Rattle.spelling.proofs.Telling.{refused_tells, stored_tells}

@@ -1,5 +1,5 @@
 -- `spelling::spell::spell_preview` meets its contract. Assumes nothing.
-use Rattle.property.proofs.Basics.{needs, arith}
+use Rattle.property.proofs.Basics.{arith}
 use Rattle.graph.specs.Refusal.{replied}
 use Rattle.graph.specs.Code.{told}
 use Rattle.spelling.specs.Code.{open_words}

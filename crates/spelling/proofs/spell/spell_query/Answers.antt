@@ -1,5 +1,5 @@
 -- `spelling::spell::spell_query` meets its contract. Assumes nothing.
-use Rattle.property.proofs.Basics.{needs, arith, length-set}
+use Rattle.property.proofs.Basics.{arith, length-set}
 use Rattle.query.specs.Code.{answering}
 use Rattle.spelling.specs.Code.{tally_words}
 use Rattle.spelling.proofs.Telling.{refused_tells, stored_tells}

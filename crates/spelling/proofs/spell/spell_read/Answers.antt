@@ -1,5 +1,5 @@
 -- `spelling::spell::spell_read` meets its contract. Assumes nothing.
-use Rattle.property.proofs.Basics.{needs, arith, length-set}
+use Rattle.property.proofs.Basics.{arith, length-set}
 use Rattle.reader.specs.Code.{reading}
 use Rattle.spelling.specs.Code.{size_words}
 use Rattle.spelling.proofs.Telling.{refused_tells, stored_tells}

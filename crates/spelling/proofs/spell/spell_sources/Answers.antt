@@ -1,5 +1,5 @@
 -- `spelling::spell::spell_sources` meets its contract. Assumes nothing.
-use Rattle.property.proofs.Basics.{needs, arith}
+use Rattle.property.proofs.Basics.{arith}
 use Rattle.sources.specs.Code.{reading}
 use Rattle.spelling.specs.Code.{one_word}
 use Rattle.spelling.proofs.Telling.{refused_tells, stored_tells}

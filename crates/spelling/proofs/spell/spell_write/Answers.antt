@@ -1,5 +1,5 @@
 -- `spelling::spell::spell_write` meets its contract. Assumes nothing.
-use Rattle.property.proofs.Basics.{needs, arith}
+use Rattle.property.proofs.Basics.{arith}
 use Rattle.writer.specs.Code.{writing}
 use Rattle.spelling.specs.Code.{one_word}
 use Rattle.spelling.proofs.Telling.{refused_tells, stored_tells}
