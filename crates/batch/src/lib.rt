@@ -25,7 +25,7 @@ pub struct Change {
 // The first `k` changes are copied to the five lists.
 pub fn copy_changes(changes: &[Change], k: usize, lists: &mut [u32])
     requires { (k ≤ length changes.now) × (k ≤ max_batch) × (length lists.old ≡ 5 * max_batch) }
-    ensures { lists.new ≡ copied changes.entry.now lists.old k }
+    ensures { lists.new ≡ copied changes.now lists.old k }
 {
     let mut i = 0;
     while i < k {
@@ -47,7 +47,7 @@ pub fn batch(
     backward: &mut [u32],
     changes: &[Change],
 ) -> Applied
-    ensures { batch_outcome result tails.new heads.new weights.new forward.new backward.new ≡ batch_call n landmarks.now (network tails.old heads.old weights.old forward.old backward.old count) (map recorded changes.entry.now) }
+    ensures { batch_outcome result tails.new heads.new weights.new forward.new backward.new ≡ batch_call n landmarks.now (network tails.old heads.old weights.old forward.old backward.old count) (map recorded changes.now) }
 {
     let mut lists = [0u32; items::BATCH_WORDS];
     copy_changes(

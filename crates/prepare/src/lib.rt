@@ -130,7 +130,7 @@ pub fn prepare(
     waiting: &mut Words,
 ) -> u64
     requires { Inside n net.now × Fit n old.now × (length old.now ≤ length other.now) × Fit n into.now × (length words.old ≡ n) }
-    ensures no_tally_after { (es fs : List Edge) → Batched n es fs old.now into.now net.now → Faces n es fs old.now other.now → (record { words = words.exit.now; waiting = bits n waiting.new; tally = no_tally } ≡ start.prepared (property p) es fs s words.entry.now n) × (result ≡ count_of (spec.affected (property p) es fs s words.entry.now n)) }
+    ensures no_tally_after { (es fs : List Edge) → Batched n es fs old.now into.now net.now → Faces n es fs old.now other.now → (record { words = words.new; waiting = bits n waiting.new; tally = no_tally } ≡ start.prepared (property p) es fs s words.old n) × (result ≡ count_of (spec.affected (property p) es fs s words.old n)) }
     ensures marks { Marks n waiting.new × (result ≤ max_vertices) }
 {
     let mut marks = frontier::empty();
