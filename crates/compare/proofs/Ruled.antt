@@ -52,6 +52,9 @@ module _ {n : ℕ} (s : Ruled n) where
       rw (edges_at _ _ _ _ s.room i (omega arith), edges_at _ _ _ _ s.room j l) at y
 
   module _ (e : Edge) where
+    pub passed_none : Past e 0
+    passed_none = record { within = omega arith; before = λ k i. absurd (omega arith) }
+
     pub passed_more : (j : ℕ) → Past e j → j < s.count → precedes (at j) e ≡ true → Past e (j + 1)
     passed_more j p l q = record { within = omega arith; before = λ k i. pick k i (ℕ_discrete k j) }
       where

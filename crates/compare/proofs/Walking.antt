@@ -25,7 +25,7 @@ use Rattle.graph.proofs.Order.{EdgeFacts, table_ordered}
 use Rattle.graph.proofs.Arcs.{head_arc, weight_arc}
 use Rattle.graph.proofs.Records.{edges_mem}
 use Rattle.compare.specs.Code.{before, after, Inside, Lacks, Unjoined, put, Tables}
-use Rattle.compare.proofs.Ruled.{Ruled, all, at, Past, at_facts, all_index, rises, passed_more, passed_absent, put_other, put_first, put_second}
+use Rattle.compare.proofs.Ruled.{Ruled, all, at, Past, at_facts, all_index, rises, passed_none, passed_more, passed_absent, put_other, put_first, put_second}
 
 -- ---- which edge comes first
 
@@ -117,6 +117,9 @@ pub record Half (fs : List Edge) (i g : ℕ) (f A : ℕ → Edge) : Type 0 where
   pub each : (k : ℕ) → k < g → 0 < (f k).weight → Noted fs i (f k) A
   pub every : (a : ℕ) → a < i → among fs (A a) ≡ false → (k : ℕ) × (k < g) × (f k ≡ A a)
 
+half_none : (fs : List Edge) (f A : ℕ → Edge) → Half fs 0 0 f A
+half_none fs f A = record { each = λ k l. absurd (omega arith); every = λ a l. absurd (omega arith) }
+
 module _ {fs : List Edge} {i g : ℕ} {f A : ℕ → Edge} (t : Half fs i g f A) where
   -- by another list that has the same
   half_moved : (h : ℕ → Edge) → ((k : ℕ) → k < g → h k ≡ f k) → Half fs i g h A
@@ -180,6 +183,18 @@ pub record Walk {n : ℕ} (s s' : Ruled n) (f h : ℕ → Edge) (i j g : ℕ) : 
   pub few : g ≤ i + j
   pub one : (k : ℕ) → k < g → eqb (f k).weight 0 ≡ not (eqb (h k).weight 0)
   pub ascends : (a b : ℕ) → a < b → b < g → precedes (the_one f h a) (the_one f h b) ≡ true
+
+side_start : {n : ℕ} (s s' : Ruled n) (f : ℕ → Edge) → Side s s' f 0 0 0
+side_start s s' f = record { listed = half_none _ _ _; behind = λ l. passed_none s' (at s 0); low = omega arith }
+
+pub walk_start : {n : ℕ} (s s' : Ruled n) (f h : ℕ → Edge) → Walk s s' f h 0 0 0
+walk_start s s' f h = record {
+  old = side_start s s' f;
+  new = side_start s' s h;
+  few = omega arith;
+  one = λ k l. absurd (omega arith);
+  ascends = λ a b k l. absurd (omega arith);
+}
 
 module _ {n : ℕ} {s s' : Ruled n} {f : ℕ → Edge} {i j g : ℕ} (t : Side s s' f i j g) where
   side_moved : (f' : ℕ → Edge) → ((k : ℕ) → k < g → f' k ≡ f k) → Side s s' f' i j g

@@ -15,7 +15,7 @@ use Rattle.rows.specs.declared.Rowed.{Rowed}
 use Rattle.network.specs.Network.{row_count, row, flat, stores_of}
 use Rattle.network.specs.Batch.{affected_in, batch_row, affected_over}
 use Rattle.network.proofs.Rows.{length_flat, batch_sized}
-use Rattle.rows.specs.Code.{RowLow, RowDone, RowsDone}
+use Rattle.rows.specs.Code.{RowLow, RowDone, RowsLow, RowsDone}
 use Rattle.calls.proofs.Flat.{range_suc, over_turn}
 
 -- ---- how large
@@ -37,6 +37,11 @@ counting_turn n xs ys a s r k v h zs b l d = record {
   within = omega arith;
   size = same_len_mid (r * n) (r * n + n - r * n) ys zs l ∙ v.size;
 }
+
+pub counting_done : (xs ys ls : List ℕ) (a s r : ℕ) (b : Rowed) → length ls ≤ 4 → Counting xs ys a s r (row_count ls) → row_count ls ≤ r → b.affected ≡ a → b.stores ≡ s → RowsLow b
+counting_done xs ys ls a s r b few v h q t =
+    let e : r ≡ row_count ls = (let x = v.within in omega arith) in
+    record { few = (let x = v.few in omega arith); low = (let x = v.low in omega arith) }
 
 -- ---- what they are
 

@@ -1,7 +1,7 @@
 // Prints the five values from every source of deck.ss to every vertex of deck.gr. Both files are read in the folder that it is started in.
 #![tactic(auto)]
 
-ghost use Rattle.std.specs.Prelude.{◌≡◌, ◌+◌, ◌*◌, ◌≤◌, length};
+ghost use Rattle.std.specs.Prelude.{◌≡◌, ◌+◌, ◌*◌, ◌≤◌, length, take};
 ghost use Rattle.graph.specs.Limits.{max_vertices, max_edges};
 ghost use Rattle.dimacs.specs.Sources.{max_sources};
 ghost use Rattle.listing.specs.Listing.{max_file};
@@ -45,7 +45,7 @@ fn line_buffer() -> [u8; listing::SOURCE_BYTES]
 
 // A file's bytes in front of `text`, as far as they can be read; none where it can't be opened.
 fn read_file(rt: &HostRuntime, name: &str, text: &mut [u8]) -> usize
-    ensures { result ≤ length text.new }
+    ensures { (result ≤ length text.new) × (result ≡ length (take result text.new)) }
 {
     let mut n = 0;
     let Ok(mut file) = File::open(rt, name) else {
