@@ -136,6 +136,7 @@ fn is_pair(list: &[u32], k: usize, j: usize) -> bool
 }
 
 // Whether changes `k` and `k + 1`, of `size`, are all of their pair, one of an old edge and one of a new: the edge is retuned.
+#[tactic(auto, using(crate::proofs::Joining::retune_end, crate::proofs::Joining::retune_unpaired, crate::proofs::Joining::retune_behind, crate::proofs::Joining::retune_ahead, crate::proofs::Joining::retune_test))]
 fn is_retune(list: &[u32], size: usize, k: usize) -> bool
     requires { (k < size) × (2 * size ≤ length list.now) }
     ensures { result ≡ is_retune list.now size k }
