@@ -3,7 +3,7 @@
 -- es is the list of edges before the batch, fs the list after it, s the landmark of the row, ws its words.
 --
 --   AnyOrder                == edges in any order, even some of them more than once, give the hunt the same marks, so that nothing seen from outside
---                              moves with it: proved as any-order
+--                              moves with it: proved as any_order
 --   TableOrder              == an index has a table's edges in the table's own order, so that a pass over an index from its last vertex to its first, and
 --                              over the edges of each from last to first, is one over the table's records from last to first: proved as table_order_lem
 --   Descends P s ws es == each held edge has its tail above its head

@@ -166,7 +166,7 @@ pub fn row_start(p: u32, n: usize, i: usize) -> usize
     (i * PROPERTIES + (p as usize - 1)) * n
 }
 
-// The number of the property of row `r` of a row list: `propertyOf r` is the property of that number.
+// The number of the property of row `r` of a row list: `property_of r` is the property of that number.
 pub fn row_property(r: usize) -> u32
     ensures { result ≡ suc (r % properties) }
 {

@@ -1,4 +1,4 @@
--- Words of n bits, one after the other: what is done to a word, said of the list of all bits, `bitsOfAll n ws`. Bit j of word q stands at
+-- Words of n bits, one after the other: what is done to a word, said of the list of all bits, `bits_of_all n ws`. Bit j of word q stands at
 -- q * n + j. Laws are for any width and any number of words. Assumes nothing.
 use Rattle.property.proofs.Basics.{◌≡◌, sym, ap, ◌∙◌, Bool, true, false, List, [], ◌∷◌, ◌++◌, ℕ, zero, suc, ◌+◌, ◌-◌, ◌*◌, ◌/◌, ◌%◌, ◌^◌, ◌≤◌, ◌<◌, not-suc-le-zero, le_of_suc-le-suc, suc-mul, zero-mul, zero-add, suc-add, div-add-mod', mod-eq_of_lt, add-one, arith, eqb, length, get_or, set, drop, length-append, get_or-append, drop-cons, drop-drop, drop-append-le, drop-append-add, get_or-drop}
 use native.Mathlib.Nat.{one-mul}

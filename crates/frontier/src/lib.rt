@@ -1,4 +1,4 @@
-// A frontier: one waiting bit for each vertex, in words of 64 bits. Each contract is an equation over `waitingOf`, the list of the bits,
+// A frontier: one waiting bit for each vertex, in words of 64 bits. Each contract is an equation over `waiting_of`, the list of the bits,
 // so that a caller reasons about a list of Bool alone. Each operation stands twice: a body that indexes a `&mut Words` lacks the fact that
 // there are `WORDS` words behind it, so it calls the form on slices, which serves any number of words.
 #![tactic(auto)]
@@ -8,7 +8,7 @@ pub mod slices;
 ghost use Rattle.std.specs.Prelude.{◌≡◌, true, false, ◌<◌, length, get_or, set, replicate};
 ghost use Rattle.frontier.specs.Waiting.{waiting_of, capacity, next_from, any_of, count_of};
 
-// How many words a frontier has, a bit for each of 256 vertices: `wordCount` of specs/Waiting.antt is the same number.
+// How many words a frontier has, a bit for each of 256 vertices: `word_count` of specs/Waiting.antt is the same number.
 pub const WORDS: usize = 4;
 
 pub type Words = [u64; WORDS];

@@ -38,7 +38,7 @@ module _ (n : ℕ) (ls : List ℕ) (es fs : List Edge) (xs : List ℕ) (inside :
       let f = affected_exact (property_of r) es fs (landmark_of ls r) (row n r xs) n inside.heads in
       rw e at (counted_marks A (affected_in n ls es fs xs r) 0 (λ t. rw zero-add (f t)))
 
-  -- The marks of a row are the closure (`affected-exact`), and the call sums how many they are over the rows.
+  -- The marks of a row are the closure (`affected_exact`), and the call sums how many they are over the rows.
   pub rows_affected : (rs : List ℕ) → TotalAffected n ls es fs xs rs (affected_over n ls es fs xs rs)
   unfolding affected_over
   rows_affected [] = claim.none

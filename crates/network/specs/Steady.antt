@@ -8,7 +8,7 @@
 --
 -- and the claims, each with its theorem in proofs/Stays.antt (the first two) or proofs/Steady.antt:
 --
---   OpenStays  == an accepted opening, on whatever words, leaves the table and the words past the rows                     open-stays
+--   OpenStays  == an accepted opening, on whatever words, leaves the table and the words past the rows                     open_stays
 --   BatchStays == so does an accepted batch of the words past the rows, and its table lists are zeroed past the new count   batch_stays
 --   EmptyBatch == on any network that numbers 1 to 4 let pass, whatever words its rows hold, the batch without changes is accepted; it
 --                   reports the count as before, no affected vertex and no store; each word of the row lists and each record stays  empty_batch

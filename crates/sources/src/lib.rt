@@ -14,7 +14,7 @@ use graph::{Judged, rules, words};
 use scanner::numbers::One;
 use scanner::{Feed, numbers};
 
-// COUNT is at most this, and the lent list has at least as many words: `maxSources` of the definitions. It is a limit of the format, apart
+// COUNT is at most this, and the lent list has at least as many words: `max_sources` of the definitions. It is a limit of the format, apart
 // from the number of vertices.
 pub const MAX_SOURCES: usize = 256;
 

@@ -3,5 +3,5 @@
 
 pub mod spell;
 
-// How many words a reply list has at least: `replyWords` of specs/Code.antt is the same number.
+// How many words a reply list has at least: `reply_words` of specs/Code.antt is the same number.
 pub const REPLY_WORDS: usize = 8;
