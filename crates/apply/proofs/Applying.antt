@@ -1,17 +1,17 @@
 -- What a batch leaves in the lent lists, from what its rows came to. Assumes nothing.
 use Rattle.property.proofs.Basics.{◌≡◌, ◌∙◌, List, map, ℕ, length}
+use Rattle.std.specs.Prelude.{Ok}
 use Rattle.graph.specs.Refusal.{accept, accepted, replied, choose}
 use Rattle.graph.specs.Edge.{Edge, reverse, edges}
 use Rattle.graph.specs.Index.{Own}
 use Rattle.graph.proofs.Order.{rules_accept, sound_fit, within}
 use Rattle.compare.specs.Code.{Tables, Differences}
-use Rattle.graph.specs.Code.{columns}
+use Rattle.graph.specs.Code.{reply_of, columns}
 use Rattle.apply.specs.declared.Report.{Report}
-use Rattle.apply.specs.declared.Applied.TheVariants as applied
 use Rattle.rows.specs.declared.Rowed.{Rowed}
 use Rattle.network.specs.Batch.{rewritten, still_waiting}
 use Rattle.sides.specs.Code.{Sides, SidesDone}
-use Rattle.apply.specs.Code.{applying, apply_call, batch_outcome}
+use Rattle.apply.specs.Code.{apply_call, batch_outcome}
 use Rattle.calls.specs.Code.{network}
 
 -- ---- what is written
@@ -19,8 +19,8 @@ use Rattle.calls.specs.Code.{network}
 -- nothing waits in any row
 pub apply_done : (n : ℕ) (ls ts hs ws f b : List ℕ) (m : ℕ) (fs : List Edge) (f' b' : List ℕ) (a : Rowed) → SidesDone n ls (edges ts hs ws m) fs f b f' b' a
     → still_waiting n ls (network ts hs ws f b m) fs ≡ accept → (r : Report) (ts' hs' ws' : List ℕ) → r.count ≡ length fs → r.affected ≡ a.affected → r.stores ≡ a.stores
-    → columns ts' hs' ws' ≡ rewritten fs (columns ts hs ws) → batch_outcome (applied.Done r) ts' hs' ws' f' b' ≡ apply_call n ls (network ts hs ws f b m) fs
-unfolding apply_call applying replied choose
+    → columns ts' hs' ws' ≡ rewritten fs (columns ts hs ws) → batch_outcome (Ok r) ts' hs' ws' f' b' ≡ apply_call n ls (network ts hs ws f b m) fs
+unfolding apply_call reply_of replied choose
 apply_done n ls ts hs ws f b m fs f' b' a d u r ts' hs' ws' c o s t =
     let l = o ∙ d.affected in
     let j = s ∙ d.stores in

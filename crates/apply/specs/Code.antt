@@ -3,11 +3,11 @@
 --   apply_call n ls w fs         == a batch after which the edges are fs: number 13, or the report and the lent lists
 --   reporting r, applying r      == the program's report and reply as document 01's
 --   batch_outcome r ts hs ws f b == the program's reply r and the lent lists at exit, as an outcome
-use Rattle.std.specs.Prelude.{List, ℕ}
-use Rattle.graph.specs.Refusal.{Reply, accepted, refused, Outcome, outcome}
+use Rattle.std.specs.Prelude.{List, ℕ, Result}
+use Rattle.graph.specs.declared.refusal.Refusal.{Refusal}
+use Rattle.graph.specs.Refusal.{Reply, Outcome, outcome}
 use Rattle.graph.specs.Edge.{Edge}
-use Rattle.apply.specs.declared.Applied.{Applied}
-use Rattle.apply.specs.declared.Applied.TheVariants as applied
+use Rattle.graph.specs.Code.{reply_of}
 use Rattle.apply.specs.declared.Report as declared
 use Rattle.network.specs.Network.{Memory, Network}
 use Rattle.network.specs.Batch.{Report, still_waiting, batch_memory, report}
@@ -19,9 +19,8 @@ apply_call n ls w fs = outcome (still_waiting n ls w fs) (report n ls w fs) (bat
 abbrev pub reporting : declared.Report → Report
 reporting r = record { count = r.count; affected = r.affected; stores = r.stores }
 
-unfoldable pub applying : Applied → Reply Report
-applying (applied.Done r) = accepted (reporting r)
-applying (applied.Refused k i) = refused k i
+abbrev pub applying : Result declared.Report Refusal → Reply Report
+applying r = reply_of reporting r
 
-abbrev pub batch_outcome : Applied → List ℕ → List ℕ → List ℕ → List ℕ → List ℕ → Outcome Report Memory
+abbrev pub batch_outcome : Result declared.Report Refusal → List ℕ → List ℕ → List ℕ → List ℕ → List ℕ → Outcome Report Memory
 batch_outcome r ts hs ws f b = record { reply = applying r; memory = lists ts hs ws f b }

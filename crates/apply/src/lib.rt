@@ -7,7 +7,7 @@ ghost use Rattle.calls.specs.Code.{network, Tabled};
 ghost use Rattle.sides.specs.Code.{Fair};
 ghost use Rattle.apply.specs.Code.{apply_call, batch_outcome};
 
-use graph::pack;
+use graph::{Refusal, pack};
 
 // The new count, and affected vertices and stores over all rows.
 #[derive(Drop)]
@@ -15,13 +15,6 @@ pub struct Report {
     pub count: u32,
     pub affected: u64,
     pub stores: u64,
-}
-
-// The reply to a batch.
-#[derive(Drop)]
-pub enum Applied {
-    Done(Report),
-    Refused(u32, usize),
 }
 
 // A batch with the new table at hand: its changes are listed and both tables indexed, then all rows are run in their place and the table is
@@ -39,7 +32,7 @@ pub fn apply(
     heads2: &[u32],
     weights2: &[u32],
     count2: usize,
-) -> Applied
+) -> Result<Report, Refusal>
     requires fair { Fair n landmarks.now (network tails.old heads.old weights.old forward.old backward.old count) }
     requires tabled { Tabled n count2 tails2.now heads2.now weights2.now }
     ensures { batch_outcome result tails.new heads.new weights.new forward.new backward.new ≡ apply_call n landmarks.now (network tails.old heads.old weights.old forward.old backward.old count) (edges tails2.now heads2.now weights2.now count2) }
@@ -70,7 +63,7 @@ pub fn apply(
         backward,
     );
     rewrite::write_table(count2, tails2, heads2, weights2, tails, heads, weights);
-    Applied::Done(Report {
+    Ok(Report {
         count: count2 as u32,
         affected: rows.affected,
         stores: rows.stores,

@@ -8,7 +8,8 @@ ghost use Rattle.calls.specs.Code.{network};
 ghost use Rattle.apply.specs.Code.{batch_outcome};
 ghost use Rattle.batch.specs.Code.{recorded, copied};
 
-use apply::Applied;
+use apply::Report;
+use graph::Refusal;
 use items::lay;
 
 // A change: kind 1 adds the edge from `tail` to `head` of weight `weight`, 2 takes it, and 3 gives the one of weight `old` the weight `weight`; `old` is 0 for
@@ -27,11 +28,8 @@ pub fn copy_changes(changes: &[Change], k: usize, lists: &mut [u32])
     requires { (k ≤ length changes.now) × (k ≤ max_batch) × (length lists.old ≡ 5 * max_batch) }
     ensures { lists.new ≡ copied changes.now lists.old k }
 {
-    let mut i = 0;
-    while i < k {
-        let c = changes[i];
+    for (i, c) in changes[..k].iter().enumerate() {
         lay::put_change(lists, i, c.kind, c.tail, c.head, c.weight, c.old);
-        i += 1;
     }
 }
 
@@ -46,15 +44,11 @@ pub fn batch(
     forward: &mut [u32],
     backward: &mut [u32],
     changes: &[Change],
-) -> Applied
+) -> Result<Report, Refusal>
     ensures { batch_outcome result tails.new heads.new weights.new forward.new backward.new ≡ batch_call n landmarks.now (network tails.old heads.old weights.old forward.old backward.old count) (map recorded changes.now) }
 {
     let mut lists = [0u32; items::BATCH_WORDS];
-    copy_changes(
-        changes,
-        graph::lesser(changes.len(), graph::MAX_BATCH),
-        &mut lists,
-    );
+    copy_changes(changes, changes.len().min(graph::MAX_BATCH), &mut lists);
     plain_batch::batch_laid(
         n,
         landmarks,

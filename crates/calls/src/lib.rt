@@ -12,19 +12,17 @@ ghost use Rattle.network.specs.Network as number;
 ghost use Rattle.network.specs.Query.{short_words, row_at};
 ghost use Rattle.calls.specs.Code.{row_lists, network};
 
-use graph::{Judged, rules};
+use graph::{Refusal, rules};
 use property::PROPERTIES;
 
 // Whether `v` is among the vertices from index `from` on.
 pub fn is_in(v: u32, vertices: &[u32], from: usize) -> bool
     ensures { result ≡ is_in v (drop from vertices.now) }
 {
-    let mut i = from;
-    while i < vertices.len() {
+    for i in from..vertices.len() {
         if v == vertices[i] {
             return true;
         }
-        i += 1;
     }
     false
 }
@@ -33,29 +31,25 @@ pub fn is_in(v: u32, vertices: &[u32], from: usize) -> bool
 fn are_landmarks(n: u32, vertices: &[u32]) -> bool
     ensures { result ≡ are_landmarks n vertices.now }
 {
-    let mut i = 0;
-    while i < vertices.len() {
-        let v = vertices[i];
+    for (i, &v) in vertices.iter().enumerate() {
         if v >= n {
             return false;
         }
         if is_in(v, vertices, i + 1) {
             return false;
         }
-        i += 1;
     }
     true
 }
 
 // Number 3: no landmark, over `MAX_LANDMARKS`, not a vertex, repeated.
-pub fn judge_landmarks(n: u32, landmarks: &[u32]) -> Judged
+pub fn judge_landmarks(n: u32, landmarks: &[u32]) -> Result<(), Refusal>
     ensures { told result ≡ number.landmarks n landmarks.now }
 {
     rules::refuse_if(
         (landmarks.len() == 0) | (landmarks.len() > graph::MAX_LANDMARKS)
             || !are_landmarks(n, landmarks),
-        3,
-        0,
+        Refusal::Landmarks,
     )
 }
 
@@ -70,14 +64,18 @@ fn is_short(words: usize, landmarks: usize, n: u32) -> bool
 }
 
 // Number 2: a row list has fewer than landmarks × properties × n words.
-pub fn judge_rows(n: u32, landmarks: &[u32], forward: &[u32], backward: &[u32]) -> Judged
+pub fn judge_rows(
+    n: u32,
+    landmarks: &[u32],
+    forward: &[u32],
+    backward: &[u32],
+) -> Result<(), Refusal>
     ensures { told result ≡ short_rows n landmarks.now (row_lists forward.now backward.now) }
 {
     let count = landmarks.len();
     rules::refuse_if(
         is_short(forward.len(), count, n) || is_short(backward.len(), count, n),
-        2,
-        0,
+        Refusal::Short,
     )
 }
 
@@ -90,13 +88,10 @@ pub fn judge_lists(
     weights: &[u32],
     forward: &[u32],
     backward: &[u32],
-) -> Judged
+) -> Result<(), Refusal>
     ensures { told result ≡ (short_table (columns tails.now heads.now weights.now) ▷ short_rows n landmarks.now (row_lists forward.now backward.now)) }
 {
-    let lengths = rules::judge_lengths(tails, heads, weights);
-    let Judged::Fine = lengths else {
-        return lengths;
-    };
+    rules::judge_lengths(tails, heads, weights)?;
     judge_rows(n, landmarks, forward, backward)
 }
 
@@ -108,14 +103,11 @@ pub fn judge_network(
     heads: &[u32],
     weights: &[u32],
     count: u32,
-) -> Judged
+) -> Result<(), Refusal>
     requires { Room max_edges tails.now heads.now weights.now }
     ensures { told result ≡ (number.landmarks n landmarks.now ▷ table n (columns tails.now heads.now weights.now) count) }
 {
-    let list = judge_landmarks(n, landmarks);
-    let Judged::Fine = list else {
-        return list;
-    };
+    judge_landmarks(n, landmarks)?;
     rules::judge_table(n, tails, heads, weights, count)
 }
 
@@ -129,26 +121,20 @@ pub fn judge_all(
     count: u32,
     forward: &[u32],
     backward: &[u32],
-) -> Judged
+) -> Result<(), Refusal>
     ensures { told result ≡ number.faults n landmarks.now (network tails.now heads.now weights.now forward.now backward.now count) }
 {
-    let size = rules::judge_size(n);
-    let Judged::Fine = size else {
-        return size;
-    };
-    let lists = judge_lists(n, landmarks, tails, heads, weights, forward, backward);
-    let Judged::Fine = lists else {
-        return lists;
-    };
+    rules::judge_size(n)?;
+    judge_lists(n, landmarks, tails, heads, weights, forward, backward)?;
     judge_network(n, landmarks, tails, heads, weights, count)
 }
 
 // Number 2: of two lists lent for the answer one has fewer than `n` words.
-pub fn judge_outputs(n: u32, a: usize, b: usize) -> Judged
+pub fn judge_outputs(n: u32, a: usize, b: usize) -> Result<(), Refusal>
     ensures { told result ≡ short_words n a b }
 {
     let words = n as usize;
-    rules::refuse_if((a < words) | (b < words), 2, 0)
+    rules::refuse_if((a < words) | (b < words), Refusal::Short)
 }
 
 // Whether `p` is the number of a property.

@@ -6,14 +6,13 @@
 --
 -- A change tells of the place of its edge as it was before, and of no other, since the places of a vertex are no other's. It leaves the weight
 -- after the batch there. An edge of no change stays, so that its own weight, which the copy of the index has, is the one after the batch.
-use Rattle.property.proofs.Basics.{◌≡◌, refl, sym, ap, subst, ◌∙◌, ◌⊎◌, inl, inr, ⊎_elim, Bool, true, cond, true≢false, List, ℕ, zero, suc, ◌+◌, ◌*◌, ◌≤◌, ◌<◌, ℕ_discrete, dec_lt, add-one, arith, length, get_or, set, drop, length-set, get_or-set_same, get_or-set_other, paste, get_or-append, eqb, leb, ltb, eqb-true, eq-eqb, leb-true, ltb-true, le-leb, lt-ltb}
-use Rattle.property.proofs.Tests.{is_false, by_test}
+use Rattle.property.proofs.Basics.{◌≡◌, refl, sym, ap, subst, ◌∙◌, ◌⊎◌, inl, inr, ⊎_elim, Bool, true, cond, true≢false, List, ℕ, zero, suc, ◌+◌, ◌*◌, ◌≤◌, ◌<◌, ℕ_discrete, dec_lt, add-one, arith, length, get_or, set, length-set, get_or-set_same, get_or-set_other, eqb, leb, ltb, eqb-true, eq-eqb, leb-true, ltb-true, le-leb, lt-ltb}
+use Rattle.property.proofs.Tests.{by_test}
 use Rattle.graph.specs.Arc.{arc, arc_head, arc_weight}
 use Rattle.graph.specs.Edge.{Edge, edge, among}
 use Rattle.graph.specs.Index.{edge_of, Fit, Own}
 use Rattle.graph.proofs.Tests.{both}
-use Rattle.graph.proofs.Arcs.{fit_arc, own_reads}
-use Rattle.graph.proofs.Copies.{paste_over}
+use Rattle.graph.proofs.Arcs.{own_reads}
 use Rattle.affected.specs.Net.{counterpart}
 use Rattle.affected.proofs.Net.{kept_weight}
 use Rattle.compare.specs.Code.{before, changes_in, Inside, Differences, tells_of, Faces}
@@ -26,9 +25,6 @@ pub record Stored (p : ℕ → Bool) (v j : ℕ) (os ys : List ℕ) : Type 0 whe
   pub rest : (i : ℕ) → j ≤ i → get_or ys i 0 ≡ get_or os i 0
 
 module _ (p : ℕ → Bool) (v j : ℕ) (os : List ℕ) where
-  pub stored_none : ((i : ℕ) → p i ≡ true → j ≤ i) → Stored p v j os os
-  stored_none h = record { size = refl; done = λ i l. rw (is_false (p i) (λ q. let z = h i q in omega arith)); rest = λ i l. refl }
-
   pub stored_turn : (w : ℕ) (ys : List ℕ) → Stored p v j os ys → j < length ys → w ≡ cond (p j) v (get_or ys j 0) → Stored p v (j + 1) os (set ys j w)
   stored_turn w ys t l q = record {
     size = length-set ys j w ∙ t.size;
@@ -39,12 +35,6 @@ module _ (p : ℕ → Bool) (v j : ℕ) (os : List ℕ) where
       at : (i : ℕ) → i < j + 1 → Dec (i ≡ j) → get_or (set ys j w) i 0 ≡ cond (p i) v (get_or os i 0)
       at i b (yes e) = rw e (get_or-set_same ys j w 0 l ∙ q ∙ ap (cond (p j) v) (t.rest j (omega arith)))
       at i b (no d) = get_or-set_other ys j i w 0 d ∙ t.done i (omega arith)
-
-  pub stored_done : (ys : List ℕ) → Stored p v j os ys → ((i : ℕ) → p i ≡ true → i < j) → (i : ℕ) → get_or ys i 0 ≡ cond (p i) v (get_or os i 0)
-  stored_done ys t h i = elim (dec_lt i j) [
-    | yes l ↦ t.done i l
-    | no d ↦ rw (is_false (p i) (λ q. d (h i q))) (t.rest i (omega arith))
-  ]
 
 -- ---- a place has one edge
 
@@ -96,11 +86,6 @@ Aligned xs is k os =
     → (counterpart es fs (edge_of is u j) ≡ arc_weight (get_or os j 0)) ⊎ ((arc_weight (get_or is j 0) ≡ arc_weight (get_or os j 0)) × ((i : ℕ) → i < k → before xs i ≡ edge_of is u j → ⊥))
 
 module _ (xs is os : List ℕ) where
-  pub aligned_none : (os₀ : List ℕ) → os ≡ paste os₀ 0 is (length is) → Aligned xs is 0 os
-  aligned_none os₀ q n es fs i f o d u j h a b =
-      let e = ap (λ (l : List ℕ). get_or l j 0) (q ∙ paste_over os₀ is (length is) refl) ∙ get_or-append is (drop (length is) os₀) 0 j (fit_arc f u j h a b).0 in
-      inr (ap arc_weight (sym e), λ k l. absurd (omega arith))
-
   pub aligned_turn : (ys : List ℕ) (k : ℕ) → k < changes_in xs → ((j : ℕ) → get_or ys j 0 ≡ cond (tells_of xs is k j) (get_or xs (2 * k + 1) 0) (get_or os j 0)) → Aligned xs is k os → Aligned xs is (k + 1) ys
   aligned_turn ys k l q s n es fs i f o d u j h a b = by_test (tells_of xs is k j)
       (λ e.

@@ -110,16 +110,6 @@ pub record Joined (xs ys : List ℕ) (g k : ℕ) : Type 0 where
   pub second : (i : ℕ) → i < k → is_retune xs g i ≡ true → ((before ys (i + 1)).weight ≡ 0) × ((after ys (i + 1)).weight ≡ 0)
   pub other : (i : ℕ) → (i < k → is_retune xs g i ≡ false) → (0 < i → i ≤ k → is_retune xs g (i - 1) ≡ false) → ((before ys i).weight ≡ (before xs i).weight) × ((after ys i).weight ≡ (after xs i).weight)
 
-pub joined_none : (xs : List ℕ) (g : ℕ) → Joined xs xs g 0
-joined_none xs g = record {
-  size = refl;
-  ends = λ i. (refl, refl);
-  first_old = λ i l. absurd (omega arith);
-  first_new = λ i l. absurd (omega arith);
-  second = λ i l. absurd (omega arith);
-  other = λ i p q. (refl, refl);
-}
-
 module _ (xs ys : List ℕ) (g k : ℕ) (t : Joined xs ys g k) where
   -- change k is as it was, but where it is the second of a retune
   kept : (0 < k → is_retune xs g (k - 1) ≡ false) → ((before ys k).weight ≡ (before xs k).weight) × ((after ys k).weight ≡ (after xs k).weight)

@@ -107,6 +107,7 @@ fn list_changes(
     let mut size = 0;
     let mut i = 0;
     let mut j = 0;
+    // kept as a `while`: two tables are walked at once, and a turn goes past an edge of one or of both.
     while i < count1 || j < count2 {
         let gone = is_due(
             i, count1, tails1, heads1, weights1, j, count2, tails2, heads2, weights2,
@@ -192,10 +193,8 @@ fn join_retunes(list: &mut [u32], size: usize)
     ensures list_len_unchanged { (length list.new ≡ length list.old) × ((n : ℕ) → Inside n (take (2 * size) list.old) → Inside n (take (2 * size) list.new)) }
     ensures by_index { (n : ℕ) (es fs : List Edge) → rules n es ≡ accept → rules n fs ≡ accept → Unjoined es fs size list.old → Differences es fs (take (2 * size) list.new) }
 {
-    let mut k = 0;
-    while k < size {
+    for k in 0..size {
         join_retune(list, size, k);
-        k += 1;
     }
 }
 
@@ -228,14 +227,12 @@ pub fn turn(list: &mut [u32])
     ensures { ((n : ℕ) → Inside n list.old → Inside n list.new) × ((es fs : List Edge) → Differences es fs list.old → Differences (map reverse es) (map reverse fs) list.new) }
 {
     let size = list.len() / 2;
-    let mut k = 0;
-    while k < size {
+    for k in 0..size {
         let at = 2 * k;
         let a = list[at];
         let b = list[at + 1];
         list[at] = arc::arc(arc::head(b), arc::weight(a));
         list[at + 1] = arc::arc(arc::head(a), arc::weight(b));
-        k += 1;
     }
 }
 
@@ -248,11 +245,8 @@ fn align_change(k: usize, net: &[u32], old: &[u32], other: &mut [u32])
     let t = arc::head(net[at]) as usize;
     let b = net[at + 1];
     let a = arc::arc(arc::head(b), arc::weight(net[at]));
-    let hi = old[t + 1] as usize;
-    let mut j = old[t] as usize;
-    while j < hi {
+    for j in old[t] as usize..old[t + 1] as usize {
         other[j] = chosen(old[j] == a, b, other[j]);
-        j += 1;
     }
 }
 
@@ -265,9 +259,7 @@ pub fn align(net: &[u32], old: &[u32], other: &mut [u32])
 {
     words::copy(old.len(), old, other, 0);
     let size = net.len() / 2;
-    let mut k = 0;
-    while k < size {
+    for k in 0..size {
         align_change(k, net, old, other);
-        k += 1;
     }
 }

@@ -9,7 +9,7 @@ ghost use Rattle.effects.specs.Code.{shown_of};
 ghost use Rattle.answers.specs.Digest as spec;
 ghost use Rattle.digest.specs.Code.{digesting};
 
-use graph::{Judged, rules};
+use graph::{Refusal, rules};
 
 // How many vertices gained a route, lost it, got better and got worse, and the one that loses most, or how many vertices there are where none loses.
 #[derive(Drop)]
@@ -21,26 +21,13 @@ pub struct Digest {
     pub most: u32,
 }
 
-// The reply to a digest.
-#[derive(Drop)]
-pub enum Digested {
-    Told(Digest),
-    Refused(u32, usize),
-}
-
 // Numbers 1, 2 and 5.
-fn judge_digest(n: u32, property: u32, effects: usize, moves: usize) -> Judged
+fn judge_digest(n: u32, property: u32, effects: usize, moves: usize) -> Result<(), Refusal>
     ensures { told result ≡ spec.digest_faults n property effects moves }
 {
-    let size = rules::judge_size(n);
-    let Judged::Fine = size else {
-        return size;
-    };
-    let lists = calls::judge_outputs(n, effects, moves);
-    let Judged::Fine = lists else {
-        return lists;
-    };
-    rules::refuse_if(!calls::is_property(property), 5, 0)
+    rules::judge_size(n)?;
+    calls::judge_outputs(n, effects, moves)?;
+    rules::refuse_if(!calls::is_property(property), Refusal::Property)
 }
 
 // Whether a move by `d` is one for the better.
@@ -78,12 +65,10 @@ fn count_effect(n: usize, e: u32, effects: &[u32]) -> u32
     ensures { result ≡ spec.how_many (λ t. eqb (spec.effect_at effects.now t) e) n }
 {
     let mut count = 0;
-    let mut t = 0;
-    while t < n {
-        if effects[t] == e {
+    for &effect in &effects[..n] {
+        if effect == e {
             count += 1;
         }
-        t += 1;
     }
     count
 }
@@ -94,13 +79,11 @@ fn count_moved(p: u32, n: usize, good: bool, effects: &[u32], moves: &[i64]) -> 
     ensures { result ≡ spec.how_many (λ t. eqb (spec.effect_at effects.now t) 3 && spec.moves_to (property p) good (spec.move_at moves.now t)) n }
 {
     let mut count = 0;
-    let mut t = 0;
-    while t < n {
+    for t in 0..n {
         let d = moves[t];
         if effects[t] == 3 && moves_to(p, good, d) {
             count += 1;
         }
-        t += 1;
     }
     count
 }
@@ -135,8 +118,7 @@ fn find_most(p: u32, n: usize, effects: &[u32], moves: &[i64]) -> usize
     ensures { (result ≡ spec.most (property p) n (shown_of effects.now moves.now)) × (result ≤ n) }
 {
     let mut most = n;
-    let mut t = 0;
-    while t < n {
+    for t in 0..n {
         let e = effects[t];
         let d = moves[t];
         if is_loser(p, e, d) {
@@ -150,21 +132,22 @@ fn find_most(p: u32, n: usize, effects: &[u32], moves: &[i64]) -> usize
                 }
             }
         }
-        t += 1;
     }
     most
 }
 
 // A digest of the effects and moves of `n` vertices, of a property.
-pub fn digest_preview(n: u32, property: u32, effects: &[u32], moves: &[i64]) -> Digested
+pub fn digest_preview(
+    n: u32,
+    property: u32,
+    effects: &[u32],
+    moves: &[i64],
+) -> Result<Digest, Refusal>
     ensures { digesting result ≡ spec.digest_call n property (shown_of effects.now moves.now) }
 {
-    let judged = judge_digest(n, property, effects.len(), moves.len());
-    if let Judged::Refused(number, place) = judged {
-        return Digested::Refused(number, place);
-    }
+    judge_digest(n, property, effects.len(), moves.len())?;
     let size = n as usize;
-    Digested::Told(Digest {
+    Ok(Digest {
         gained: count_effect(size, 1, effects),
         lost: count_effect(size, 2, effects),
         better: count_moved(property, size, true, effects, moves),

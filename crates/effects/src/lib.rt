@@ -42,6 +42,7 @@ fn effect_of(p: u32, before: u32, after: u32) -> Effect
 }
 
 // The number of an effect, and the move that it tells, go to place `i` of the two lists.
+// Kept as a match: `Both` carries its move, and a move of 0 has the number of `Neither`, so neither a derive nor `as u32` gives the numbers.
 fn put_effect(e: Effect, i: usize, effects: &mut [u32], moves: &mut [i64])
     requires { (i < length effects.old) × (i < length moves.old) }
     ensures { (effects.new ≡ set effects.old i (effect_number e)) × (moves.new ≡ set moves.old i (effect_move e)) }
@@ -71,9 +72,7 @@ pub fn show(p: u32, before: &[u32], after: &[u32], effects: &mut [u32], moves: &
     requires { (length before.now ≤ length after.now) × (length before.now ≤ length effects.old) × (length before.now ≤ length moves.old) }
     ensures { shown_of effects.new moves.new ≡ shown_of (over (map (λ t. effect_of (property p) (get_or before.now t 0) (get_or after.now t 0)) (range 0 (length before.now))) effects.old) (over (map (λ t. move_of (property p) (get_or before.now t 0) (get_or after.now t 0)) (range 0 (length before.now))) moves.old) }
 {
-    let mut t = 0;
-    while t < before.len() {
+    for t in 0..before.len() {
         put_effect(effect_of(p, before[t], after[t]), t, effects, moves);
-        t += 1;
     }
 }

@@ -1,8 +1,8 @@
 -- Worked examples, computed: four words in which vertices 63, 64 and 255 wait, on both sides of a word's end and at the last bit.
 -- Assumes nothing.
+use Rattle.std.specs.Prelude.{Some, None}
 use Rattle.property.proofs.Basics.{◌≡◌, refl, true, false, List, [], ◌∷◌, map, ℕ, ◌^◌, get_or, set, replicate}
 use Rattle.frontier.specs.Waiting.{bits_of, bits_of_all, waiting_of, seek, next_from, any_of, count_of}
-use Rattle.frontier.specs.declared.Next.TheVariants.{At, None}
 
 abbrev words : List ℕ
 words = 2 ^ 63 ∷ 1 ∷ 0 ∷ 2 ^ 63 ∷ []
@@ -18,7 +18,7 @@ unfolding bits_of bits_of_all
 waits = refl
 
 -- the next that waits, also at the number of bits and beyond it
-next : map (next_from (waiting_of words)) (0 ∷ 63 ∷ 64 ∷ 65 ∷ 255 ∷ 256 ∷ 300 ∷ []) ≡ At 63 ∷ At 63 ∷ At 64 ∷ At 255 ∷ At 255 ∷ None ∷ None ∷ []
+next : map (next_from (waiting_of words)) (0 ∷ 63 ∷ 64 ∷ 65 ∷ 255 ∷ 256 ∷ 300 ∷ []) ≡ Some 63 ∷ Some 63 ∷ Some 64 ∷ Some 255 ∷ Some 255 ∷ None ∷ None ∷ []
 unfolding bits_of bits_of_all seek
 next = refl
 

@@ -1,8 +1,8 @@
 -- What a caller uses of the answers: laws on any list of Bool, and on the list that any number of words holds. Assumes nothing.
-use Rattle.property.proofs.Basics.{◌≡◌, refl, sym, ap, ap₂, ◌∙◌, Bool, true, false, true≢false, false≢true, List, [], ◌∷◌, ◌++◌, append-nil, ℕ, zero, suc, ◌+◌, ◌-◌, ◌*◌, ◌≤◌, ◌<◌, not-suc-le-zero, le_of_suc-le-suc, suc-mul, zero-mul, arith, eqb-true, not-false, length, get_or, set, drop, replicate, length-drop, replicate-append-replicate, drop_of_length-le, get_or-drop}
+use Rattle.std.specs.Prelude.{Some, None}
+use Rattle.property.proofs.Basics.{◌≡◌, refl, sym, ap, ap₂, ◌∙◌, Bool, true, false, true≢false, false≢true, List, [], ◌∷◌, ◌++◌, ℕ, zero, suc, ◌+◌, ◌-◌, ◌*◌, ◌≤◌, ◌<◌, not-suc-le-zero, le_of_suc-le-suc, suc-mul, zero-mul, arith, eqb-true, not-false, length, get_or, set, drop, replicate, length-drop, replicate-append-replicate, get_or-drop}
 use Rattle.property.proofs.Tests.{is_false}
 use Rattle.frontier.specs.Waiting.{bits_of, bits_of_all, waiting_of, seek, next_from, any_of, count_of}
-use Rattle.frontier.specs.declared.Next.TheVariants.{At, None}
 use Rattle.frontier.proofs.Words.{bits_all_length}
 use Rattle.frontier.proofs.Counts.{any_count}
 
@@ -16,7 +16,7 @@ pub record First (l : List Bool) (i v : ℕ) : Type 0 where
   pub before : (k : ℕ) → i ≤ k → k < v → get_or l k false ≡ false
 
 -- the first of a list whose first place is b, by its place p in the list
-seek_at : (b : ℕ) (l : List Bool) (v : ℕ) → seek b l ≡ At v
+seek_at : (b : ℕ) (l : List Bool) (v : ℕ) → seek b l ≡ Some v
     → (p : ℕ) × (v ≡ b + p) × (p < length l) × (get_or l p false ≡ true) × ((k : ℕ) → k < p → get_or l k false ≡ false)
 unfolding seek
 seek_at b [] v e = let z : ◌≡◌ {A = ℕ} 0 1 = cc in absurd (omega arith)
@@ -40,7 +40,7 @@ seek_none b (false ∷ l) e (suc k) = seek_none (suc b) l e k
 left_at : (l : List Bool) (i k : ℕ) → i ≤ k → get_or (drop i l) (k - i) false ≡ get_or l k false
 left_at l i k h = let e : i + (k - i) ≡ k = omega arith in get_or-drop i l (k - i) false ∙ ap (λ (m : ℕ). get_or l m false) e
 
-pub next_first : (l : List Bool) (i v : ℕ) → next_from l i ≡ At v → First l i v
+pub next_first : (l : List Bool) (i v : ℕ) → next_from l i ≡ Some v → First l i v
 next_first l i v e =
     let r = seek_at i (drop i l) v e in
     let p : v - i ≡ r.0 = omega (arith, r.1) in
@@ -118,9 +118,3 @@ bits_all_zero n (suc k) =
 -- in words that are all 0 nobody waits
 pub waiting_zero : (k : ℕ) → waiting_of (replicate k 0) ≡ replicate (k * 64) false
 waiting_zero k = bits_all_zero 64 k
-
--- words that were made 0 one after the other, up to the last
-pub waiting_cleared : (vs ws : List ℕ) (k : ℕ) → vs ≡ replicate k 0 ++ drop k ws → k ≡ length ws → waiting_of vs ≡ replicate (64 * length ws) false
-waiting_cleared vs ws k e h =
-    let m : k * 64 ≡ 64 * length ws = omega arith in
-    rw (e, drop_of_length-le ws {i = k} (omega arith), append-nil {A = ℕ} (replicate k 0), waiting_zero k, m)

@@ -2,6 +2,7 @@
 --
 -- The bits from bit j of word q on are those of this word from j on, then the later words. With the bits below j masked the word may be looked
 -- at whole: either it is not 0, and its trailing zeros say where its lowest set bit is; or it is 0, and the search goes on at the next word.
+use Rattle.std.specs.Prelude.{Option, Some, None}
 use Rattle.property.proofs.Basics.{◌≡◌, sym, ap, ap₂, ◌∙◌, List, ◌++◌, ℕ, ◌+◌, ◌-◌, ◌*◌, ◌^◌, ◌≤◌, ◌<◌, arith, length, get_or, drop, drop_of_length-le}
 use native.Mathlib.Nat.{pos_of_ne-zero}
 use lib.Bits.{bit_and}
@@ -9,8 +10,6 @@ use lib.Count.{count_trailing_zeros, trailing_le}
 use mir.Syntax.{w64}
 use mir.Val.{Fits}
 use Rattle.frontier.specs.Waiting.{bits_of, waiting_of, seek, next_from}
-use Rattle.frontier.specs.declared.Next.{Next}
-use Rattle.frontier.specs.declared.Next.TheVariants.{At, None}
 use Rattle.frontier.proofs.Word.{seek_mask, seek_word, seek_zero}
 use Rattle.frontier.proofs.Words.{bits_all_length, bits_all_drop, bits_all_word, bits_all_from}
 
@@ -28,7 +27,7 @@ next_end ws q h = ap (seek (q * 64)) (drop_of_length-le (waiting_of ws) {i = q *
 
 module _ (ws : List ℕ) (q : ℕ) (h : q < length ws) where
   -- the first in w, or else in the words after word q
-  abbrev pub first : ℕ → Next
+  abbrev pub first : ℕ → Option ℕ
   first w = seek (q * 64) (bits_of 64 w ++ waiting_of (drop (q + 1) ws))
 
   -- from bit j of word q on, where m clears the bits below j
@@ -42,7 +41,7 @@ module _ (ws : List ℕ) (q : ℕ) (h : q < length ws) where
   next_whole = ap (seek (q * 64)) (bits_all_drop 64 ws q ∙ bits_all_word 64 ws q h)
 
   -- it is in this word
-  pub first_here : (w : ℕ) → w < 2 ^ 64 → (w ≡ 0 → ⊥) → first w ≡ At (q * 64 + count_trailing_zeros 64 w)
+  pub first_here : (w : ℕ) → w < 2 ^ 64 → (w ≡ 0 → ⊥) → first w ≡ Some (q * 64 + count_trailing_zeros 64 w)
   first_here w b p = seek_word 64 (q * 64) w (waiting_of (drop (q + 1) ws)) (pos_of_ne-zero p) b
 
   -- it is not in this word

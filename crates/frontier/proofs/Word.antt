@@ -1,5 +1,6 @@
 -- One word of n bits: what `|`, `&` and the count of trailing zeros have to do with the list of its bits, `bits_of n w`.
 -- Laws are for any width n, by induction on it. Assumes nothing.
+use Rattle.std.specs.Prelude.{Some}
 use Rattle.property.proofs.Basics.{◌≡◌, refl, sym, ap, ap₂, ◌∙◌, Bool, true, false, List, ◌∷◌, ◌++◌, ℕ, zero, suc, ◌+◌, ◌-◌, ◌*◌, ◌/◌, ◌%◌, ◌^◌, ◌≤◌, ◌<◌, min, max, not-suc-le-zero, le_of_suc-le-suc, add-zero, pow-suc, add-one, arith, eqb, length, get_or, set, drop}
 use native.Mathlib.Nat.{le-mul_of_pos_right, mul_comm, mul-sub, div-one}
 use native.Mathlib.Numerals.{one-add}
@@ -8,7 +9,6 @@ use lib.Pow.{pow-sub-lt, pow_pos, pow_mono, pow-lt, shr-shr, field, mod-mod-pow}
 use lib.Bits.{bit_and, bit_or, and_step, or_step, and_shr, or_shr, or_zero_r, and_mask}
 use lib.Count.{count_trailing_zeros, under}
 use Rattle.frontier.specs.Waiting.{odd, bits_of, seek}
-use Rattle.frontier.specs.declared.Next.TheVariants.{At}
 
 pub bits_length : (n w : ℕ) → length (bits_of n w) ≡ n
 unfolding bits_of
@@ -109,17 +109,17 @@ seek_mask (suc n) (suc j) i w l h =
     ∙ ap (λ (k : ℕ). seek k (drop j (bits_of n (w / 2)) ++ l)) s
 
 -- a word that is not 0 has its lowest set bit above its trailing zeros
-pub seek_word : (n i w : ℕ) (l : List Bool) → 0 < w → w < 2 ^ n → seek i (bits_of n w ++ l) ≡ At (i + count_trailing_zeros n w)
+pub seek_word : (n i w : ℕ) (l : List Bool) → 0 < w → w < 2 ^ n → seek i (bits_of n w ++ l) ≡ Some (i + count_trailing_zeros n w)
 unfolding bits_of seek count_trailing_zeros
 seek_word zero i w l p b = absurd (omega arith)
 seek_word (suc n) i w l p b =
     go (w % 2) refl (λ q. seek_word n (suc i) (w / 2) l q (omega (arith, pow-suc 2 n)))
   where
     go : (d : ℕ) → w % 2 ≡ d
-        → (0 < w / 2 → seek (suc i) (bits_of n (w / 2) ++ l) ≡ At (suc i + count_trailing_zeros n (w / 2)))
-        → seek i (eqb d 1 ∷ bits_of n (w / 2) ++ l) ≡ At (i + under d (count_trailing_zeros n (w / 2)))
-    go zero e rest = rest (omega arith) ∙ ap At (omega arith)
-    go (suc zero) e rest = ap At (sym (add-zero i))
+        → (0 < w / 2 → seek (suc i) (bits_of n (w / 2) ++ l) ≡ Some (suc i + count_trailing_zeros n (w / 2)))
+        → seek i (eqb d 1 ∷ bits_of n (w / 2) ++ l) ≡ Some (i + under d (count_trailing_zeros n (w / 2)))
+    go zero e rest = rest (omega arith) ∙ ap Some (omega arith)
+    go (suc zero) e rest = ap Some (sym (add-zero i))
     go (suc (suc d)) e rest = absurd (omega arith)
 
 -- a word that is 0 has none

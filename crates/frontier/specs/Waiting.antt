@@ -11,9 +11,7 @@
 --   next_from l i    == the first vertex at or after i that waits ("the lowest set bit at or after a given one")
 --   any_of l         == whether any vertex waits ("while any waits")
 --   count_of l       == how many vertices wait
-use Rattle.std.specs.Prelude.{Bool, true, false, List, [], ◌∷◌, ◌++◌, ℕ, zero, suc, ◌*◌, ◌/◌, ◌%◌, eqb, drop}
-use Rattle.frontier.specs.declared.Next.{Next}
-use Rattle.frontier.specs.declared.Next.TheVariants.{At, None}
+use Rattle.std.specs.Prelude.{Bool, true, false, List, [], ◌∷◌, ◌++◌, ℕ, zero, suc, ◌*◌, ◌/◌, ◌%◌, eqb, drop, Option, Some, None}
 
 -- ---- words as a list of Bool
 
@@ -41,12 +39,12 @@ capacity = word_count * 64
 
 -- ---- what is asked of a list of Bool
 
-unfoldable pub seek : ℕ → List Bool → Next
+unfoldable pub seek : ℕ → List Bool → Option ℕ
 seek i [] = None
-seek i (true ∷ l) = At i
+seek i (true ∷ l) = Some i
 seek i (false ∷ l) = seek (suc i) l
 
-abbrev pub next_from : List Bool → ℕ → Next
+abbrev pub next_from : List Bool → ℕ → Option ℕ
 next_from l i = seek i (drop i l)
 
 unfoldable pub any_of : List Bool → Bool

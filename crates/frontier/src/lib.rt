@@ -1,24 +1,15 @@
 // A frontier: one waiting bit for each vertex, in words of 64 bits. Each contract is an equation over `waiting_of`, the list of the bits,
-// so that a caller reasons about a list of Bool alone. Each operation stands twice: a body that indexes a `&mut Words` lacks the fact that
-// there are `WORDS` words behind it, so it calls the form on slices, which serves any number of words.
+// so that a caller reasons about a list of Bool alone. The operations are on any number of words; a frontier has `WORDS`.
+// Where bits are numbered or counted, a `usize` must be able to hold how many there are.
 #![tactic(auto)]
 
-pub mod slices;
-
-ghost use Rattle.std.specs.Prelude.{◌≡◌, true, false, ◌<◌, length, get_or, set, replicate};
+ghost use Rattle.std.specs.Prelude.{◌≡◌, true, false, ◌*◌, ◌^◌, ◌<◌, length, get_or, set, replicate};
 ghost use Rattle.frontier.specs.Waiting.{waiting_of, capacity, next_from, any_of, count_of};
 
 // How many words a frontier has, a bit for each of 256 vertices: `word_count` of specs/Waiting.antt is the same number.
 pub const WORDS: usize = 4;
 
 pub type Words = [u64; WORDS];
-
-// The next vertex that waits, or that there is none.
-#[derive(Drop)]
-pub enum Next {
-    At(usize),
-    None,
-}
 
 // Nobody waits.
 pub fn empty() -> Words
@@ -28,55 +19,80 @@ pub fn empty() -> Words
 }
 
 // Nobody waits any more.
-pub fn clear(ws: &mut Words)
-    ensures { waiting_of ws.new ≡ replicate capacity false }
+pub fn clear<const N: usize>(ws: &mut [u64; N])
+    ensures { waiting_of ws.new ≡ replicate (64 * N) false }
 {
-    slices::clear(ws);
+    ws.fill(0);
 }
 
 // Vertex `i` waits.
-pub fn insert(ws: &mut Words, i: usize)
-    requires { i < capacity }
+pub fn insert<const N: usize>(ws: &mut [u64; N], i: usize)
+    requires { i < 64 * N }
     ensures { waiting_of ws.new ≡ set (waiting_of ws.old) i true }
 {
-    slices::insert(ws, i);
+    ws[i / 64] |= 1u64 << (i % 64);
 }
 
 // Vertex `i` waits no more.
-pub fn remove(ws: &mut Words, i: usize)
-    requires { i < capacity }
+pub fn remove<const N: usize>(ws: &mut [u64; N], i: usize)
+    requires { i < 64 * N }
     ensures { waiting_of ws.new ≡ set (waiting_of ws.old) i false }
 {
-    slices::remove(ws, i);
+    ws[i / 64] &= !(1u64 << (i % 64));
 }
 
 // Whether vertex `i` waits.
-pub fn contains(ws: &Words, i: usize) -> bool
-    requires { i < capacity }
+pub fn contains<const N: usize>(ws: &[u64; N], i: usize) -> bool
+    requires { i < 64 * N }
     ensures { result ≡ get_or (waiting_of ws.now) i false }
 {
-    slices::contains(ws, i)
+    (ws[i / 64] >> (i % 64)) & 1 == 1
 }
 
-// The first vertex at or after `i` that waits. `size` is for callers: nothing else tells them how many bits lie behind a `&Words`.
-pub fn next_from(ws: &Words, i: usize) -> Next
-    requires { i < capacity }
-    ensures next { result ≡ next_from (waiting_of ws.now) i }
-    ensures size { length (waiting_of ws.now) ≡ capacity }
+// The first vertex from word `from` on that waits: the lowest set bit of the first word that is not 0.
+fn next_word<const N: usize>(ws: &[u64; N], from: usize) -> Option<usize>
+    requires { 64 * N < 2 ^ 64 }
+    ensures { result ≡ next_from (waiting_of ws.now) (from * 64) }
 {
-    slices::next_from(ws, i)
+    for k in from..N {
+        if ws[k] != 0 {
+            return Some(k * 64 + ws[k].trailing_zeros() as usize);
+        }
+    }
+    None
+}
+
+// The first vertex at or after `i` that waits: in the word of `i`, with the bits below `i` masked, or in the words after it.
+// `size` is for callers: nothing else tells them how many bits lie behind a `&Words`.
+pub fn next_from<const N: usize>(ws: &[u64; N], i: usize) -> Option<usize>
+    requires { (i < 64 * N) × (64 * N < 2 ^ 64) }
+    ensures next { result ≡ next_from (waiting_of ws.now) i }
+    ensures size { length (waiting_of ws.now) ≡ 64 * N }
+{
+    let k = i / 64;
+    let w = ws[k] & (u64::MAX << (i % 64));
+    if w != 0 {
+        return Some(k * 64 + w.trailing_zeros() as usize);
+    }
+    next_word(ws, k + 1)
 }
 
 // How many vertices wait.
-pub fn count(ws: &Words) -> usize
+pub fn count<const N: usize>(ws: &[u64; N]) -> usize
+    requires { 64 * N < 2 ^ 64 }
     ensures { result ≡ count_of (waiting_of ws.now) }
 {
-    slices::count(ws)
+    let mut n: usize = 0;
+    for w in ws {
+        n += w.count_ones() as usize;
+    }
+    n
 }
 
 // Whether any vertex waits.
-pub fn any(ws: &Words) -> bool
+pub fn any<const N: usize>(ws: &[u64; N]) -> bool
+    requires { 64 * N < 2 ^ 64 }
     ensures { result ≡ any_of (waiting_of ws.now) }
 {
-    slices::any(ws)
+    count(ws) != 0
 }

@@ -1,18 +1,7 @@
--- Copies and fills of lists of words: turns of their loops, and what a copy to the front of a list brings, also word by word. Assumes nothing.
-use Rattle.property.proofs.Basics.{◌≡◌, refl, ap, ◌∙◌, List, [], ◌∷◌, ◌++◌, ℕ, zero, suc, ◌+◌, ◌<◌, ◌≤◌, zero-add, add-one, arith, length, set, get_or, take, replicate, replicate-append-replicate, paste, take-suc-set, take_all, length-take-le}
-use lib.Seq.{paste-suc, drop-set-lt}
+-- Copies of lists of words: what a copy to the front of a list brings, also word by word. Assumes nothing.
+use Rattle.property.proofs.Basics.{◌≡◌, refl, ap, ◌∙◌, List, [], ◌∷◌, ◌++◌, ℕ, zero, suc, ◌<◌, ◌≤◌, zero-add, arith, length, set, get_or, take, paste, take_all, length-take-le}
+use lib.Seq.{drop-set-lt}
 use Rattle.graph.specs.Refusal.{over}
-
--- ---- turns of the loops
-
-pub copy_turn : (src d e : List ℕ) (at i : ℕ) → i < length src → at + i < length d → e ≡ paste d at src i → set e (at + i) (get_or src i 0) ≡ paste d at src (i + 1)
-copy_turn src d e at i hs hd h = rw (h, add-one) (paste-suc d at src i 0 hd hs)
-
-pub fill_turn : (d : List ℕ) (i v : ℕ) → i < length d → take i d ≡ replicate i v → take (i + 1) (set d i v) ≡ replicate (i + 1) v
-fill_turn d i v l h = rw (← replicate-append-replicate i 1 v, add-one, take-suc-set d i v l, h)
-
-pub fill_done : (d : List ℕ) (i k v : ℕ) → length d ≡ k → i ≡ k → take i d ≡ replicate i v → d ≡ replicate k v
-fill_done d i k v l e h = rw (e, take_all k d (omega arith)) at h
 
 -- ---- copies to the front: of some words, of a whole list, of a list over one as long
 

@@ -1,23 +1,25 @@
 -- The rules of a table, judged record by record; chains of refusals as the code judges them. Assumes nothing.
 use Rattle.property.proofs.Basics.{◌≡◌, sym, ap, ◌∙◌, Bool, true, false, List, ℕ, ◌+◌, ◌-◌, ◌<◌, ◌≤◌, add-one, arith, length, drop, eqb, ltb, ltb-false, eqb-false, lt-ltb, le-ltb}
-use Rattle.graph.specs.declared.Judged.{Judged}
-use Rattle.graph.specs.declared.Judged.TheVariants.{Fine, Refused}
+use Rattle.std.specs.Prelude.{Result, Ok, Err, IsErrAnd}
+use Rattle.std.proofs.lemmas.Result.{err_from_is_err_and}
+use Rattle.graph.specs.declared.refusal.Refusal.{Refusal}
+use Rattle.graph.specs.declared.refusal.Refusal.TheVariants as refusal
 use Rattle.graph.specs.Limits.{max_vertices, max_edges}
 use Rattle.graph.specs.Refusal.{Verdict, accept, ◌▷◌, refuse_if}
 use Rattle.graph.specs.Edge.{edges}
 use Rattle.graph.specs.Table.{Columns, edges_of, is_edge, follow, rules, size, short_table, table, bare_faults}
 use Rattle.graph.specs.Sorted as order
-use Rattle.graph.specs.Code.{told, Room, columns, edge_at, keeps}
+use Rattle.graph.specs.Code.{number, place, told, Room, columns, edge_at, keeps}
 use Rattle.graph.proofs.Tests.{neither}
 use Rattle.graph.proofs.Verdicts.{then_accept, if_accept}
 use Rattle.graph.proofs.Records.{edges_more, edges_none}
 
 module _ (ts hs ws : List ℕ) (m : ℕ) (r : Room m ts hs ws) (n : ℕ) where
-  pub rules_none : m ≡ 0 → told Fine ≡ rules n (edges ts hs ws m)
+  pub rules_none : m ≡ 0 → told (Ok tt) ≡ rules n (edges ts hs ws m)
   unfolding told order.rules
   rules_none e = rw (edges_none ts hs ws m r 0 (omega arith))
 
-  pub rules_broken : 0 < m → is_edge n (edge_at ts hs ws 0) ≡ false → told (Refused 4 0) ≡ rules n (edges ts hs ws m)
+  pub rules_broken : 0 < m → is_edge n (edge_at ts hs ws 0) ≡ false → told (Err (refusal.Table 0)) ≡ rules n (edges ts hs ws m)
   unfolding told order.rules refuse_if ◌▷◌
   rules_broken l e = rw (edges_more ts hs ws m r 0 l, e)
 
@@ -30,11 +32,11 @@ module _ (ts hs ws : List ℕ) (m : ℕ) (r : Room m ts hs ws) (n : ℕ) where
     unfolding order.follow refuse_if ◌▷◌
     follow_more l e = let x : k + 1 - 1 ≡ k = omega arith in rw (x, add-one) (rw (edges_more ts hs ws m r k l, e, add-one) at h)
 
-    pub follow_broken : k < m → keeps n ts hs ws k ≡ false → told (Refused 4 k) ≡ v
+    pub follow_broken : k < m → keeps n ts hs ws k ≡ false → told (Err (refusal.Table k)) ≡ v
     unfolding told order.follow refuse_if ◌▷◌
     follow_broken l e = rw (edges_more ts hs ws m r k l, e) at h
 
-    pub follow_none : m ≤ k → told Fine ≡ v
+    pub follow_none : m ≤ k → told (Ok tt) ≡ v
     unfolding told order.follow
     follow_none l = rw (edges_none ts hs ws m r k l) at h
 
@@ -47,32 +49,36 @@ pub table_judged : (n m : ℕ) (ts hs ws : List ℕ) {v : Verdict} → m ≤ max
 unfolding refuse_if ◌▷◌
 table_judged n m ts hs ws l e = rw (le-ltb max_edges m l) e
 
-pub table_crowded : (n m : ℕ) (ts hs ws : List ℕ) → max_edges < m → told (Refused 4 0) ≡ table n (columns ts hs ws) m
+pub table_crowded : (n m : ℕ) (ts hs ws : List ℕ) → max_edges < m → told (Err (refusal.Table 0)) ≡ table n (columns ts hs ws) m
 unfolding told refuse_if ◌▷◌
 table_crowded n m ts hs ws l = rw (lt-ltb max_edges m l)
 
 -- ---- chains of refusals: an earlier one is given, a later one only where the earlier is fine
 
-pub then_refused : (a : Judged) (k i : ℕ) (v w : Verdict) → told a ≡ v → a ≡ Refused k i → told a ≡ (v ▷ w)
-unfolding told ◌▷◌
-then_refused a k i v w e q = rw (← e, q)
+-- what a `?` gives back is the refusal that it met
+pub passed_on : {A : Type 0} {e : Refusal} (r : Result A Refusal) → IsErrAnd r (λ d. d ≡ e) → r ≡ Err e
+passed_on r h = let p = err_from_is_err_and r h in rw (p.1, p.2)
 
-pub then_judged : (a b : Judged) (v w : Verdict) → told a ≡ v → a ≡ Fine → told b ≡ w → told b ≡ (v ▷ w)
+pub then_refused : (e : Refusal) (v w : Verdict) → told (Err e) ≡ v → told (Err e) ≡ (v ▷ w)
 unfolding told ◌▷◌
-then_judged a b v w e q f = rw (← e, q) f
+then_refused e v w h = rw (sym h)
+
+pub then_judged : (b : Result (Unit {0}) Refusal) (v w : Verdict) → told (Ok tt) ≡ v → told b ≡ w → told b ≡ (v ▷ w)
+unfolding told ◌▷◌
+then_judged b v w h f = rw (sym h) f
 
 -- the same for a test in the code
-pub if_refused : (t : Bool) (k i : ℕ) (w : Verdict) → t ≡ true → told (Refused k i) ≡ (refuse_if t k i ▷ w)
+pub if_refused : (t : Bool) (e : Refusal) (w : Verdict) → t ≡ true → told (Err e) ≡ (refuse_if t (number e) (place e) ▷ w)
 unfolding told refuse_if ◌▷◌
-if_refused t k i w e = rw e
+if_refused t e w h = rw h
 
-pub if_judged : (t : Bool) (k i : ℕ) (b : Judged) (w : Verdict) → t ≡ false → told b ≡ w → told b ≡ (refuse_if t k i ▷ w)
+pub if_judged : (t : Bool) (k i : ℕ) (b : Result (Unit {0}) Refusal) (w : Verdict) → t ≡ false → told b ≡ w → told b ≡ (refuse_if t k i ▷ w)
 unfolding refuse_if ◌▷◌
 if_judged t k i b w e f = rw e f
 
-pub fine_accept : (a : Judged) (v : Verdict) → told a ≡ v → a ≡ Fine → v ≡ accept
+pub fine_accept : (v : Verdict) → told (Ok tt) ≡ v → v ≡ accept
 unfolding told
-fine_accept a v e q = sym e ∙ ap told q
+fine_accept v e = sym e
 
 -- ---- what acceptance says of each
 

@@ -1,7 +1,7 @@
 -- Look-up in the lists of a table, by the words that stand at the place that the order gives. Assumes nothing.
+use Rattle.std.specs.Prelude.{Some, None}
 use Rattle.property.proofs.Basics.{◌≡◌, sym, ap, ◌∙◌, Bool, true, false, List, ℕ, ◌+◌, ◌-◌, ◌/◌, ◌<◌, ◌≤◌, arith, length, get_or}
 use Rattle.property.proofs.Tests.{is_false}
-use Rattle.graph.specs.declared.Found.TheVariants.{At, Absent}
 use Rattle.graph.specs.Refusal.{accept}
 use Rattle.graph.specs.Edge.{Edge, edge, precedes, edges}
 use Rattle.graph.specs.Table.{is_edge, rules}
@@ -38,10 +38,10 @@ module _ (ts hs ws : List ℕ) (m : ℕ) (r : Room m ts hs ws) (n : ℕ) (a : ru
   there : i < m → get_or (edges ts hs ws m) (position (edge t h w) (edges ts hs ws m)) (edge 0 0 0) ≡ edge_at ts hs ws i
   there l = ap (λ (k : ℕ). get_or (edges ts hs ws m) k (edge 0 0 0)) (sym p) ∙ edges_at ts hs ws m r i l
 
-  pub find_same : i < m → get_or ts i 0 ≡ t → get_or hs i 0 ≡ h → get_or ws i 0 ≡ w → At i ≡ find (edge t h w) (edges ts hs ws m)
-  find_same l e f g = ap At p ∙ find_here table_ordered (edge 0 0 0) (edge t h w) (edges ts hs ws m) (below l) (rw (there l, e, f, g) (same_own (edge t h w)))
+  pub find_same : i < m → get_or ts i 0 ≡ t → get_or hs i 0 ≡ h → get_or ws i 0 ≡ w → Some i ≡ find (edge t h w) (edges ts hs ws m)
+  find_same l e f g = ap Some p ∙ find_here table_ordered (edge 0 0 0) (edge t h w) (edges ts hs ws m) (below l) (rw (there l, e, f, g) (same_own (edge t h w)))
 
-  pub find_other : (i < m → get_or ts i 0 ≡ t → get_or hs i 0 ≡ h → get_or ws i 0 ≡ w → ⊥) → Absent ≡ find (edge t h w) (edges ts hs ws m)
+  pub find_other : (i < m → get_or ts i 0 ≡ t → get_or hs i 0 ≡ h → get_or ws i 0 ≡ w → ⊥) → None ≡ find (edge t h w) (edges ts hs ws m)
   find_other ne = find_none table_ordered (edge 0 0 0) (is_edge n) (edge t h w) (edges ts hs ws m) (rules_accept n _ a)
       (λ l. let k : i < m = (let z = edges_length ts hs ws m r in omega arith) in
       rw (there k) (is_false _ (λ q. let z = sym (same_eq (edge t h w) (edge_at ts hs ws i) q) in ne k (ap (λ e. e.tail) z) (ap (λ e. e.head) z) (ap (λ e. e.weight) z))))

@@ -1,7 +1,7 @@
 -- Where the keys end, and how many are below. Assumes nothing.
-use Rattle.property.proofs.Basics.{◌≡◌, sym, ap, ◌∙◌, ⊎_elim, ◌≢◌, List, [], ◌∷◌, ℕ, zero, suc, ◌+◌, ◌<◌, ◌≤◌, max, arith, dec_lt, length, get_or, set, take, length-take-le, get_or-take, lt-ltb, le-ltb}
+use Rattle.property.proofs.Basics.{◌≡◌, ap, ⊎_elim, ◌≢◌, List, [], ◌∷◌, ℕ, zero, suc, ◌+◌, ◌<◌, ◌≤◌, max, arith, dec_lt, length, get_or, set, take, length-take-le, get_or-take, lt-ltb, le-ltb}
 use Rattle.graph.specs.Code.{below}
-use Rattle.graph.specs.Parted.{Ascending, Ends, Parted}
+use Rattle.graph.specs.Parted.{Ends, Parted}
 use Rattle.graph.proofs.Lists.{at_set}
 
 -- a place that parts the keys says how many are below
@@ -12,23 +12,6 @@ parted_below (x ∷ ks) u zero p = rw (le-ltb x u (p.2 0 (omega arith) (omega ar
 parted_below (x ∷ ks) u (suc j) p =
     let a = p.0 in
     rw (lt-ltb x u (p.1 0 (omega arith))) (ap suc (parted_below ks u j (omega arith, (λ i l. p.1 (suc i) (omega arith)), (λ i a b. p.2 (suc i) (omega arith) (omega arith)))))
-
--- one key more
-pub ends_turn : (m k : ℕ) (ks es : List ℕ) → Ascending m ks → k < m → get_or ks k 0 + 1 < length es → Ends k ks es → Ends (k + 1) ks (set es (get_or ks k 0 + 1) (k + 1))
-ends_turn m k ks es a l s h u = ⊎_elim same other (at_set es (get_or ks k 0 + 1) (k + 1) u 0 s)
-  where
-    Goal : ℕ → Type 0
-    Goal e = (e ≤ k + 1) × ((i : ℕ) → i < e → get_or ks i 0 < u) × ((i : ℕ) → i < k + 1 → get_or ks i 0 + 1 ≡ u → i < e)
-
-    same : (u ≡ get_or ks k 0 + 1) × (get_or (set es (get_or ks k 0 + 1) (k + 1)) u 0 ≡ k + 1) → Goal (get_or (set es (get_or ks k 0 + 1) (k + 1)) u 0)
-    same (p, q) = rw q (omega arith, (λ i b. let z = a i k (omega arith) l in omega arith), (λ i b e. b))
-
-    last : (i : ℕ) → i < k + 1 → u ≢ get_or ks k 0 + 1 → get_or ks i 0 + 1 ≡ u → Dec (i < k) → i < get_or es u 0
-    last i b p e (yes c) = (h u).2 i c e
-    last i b p e (no c) = let z : i ≡ k = omega arith in absurd (p (sym e ∙ ap (λ (x : ℕ). get_or ks x 0 + 1) z))
-
-    other : (u ≢ get_or ks k 0 + 1) × (get_or (set es (get_or ks k 0 + 1) (k + 1)) u 0 ≡ get_or es u 0) → Goal (get_or (set es (get_or ks k 0 + 1) (k + 1)) u 0)
-    other (p, q) = rw q ((let z = (h u).0 in omega arith), (h u).1, (λ i b e. last i b p e (dec_lt i k)))
 
 -- one vertex more
 pub parted_turn : (m k c : ℕ) (ks es : List ℕ) → Ends m ks es → Parted m ks k c → Parted m ks (k + 1) (max c (get_or es (k + 1) 0))
@@ -45,15 +28,6 @@ parted_turn m k c ks es h p = (
     above : (i : ℕ) → max c (get_or es (k + 1) 0) ≤ i → k ≤ get_or ks i 0 → i < m → Dec (k < get_or ks i 0) → k + 1 ≤ get_or ks i 0
     above i a z b (yes d) = omega arith
     above i a z b (no d) = let w = (h (k + 1)).2 i b (omega arith) in absurd (omega arith)
-
-pub parted_first : (m : ℕ) (ks es : List ℕ) → Ends m ks es → (u : ℕ) → u ≤ 0 → Parted m ks u (get_or es u 0)
-parted_first m ks es h u l = ((h u).0, (h u).1, (λ i a b. omega arith))
-
-pub ends_none : (ks es : List ℕ) → ((u : ℕ) → get_or es u 0 ≡ 0) → Ends 0 ks es
-ends_none ks es z u = let e = z u in (omega arith, (λ i l. absurd (omega arith)), (λ i l. absurd (omega arith)))
-
-pub ends_done : (m k : ℕ) (ks es : List ℕ) → k ≤ m → m ≤ k → Ends k ks es → Ends m ks es
-ends_done m k ks es a b h = let e : k ≡ m = omega arith in rw e at h
 
 -- the word after k becomes the greater of itself and the word at k
 pub carry_turn : (k v : ℕ) (es₀ es : List ℕ) → k + 1 < length es → v ≡ max (get_or es k 0) (get_or es (k + 1) 0)

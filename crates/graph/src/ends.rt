@@ -1,18 +1,11 @@
 // The first edge of each tail of a table that keeps the rules: tails never fall, so each edge stores where its tail ends so far, and no store
 // waits for the one before it.
-ghost use Rattle.std.specs.Prelude.{◌≡◌, List, ℕ, ◌+◌, ◌<◌, ◌≤◌, max, length, get_or, take};
+ghost use Rattle.std.specs.Prelude.{◌≡◌, List, ℕ, ◌+◌, ◌<◌, ◌≤◌, length, get_or, take};
 ghost use Rattle.graph.specs.Limits.{max_edges};
 ghost use Rattle.graph.specs.Code.{Keyed, Firsts};
 ghost use Rattle.graph.specs.Parted.{Ascending, Ends, Parted};
 
 use super::words;
-
-// The greater of two words.
-fn greater(a: u32, b: u32) -> u32
-    ensures { result ≡ max a b }
-{
-    if a < b { b } else { a }
-}
 
 // Each key stores how many keys there are up to it, at the word after its own.
 fn store_ends(count: usize, keys: &[u32], ends: &mut [u32])
@@ -20,11 +13,8 @@ fn store_ends(count: usize, keys: &[u32], ends: &mut [u32])
     requires by_index { ((k : ℕ) → k < count → get_or keys.now k 0 + 1 < length ends.old) × ((u : ℕ) → get_or ends.old u 0 ≡ 0) }
     ensures { Ends count keys.now ends.new }
 {
-    let mut k = 0;
-    while k < count {
-        let u = keys[k] as usize + 1;
-        k += 1;
-        ends[u] = k as u32;
+    for k in 0..count {
+        ends[keys[k] as usize + 1] = k as u32 + 1;
     }
 }
 
@@ -33,11 +23,8 @@ fn carry_ends(n: usize, ends: &mut [u32])
     requires { n < length ends.old }
     ensures { (m : ℕ) (ks : List ℕ) → Ends m ks ends.old → (u : ℕ) → u ≤ n → Parted m ks u (get_or ends.new u 0) }
 {
-    let mut k = 0;
-    while k < n {
-        let next = k + 1;
-        ends[next] = greater(ends[k], ends[next]);
-        k += 1;
+    for k in 0..n {
+        ends[k + 1] = ends[k].max(ends[k + 1]);
     }
 }
 

@@ -6,10 +6,11 @@ pub mod edit;
 pub mod ends;
 pub mod keys;
 pub mod pack;
+pub mod refusal;
 pub mod rules;
 pub mod words;
 
-ghost use Rattle.std.specs.Prelude.{◌≡◌, min};
+pub use refusal::Refusal;
 
 // The limits of a network, each named once.
 pub const MAX_VERTICES: u32 = 256;
@@ -33,24 +34,3 @@ pub const PLACE_WORDS: usize = VERTEX_WORDS + 1;
 pub const INDEX_WORDS: usize = PLACE_WORDS + MAX_EDGES;
 
 pub const ROW_WORDS: usize = MAX_LANDMARKS * property::PROPERTIES * VERTEX_WORDS;
-
-// A refusal with its number and place, or none.
-#[derive(Clone, Copy)]
-pub enum Judged {
-    Fine,
-    Refused(u32, usize),
-}
-
-// Where an edge stands.
-#[derive(Drop)]
-pub enum Found {
-    At(usize),
-    Absent,
-}
-
-// The lesser of two counts.
-pub fn lesser(a: usize, b: usize) -> usize
-    ensures { result ≡ min a b }
-{
-    if a < b { a } else { b }
-}

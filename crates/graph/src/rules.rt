@@ -4,19 +4,15 @@ ghost use Rattle.graph.specs.Limits.{max_vertices, max_edges, max_weight};
 ghost use Rattle.graph.specs.Refusal.{accept, refuse_if};
 ghost use Rattle.graph.specs.Edge.{edge, edges, precedes};
 ghost use Rattle.graph.specs.Table.{is_weight, is_edge, rules, size, short_table, table, bare_faults};
-ghost use Rattle.graph.specs.Code.{told, Room, columns, keeps, rank_of};
+ghost use Rattle.graph.specs.Code.{number, place, told, Room, columns, keeps, rank_of};
 
-use super::{Judged, MAX_EDGES, MAX_VERTICES, MAX_WEIGHT};
+use super::{MAX_EDGES, MAX_VERTICES, MAX_WEIGHT, Refusal};
 
-// Number `k` at place `i` where the test holds.
-pub fn refuse_if(test: bool, k: u32, i: usize) -> Judged
-    ensures { told result ≡ refuse_if test k i }
+// A refusal where the test holds.
+pub fn refuse_if(test: bool, refusal: Refusal) -> Result<(), Refusal>
+    ensures { told result ≡ refuse_if test (number refusal) (place refusal) }
 {
-    if test {
-        Judged::Refused(k, i)
-    } else {
-        Judged::Fine
-    }
+    if test { Err(refusal) } else { Ok(()) }
 }
 
 // Whether a weight is 1 to `MAX_WEIGHT`.
@@ -47,20 +43,19 @@ pub fn in_order(t: u32, h: u32, w: u32, u: u32, g: u32, x: u32) -> bool
 }
 
 // Number 1: n is 0 or over `MAX_VERTICES`.
-pub fn judge_size(n: u32) -> Judged
+pub fn judge_size(n: u32) -> Result<(), Refusal>
     ensures { told result ≡ size n }
 {
-    refuse_if((n == 0) | (n > MAX_VERTICES), 1, 0)
+    refuse_if((n == 0) | (n > MAX_VERTICES), Refusal::Size)
 }
 
 // Number 2: a list of the table has fewer than `MAX_EDGES` words.
-pub fn judge_lengths(tails: &[u32], heads: &[u32], weights: &[u32]) -> Judged
+pub fn judge_lengths(tails: &[u32], heads: &[u32], weights: &[u32]) -> Result<(), Refusal>
     ensures { told result ≡ short_table (columns tails.now heads.now weights.now) }
 {
     refuse_if(
         tails.len() < MAX_EDGES || heads.len() < MAX_EDGES || weights.len() < MAX_EDGES,
-        2,
-        0,
+        Refusal::Short,
     )
 }
 
@@ -77,24 +72,28 @@ fn follows(n: u32, tails: &[u32], heads: &[u32], weights: &[u32], k: usize) -> b
 }
 
 // The table's rules: number 4 at the first record below the count that breaks them.
-fn judge_rules(n: u32, tails: &[u32], heads: &[u32], weights: &[u32], count: usize) -> Judged
+fn judge_rules(
+    n: u32,
+    tails: &[u32],
+    heads: &[u32],
+    weights: &[u32],
+    count: usize,
+) -> Result<(), Refusal>
     requires { Room count tails.now heads.now weights.now }
     ensures { told result ≡ rules n (edges tails.now heads.now weights.now count) }
 {
     if count == 0 {
-        return Judged::Fine;
+        return Ok(());
     }
     if !is_edge(n, tails[0], heads[0], weights[0]) {
-        return Judged::Refused(4, 0);
+        return Err(Refusal::Table(0));
     }
-    let mut k = 1;
-    while k < count {
+    for k in 1..count {
         if !follows(n, tails, heads, weights, k) {
-            return Judged::Refused(4, k);
+            return Err(Refusal::Table(k));
         }
-        k += 1;
     }
-    Judged::Fine
+    Ok(())
 }
 
 // The order of edges as one word: of edges with tails and heads below `MAX_VERTICES` and weights to `MAX_WEIGHT` the one that comes before has the lesser.
@@ -122,8 +121,7 @@ fn are_sound(n: u32, tails: &[u32], heads: &[u32], weights: &[u32], count: usize
     let mut wide = weights[0];
     let mut all = (n <= MAX_VERTICES) & is_edge(n, tall, heads[0], wide);
     let mut last = rank_of(tall, heads[0], wide);
-    let mut k = 1;
-    while k < count {
+    for k in 1..count {
         let t = tails[k];
         let h = heads[k];
         let w = weights[k];
@@ -132,7 +130,6 @@ fn are_sound(n: u32, tails: &[u32], heads: &[u32], weights: &[u32], count: usize
         tall = tall | t;
         wide = wide | w;
         last = next;
-        k += 1;
     }
     all & ((tall < MAX_VERTICES) & ((wide <= MAX_WEIGHT) & (tails[count - 1] < n)))
 }
@@ -145,25 +142,31 @@ pub fn judge_table_plainly(
     heads: &[u32],
     weights: &[u32],
     count: u32,
-) -> Judged
+) -> Result<(), Refusal>
     requires { Room max_edges tails.now heads.now weights.now }
     ensures { told result ≡ table n (columns tails.now heads.now weights.now) count }
 {
     let records = count as usize;
     if records > MAX_EDGES {
-        return Judged::Refused(4, 0);
+        return Err(Refusal::Table(0));
     }
     judge_rules(n, tails, heads, weights, records)
 }
 
 // The same, quicker where all records keep the rules: they are then looked at in one pass without branches.
-pub fn judge_table(n: u32, tails: &[u32], heads: &[u32], weights: &[u32], count: u32) -> Judged
+pub fn judge_table(
+    n: u32,
+    tails: &[u32],
+    heads: &[u32],
+    weights: &[u32],
+    count: u32,
+) -> Result<(), Refusal>
     requires { Room max_edges tails.now heads.now weights.now }
     ensures { told result ≡ table n (columns tails.now heads.now weights.now) count }
 {
     let records = count as usize;
     if 0 < records && records <= MAX_EDGES && are_sound(n, tails, heads, weights, records) {
-        return Judged::Fine;
+        return Ok(());
     }
     judge_table_plainly(n, tails, heads, weights, count)
 }
@@ -175,20 +178,12 @@ pub fn judge_bare(
     heads: &[u32],
     weights: &[u32],
     count: u32,
-    between: Judged,
-) -> Judged
+    between: Result<(), Refusal>,
+) -> Result<(), Refusal>
     ensures { told result ≡ bare_faults n (columns tails.now heads.now weights.now) count (told between) }
 {
-    let size = judge_size(n);
-    let Judged::Fine = size else {
-        return size;
-    };
-    let lengths = judge_lengths(tails, heads, weights);
-    let Judged::Fine = lengths else {
-        return lengths;
-    };
-    let Judged::Fine = between else {
-        return between;
-    };
+    judge_size(n)?;
+    judge_lengths(tails, heads, weights)?;
+    between?;
     judge_table(n, tails, heads, weights, count)
 }

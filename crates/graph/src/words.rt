@@ -7,20 +7,12 @@ pub fn copy(n: usize, src: &[u32], dst: &mut [u32], at: usize)
     requires { (n ≤ length src.now) × (at + n ≤ length dst.old) }
     ensures { dst.new ≡ paste dst.old at src.now n }
 {
-    let mut i = 0;
-    while i < n {
-        dst[at + i] = src[i];
-        i += 1;
-    }
+    dst[at..at + n].copy_from_slice(&src[..n]);
 }
 
 // Every word becomes `v`.
 pub fn fill(dst: &mut [u32], v: u32)
     ensures { dst.new ≡ replicate (length dst.old) v }
 {
-    let mut i = 0;
-    while i < dst.len() {
-        dst[i] = v;
-        i += 1;
-    }
+    dst.fill(v);
 }

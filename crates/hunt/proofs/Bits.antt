@@ -1,7 +1,7 @@
 -- Marks of n vertices in words of 64 bits: read, set, counted. Assumes nothing.
+use Rattle.std.specs.Prelude.{Some}
 use Rattle.property.proofs.Basics.{◌≡◌, refl, sym, ap, ◌∙◌, Bool, true, false, cond, List, [], ◌∷◌, ℕ, zero, suc, ◌≤◌, ◌<◌, dec_lt, arith, length, get_or, set, take, get_or-eq_default, length-take-le}
 use Rattle.frontier.specs.Waiting.{waiting_of, count_of, next_from}
-use Rattle.frontier.specs.declared.Next.TheVariants.{At}
 use Rattle.frontier.proofs.Laws.{First, next_first, count_none}
 use Rattle.run.specs.Code.{bits, Marks}
 use Rattle.run.proofs.States.{bits_at, marks_set, marks_within}
@@ -28,7 +28,7 @@ bits_all n bs m t = elim (dec_lt t n) [
 ]
 
 -- the next mark from i on is one of the vertices
-pub marks_next : {n : ℕ} {bs : List ℕ} {i v : ℕ} → Marks n bs → next_from (waiting_of bs) i ≡ At v → First (waiting_of bs) i v × (v < n)
+pub marks_next : {n : ℕ} {bs : List ℕ} {i v : ℕ} → Marks n bs → next_from (waiting_of bs) i ≡ Some v → First (waiting_of bs) i v × (v < n)
 marks_next {n} {bs} {i} {v} m e = let f = next_first (waiting_of bs) i v e in (f, marks_within n bs v m f.waits)
 
 -- a vertex is marked where a test holds

@@ -16,7 +16,7 @@ ghost use Rattle.affected.specs.Net.{lost};
 ghost use Rattle.affected.specs.Affected.{Named, marked, affected};
 ghost use Rattle.hunt.specs.Code.{holds, marks_head, from_end, Hunting, Counterparts, Touched, Shut, SweepDone};
 
-use frontier::{Next, Words};
+use frontier::Words;
 use graph::arc;
 
 // Whether the edge from a vertex with word `v`, of weight `w`, holds up its head `h`, whose word is `x`: it is tight, and the head
@@ -80,9 +80,8 @@ fn touch_all(
 {
     let v = words[u];
     let lo = old[u] as usize;
-    let mut j = old[u + 1] as usize;
-    while lo < j {
-        j -= 1;
+    let hi = old[u + 1] as usize;
+    for j in (lo..hi).rev() {
         touch(p, s, v, on, old[j], other[j], words, marks, todo);
     }
 }
@@ -136,9 +135,9 @@ pub fn sweep(
     ensures { SweepDone (property p) n s words.now old.now other.now marks.old todo.old marks.new todo.new }
 {
     let mut i = 0;
+    // kept as a `while`: a turn leads to the next vertex that is to do, and `next_from` may be asked below the last one alone
     while i < n {
-        let next = frontier::next_from(todo, i);
-        let Next::At(k) = next else {
+        let Some(k) = frontier::next_from(todo, i) else {
             return;
         };
         frontier::remove(todo, k);

@@ -1,22 +1,19 @@
 -- The changes of a batch, judged and applied one by one: one change's refusals, what is left of a chain of changes after one. Assumes nothing.
 use Rattle.property.proofs.Basics.{◌≡◌, sym, ap, ◌∙◌, ◌⊎◌, inl, inr, true, false, not, ◌&&◌, ◌||◌, cond, List, [], ◌∷◌, ℕ, ◌+◌, ◌<◌, ◌≤◌, add-one, arith, length, ltb, eqb, lt-ltb, le-ltb, eq-eqb, ne_eqb, eqb-true, not-false}
 use mathlib.Core.Bool.{and-false, or-false}
-use Rattle.graph.specs.declared.Found.TheVariants.{At, Absent}
-use Rattle.graph.specs.declared.Judged.{Judged}
-use Rattle.graph.specs.declared.Judged.TheVariants as judged
+use Rattle.std.specs.Prelude.{Some, None, Result, Ok, Err}
+use Rattle.graph.specs.declared.refusal.Refusal.{Refusal}
 use Rattle.graph.specs.Limits.{max_edges}
 use Rattle.graph.specs.Refusal.{Verdict, accept, refuse, ◌▷◌, refuse_if}
 use Rattle.graph.specs.Edge.{Edge, edge, edges, among}
 use Rattle.graph.specs.Table.{is_weight, table_order}
-use Rattle.graph.specs.Code.{Room, edge_at, find, told}
+use Rattle.graph.specs.Code.{number, place, Room, edge_at, find, told}
 use Rattle.graph.proofs.Verdicts.{then_accept, if_accept}
 use Rattle.graph.proofs.Order.{rules_accept, accept_rules}
 use Rattle.graph.proofs.Records.{room_less, edges_length, edges_at}
 use Rattle.graph.proofs.Tests.{both}
 use Rattle.graph.proofs.Edges.{same_eq}
 use Rattle.graph.proofs.Seek.{find_below, found_has, found_same, absent_has}
-use Rattle.items.specs.declared.Edited.{Edited}
-use Rattle.items.specs.declared.Edited.TheVariants.{Count, Refused}
 use Rattle.network.specs.Change.{Change, brought, struck, inserts, comes, edit, edits, item, items, words, against}
 use Rattle.items.specs.Code.{change, verdict, Leaves}
 use Rattle.calls.specs.Code.{Tabled}
@@ -65,15 +62,15 @@ module _ (n i k t h w o : ℕ) where
 -- ---- a change against the edges
 
 module _ (es : List Edge) (t h w i : ℕ) where
-  pub insert_present : (j : ℕ) → find (edge t h w) es ≡ At j → refuse 10 i ≡ against i es (change 1 t h w 0)
+  pub insert_present : (j : ℕ) → find (edge t h w) es ≡ Some j → refuse 10 i ≡ against i es (change 1 t h w 0)
   unfolding against refuse_if ◌▷◌
   insert_present j e = rw (found_has table_order (edge t h w) es j e)
 
-  pub insert_full : find (edge t h w) es ≡ Absent → max_edges ≤ length es → refuse 12 i ≡ against i es (change 1 t h w 0)
+  pub insert_full : find (edge t h w) es ≡ None → max_edges ≤ length es → refuse 12 i ≡ against i es (change 1 t h w 0)
   unfolding against refuse_if ◌▷◌
   insert_full e l = rw (absent_has table_order (edge t h w) es e, le-ltb (length es) max_edges l)
 
-  pub insert_fine : find (edge t h w) es ≡ Absent → length es < max_edges → accept ≡ against i es (change 1 t h w 0)
+  pub insert_fine : find (edge t h w) es ≡ None → length es < max_edges → accept ≡ against i es (change 1 t h w 0)
   unfolding against refuse_if ◌▷◌
   insert_fine e l = rw (absent_has table_order (edge t h w) es e, lt-ltb (length es) max_edges l)
 
@@ -83,40 +80,40 @@ module _ (es : List Edge) (t h w i : ℕ) where
 
 -- a delete, and an update that brings no edge that is there, ask for the edge that they strike
 module _ (es : List Edge) (c : Change) (i : ℕ) (z : inserts c ≡ false) (y : (comes c && among es (brought c)) ≡ false) where
-  pub against_absent : find (struck c) es ≡ Absent → refuse 11 i ≡ against i es c
+  pub against_absent : find (struck c) es ≡ None → refuse 11 i ≡ against i es c
   unfolding against refuse_if ◌▷◌
   against_absent e = rw (y, z, absent_has table_order (struck c) es e)
 
-  pub against_found : (j : ℕ) → find (struck c) es ≡ At j → accept ≡ against i es c
+  pub against_found : (j : ℕ) → find (struck c) es ≡ Some j → accept ≡ against i es c
   unfolding against refuse_if ◌▷◌
   against_found j e = rw (y, z, found_has table_order (struck c) es j e)
 
 -- an edge that is found stands below the count
-pub found_below : (n m : ℕ) (ts hs ws : List ℕ) → Tabled n m ts hs ws → (e : Edge) (i : ℕ) → find e (edges ts hs ws m) ≡ At i → i < m
+pub found_below : (n m : ℕ) (ts hs ws : List ℕ) → Tabled n m ts hs ws → (e : Edge) (i : ℕ) → find e (edges ts hs ws m) ≡ Some i → i < m
 found_below n m ts hs ws t e i f =
     let q = edges_length ts hs ws m (room_less t.few t.room) in
     let l = find_below _ e (edges ts hs ws m) i f in
     omega arith
 
 -- .. and has the words that were looked for
-pub found_words : (n m : ℕ) (ts hs ws : List ℕ) → Tabled n m ts hs ws → (t h o i : ℕ) → find (edge t h o) (edges ts hs ws m) ≡ At i → edge_at ts hs ws i ≡ edge t h o
+pub found_words : (n m : ℕ) (ts hs ws : List ℕ) → Tabled n m ts hs ws → (t h o i : ℕ) → find (edge t h o) (edges ts hs ws m) ≡ Some i → edge_at ts hs ws i ≡ edge t h o
 found_words n m ts hs ws u t h o i f =
     let r = room_less u.few u.room in
     sym (edges_at ts hs ws m r i (found_below n m ts hs ws u (edge t h o) i f)) ∙ sym (same_eq _ _ (found_same table_order (edge t h o) (edges ts hs ws m) i f (edge 0 0 0)))
 
 -- ---- what an answer tells of the lists
 
-pub leaves_refused : (n k i : ℕ) (r : Edited) (ts hs ws : List ℕ) (fs : List Edge) {v : Verdict} → r ≡ Refused k i → refuse k i ≡ v → (verdict r ≡ v) × Leaves n r ts hs ws fs
+pub leaves_refused : (n : ℕ) (e : Refusal) (r : Result ℕ Refusal) (ts hs ws : List ℕ) (fs : List Edge) {v : Verdict} → r ≡ Err e → refuse (number e) (place e) ≡ v → (verdict r ≡ v) × Leaves n r ts hs ws fs
 unfolding verdict
-leaves_refused n k i r ts hs ws fs q e = (
-  ap verdict q ∙ e,
+leaves_refused n e r ts hs ws fs q h = (
+  ap verdict q ∙ h,
   record {
-    table = λ m e. let z : ◌≡◌ {A = ℕ} 0 1 = cc in absurd (omega arith);
-    edges = λ m e. let z : ◌≡◌ {A = ℕ} 0 1 = cc in absurd (omega arith);
+    table = λ m p. let z : ◌≡◌ {A = ℕ} 0 1 = cc in absurd (omega arith);
+    edges = λ m p. let z : ◌≡◌ {A = ℕ} 0 1 = cc in absurd (omega arith);
   },
 )
 
-pub leaves_count : (n m : ℕ) (ts hs ws : List ℕ) (fs : List Edge) {v : Verdict} → Tabled n m ts hs ws → edges ts hs ws m ≡ fs → accept ≡ v → (verdict (Count m) ≡ v) × Leaves n (Count m) ts hs ws fs
+pub leaves_count : (n m : ℕ) (ts hs ws : List ℕ) (fs : List Edge) {v : Verdict} → Tabled n m ts hs ws → edges ts hs ws m ≡ fs → accept ≡ v → (verdict (Ok m) ≡ v) × Leaves n (Ok m) ts hs ws fs
 unfolding verdict
 leaves_count n m ts hs ws fs t e a = (
   a,
@@ -128,9 +125,9 @@ leaves_count n m ts hs ws fs t e a = (
 
 -- ---- a change as a whole
 
-pub item_words : (n i : ℕ) (es : List Edge) (c : Change) (r : Judged) (k j : ℕ) → told r ≡ words n i c → r ≡ judged.Refused k j → refuse k j ≡ item n i es c
+pub item_words : (n i : ℕ) (es : List Edge) (c : Change) (e : Refusal) → told (Err e) ≡ words n i c → refuse (number e) (place e) ≡ item n i es c
 unfolding item ◌▷◌ told
-item_words n i es c r k j e q = ap (λ v. v ▷ against i es c) (sym (ap told q) ∙ e)
+item_words n i es c e h = ap (λ v. v ▷ against i es c) h
 
 pub item_against : (n i : ℕ) (es : List Edge) (c : Change) {v : Verdict} → words n i c ≡ accept → v ≡ against i es c → v ≡ item n i es c
 unfolding item ◌▷◌
@@ -143,14 +140,14 @@ change_kind t h w o e = rw e
 pub words_as : (n i : ℕ) (c d : Change) → c ≡ d → words n i c ≡ accept → words n i d ≡ accept
 words_as n i c d q a = rw q at a
 
-pub item_as : (n i : ℕ) (es : List Edge) (c d : Change) → c ≡ d → {v : Verdict} {r : Edited} {ts hs ws : List ℕ} → words n i c ≡ accept
+pub item_as : (n i : ℕ) (es : List Edge) (c d : Change) → c ≡ d → {v : Verdict} {r : Result ℕ Refusal} {ts hs ws : List ℕ} → words n i c ≡ accept
     → (v ≡ against i es d) × Leaves n r ts hs ws (edit es d) → (v ≡ item n i es c) × Leaves n r ts hs ws (edit es c)
 item_as n i es c d q a (e, l) = (item_against n i es c a (rw q e), rw q l)
 
 -- the table after an accepted change
 pub item_leaves : (n i m : ℕ) (ts hs ws : List ℕ) (c : Change) → Tabled n m ts hs ws → words n i c ≡ accept → accept ≡ against i (edges ts hs ws m) c
     → (m' : ℕ) (ts' hs' ws' : List ℕ) → m' ≤ max_edges → Room max_edges ts' hs' ws' → edges ts' hs' ws' m' ≡ edit (edges ts hs ws m) c
-    → (verdict (Count m') ≡ against i (edges ts hs ws m) c) × Leaves n (Count m') ts' hs' ws' (edit (edges ts hs ws m) c)
+    → (verdict (Ok m') ≡ against i (edges ts hs ws m) c) × Leaves n (Ok m') ts' hs' ws' (edit (edges ts hs ws m) c)
 item_leaves n i m ts hs ws c t a b m' ts' hs' ws' l r e =
     let few : m ≤ max_edges = t.few in
     let q = edges_length ts hs ws m (room_less few t.room) in
@@ -160,13 +157,13 @@ item_leaves n i m ts hs ws c t a b m' ts' hs' ws' l r e =
 -- ---- a chain of changes from one on
 
 module _ (n k : ℕ) (es : List Edge) (c : Change) (cs ds : List Change) (e : cs ≡ c ∷ ds) {v : Verdict} (h : items n k es cs ≡ v) where
-  pub items_more : (r : Edited) (m : ℕ) → r ≡ Count m → verdict r ≡ item n k es c → (fs : List Edge) → fs ≡ edit es c → items n (k + 1) fs ds ≡ v
+  pub items_more : (m : ℕ) → verdict (Ok m) ≡ item n k es c → (fs : List Edge) → fs ≡ edit es c → items n (k + 1) fs ds ≡ v
   unfolding items ◌▷◌ verdict
-  items_more r m q a fs f = let z : accept ≡ item n k es c = sym (ap verdict q) ∙ a in rw (add-one, f) (rw (e, ← z) at h)
+  items_more m a fs f = let z : accept ≡ item n k es c = a in rw (add-one, f) (rw (e, ← z) at h)
 
-  pub items_stop : (r : Edited) (j p : ℕ) → r ≡ Refused j p → verdict r ≡ item n k es c → refuse j p ≡ v
+  pub items_stop : (d : Refusal) → verdict (Err d) ≡ item n k es c → refuse (number d) (place d) ≡ v
   unfolding items ◌▷◌ verdict
-  items_stop r j p q a = let z : refuse j p ≡ item n k es c = sym (ap verdict q) ∙ a in rw (e, ← z) at h
+  items_stop d a = let z : refuse (number d) (place d) ≡ item n k es c = a in rw (e, ← z) at h
 
 pub items_none : (n k : ℕ) (es : List Edge) (cs : List Change) {v : Verdict} → cs ≡ [] → items n k es cs ≡ v → accept ≡ v
 unfolding items

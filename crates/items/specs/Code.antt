@@ -7,14 +7,14 @@
 --   Laid k cs xs           == cs are k changes, whose words are in the five lists as far as these have places
 --   put_change xs i c      == the five lists after the words of c went to place i of each
 --   laid_all c xs k        == the five lists after the changes c 0 to c (k - 1) went there, each to its own place
---   verdict r              == an Edited as a verdict
+--   verdict r              == the answer to changes, a count or a refusal, as a verdict
 --   Leaves n r ts hs ws fs == where r tells a count, the three lists hold the edges fs below it
-use Rattle.std.specs.Prelude.{◌≡◌, List, map, ℕ, zero, suc, ◌+◌, ◌*◌, ◌<◌, length, get_or, set}
+use Rattle.std.specs.Prelude.{◌≡◌, List, map, ℕ, zero, suc, ◌+◌, ◌*◌, ◌<◌, length, get_or, set, Result, Ok, Err}
 use Rattle.graph.specs.Limits.{max_batch}
 use Rattle.graph.specs.Refusal.{Verdict, accept, refuse}
 use Rattle.graph.specs.Edge.{Edge, edges}
-use Rattle.items.specs.declared.Edited.{Edited}
-use Rattle.items.specs.declared.Edited.TheVariants.{Count, Refused}
+use Rattle.graph.specs.Code.{number, place}
+use Rattle.graph.specs.declared.refusal.Refusal.{Refusal}
 use Rattle.network.specs.Change.{Change}
 use Rattle.calls.specs.Code.{Tabled}
 
@@ -45,10 +45,10 @@ laid_all c xs (suc i) = put_change (laid_all c xs i) i (c i)
 
 -- ---- the scratch table
 
-unfoldable pub verdict : Edited → Verdict
-verdict (Count m) = accept
-verdict (Refused k i) = refuse k i
+unfoldable pub verdict : Result ℕ Refusal → Verdict
+verdict (Ok m) = accept
+verdict (Err e) = refuse (number e) (place e)
 
-pub record Leaves (n : ℕ) (r : Edited) (ts hs ws : List ℕ) (fs : List Edge) : Type 0 where
-  pub table : (m : ℕ) → r ≡ Count m → Tabled n m ts hs ws
-  pub edges : (m : ℕ) → r ≡ Count m → edges ts hs ws m ≡ fs
+pub record Leaves (n : ℕ) (r : Result ℕ Refusal) (ts hs ws : List ℕ) (fs : List Edge) : Type 0 where
+  pub table : (m : ℕ) → r ≡ Ok m → Tabled n m ts hs ws
+  pub edges : (m : ℕ) → r ≡ Ok m → edges ts hs ws m ≡ fs

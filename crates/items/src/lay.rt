@@ -28,9 +28,8 @@ pub fn lay(changes: &[[u32; 5]], from: usize, size: usize, lists: &mut [u32])
     requires { (from + size ≤ length changes.now) × (length lists.old ≡ 5 * max_batch) }
     ensures { Laid size (take size (drop from (changes_of changes.now))) lists.new }
 {
-    let most = graph::lesser(size, graph::MAX_BATCH);
-    let mut i = 0;
-    while i < most {
+    let most = size.min(graph::MAX_BATCH);
+    for i in 0..most {
         let k = from + i;
         put_change(
             lists,
@@ -41,6 +40,5 @@ pub fn lay(changes: &[[u32; 5]], from: usize, size: usize, lists: &mut [u32])
             changes[k][3],
             changes[k][4],
         );
-        i += 1;
     }
 }

@@ -14,7 +14,7 @@ ghost use Rattle.network.specs.Change.{Change, edit, edits, item, items, words, 
 ghost use Rattle.items.specs.Code.{change, verdict, Laid, Leaves};
 ghost use Rattle.calls.specs.Code.{Tabled};
 
-use graph::{Found, Judged, edit, rules};
+use graph::{Refusal, edit, rules};
 
 // A batch in one list: the kinds of the longest batch, and where its tails, heads, weights and old weights start.
 pub const TAILS: usize = graph::MAX_BATCH;
@@ -26,13 +26,6 @@ pub const WEIGHTS: usize = 3 * graph::MAX_BATCH;
 pub const OLDS: usize = 4 * graph::MAX_BATCH;
 
 pub const BATCH_WORDS: usize = 5 * graph::MAX_BATCH;
-
-// The count of the table after changes, or the number and place of the one that is refused.
-#[derive(Drop)]
-pub enum Edited {
-    Count(usize),
-    Refused(u32, usize),
-}
 
 // Whether an old weight suits its change: an update's is 1 to `MAX_WEIGHT`, any other's 0.
 fn is_suited(kind: u32, old: u32) -> bool
@@ -46,19 +39,30 @@ fn is_suited(kind: u32, old: u32) -> bool
 }
 
 // Numbers 6 to 9 of a change: those of its own words.
-fn judge_words(n: u32, kind: u32, t: u32, h: u32, w: u32, old: u32, place: usize) -> Judged
+fn judge_words(
+    n: u32,
+    kind: u32,
+    t: u32,
+    h: u32,
+    w: u32,
+    old: u32,
+    place: usize,
+) -> Result<(), Refusal>
     ensures { told result ≡ words n place (change kind t h w old) }
 {
     if t >= n || h >= n {
-        return Judged::Refused(6, place);
+        return Err(Refusal::Vertex(place));
     }
     if kind != 1 && kind != 2 && kind != 3 {
-        return Judged::Refused(7, place);
+        return Err(Refusal::Kind(place));
     }
     if t == h {
-        return Judged::Refused(8, place);
+        return Err(Refusal::Loop(place));
     }
-    rules::refuse_if(!(rules::is_weight(w) & is_suited(kind, old)), 9, place)
+    rules::refuse_if(
+        !(rules::is_weight(w) & is_suited(kind, old)),
+        Refusal::Weight(place),
+    )
 }
 
 // An insert whose own words are good: numbers 10 and 12, or one edge more.
@@ -72,20 +76,20 @@ fn insert_item(
     weights: &mut [u32],
     count: usize,
     place: usize,
-) -> Edited
+) -> Result<usize, Refusal>
     requires tabled { Tabled n count tails.old heads.old weights.old }
     requires w_value { words n place (change 1 t h w 0) ≡ accept }
     ensures result_value { verdict result ≡ against place (edges tails.old heads.old weights.old count) (change 1 t h w 0) }
     ensures leaves { Leaves n result tails.new heads.new weights.new (edit (edges tails.old heads.old weights.old count) (change 1 t h w 0)) }
 {
-    if let Found::At(_) = edit::find(n, t, h, w, tails, heads, weights, count) {
-        return Edited::Refused(10, place);
+    if let Some(_) = edit::find(n, t, h, w, tails, heads, weights, count) {
+        return Err(Refusal::Present(place));
     }
     if count >= graph::MAX_EDGES {
-        return Edited::Refused(12, place);
+        return Err(Refusal::Full(place));
     }
     edit::insert(n, t, h, w, tails, heads, weights, count);
-    Edited::Count(count + 1)
+    Ok(count + 1)
 }
 
 // A delete whose own words are good looks for its edge, and goes no further unless it is found: number 11, or one edge less.
@@ -99,17 +103,17 @@ fn delete_item(
     weights: &mut [u32],
     count: usize,
     place: usize,
-) -> Edited
+) -> Result<usize, Refusal>
     requires tabled { Tabled n count tails.old heads.old weights.old }
     requires w_value { words n place (change 2 t h w 0) ≡ accept }
     ensures result_value { verdict result ≡ against place (edges tails.old heads.old weights.old count) (change 2 t h w 0) }
     ensures leaves { Leaves n result tails.new heads.new weights.new (edit (edges tails.old heads.old weights.old count) (change 2 t h w 0)) }
 {
-    let Found::At(i) = edit::find(n, t, h, w, tails, heads, weights, count) else {
-        return Edited::Refused(11, place);
+    let Some(at) = edit::find(n, t, h, w, tails, heads, weights, count) else {
+        return Err(Refusal::Absent(place));
     };
-    edit::delete_at(i, tails, heads, weights, count);
-    Edited::Count(count - 1)
+    edit::delete_at(at, tails, heads, weights, count);
+    Ok(count - 1)
 }
 
 // Whether an update to the weight `w` from another one finds an edge of that weight: number 10.
@@ -130,10 +134,7 @@ fn is_taken(
     if w == old {
         return false;
     }
-    match edit::find(n, t, h, w, tails, heads, weights, count) {
-        Found::At(_) => true,
-        Found::Absent => false,
-    }
+    edit::find(n, t, h, w, tails, heads, weights, count).is_some()
 }
 
 // An update whose own words are good: number 10; then it looks for the edge of its old weight, and goes no further unless it is found: number 11, or that
@@ -149,20 +150,20 @@ fn update_item(
     weights: &mut [u32],
     count: usize,
     place: usize,
-) -> Edited
+) -> Result<usize, Refusal>
     requires tabled { Tabled n count tails.old heads.old weights.old }
     requires value { words n place (change 3 t h w old) ≡ accept }
     ensures result_value { verdict result ≡ against place (edges tails.old heads.old weights.old count) (change 3 t h w old) }
     ensures leaves { Leaves n result tails.new heads.new weights.new (edit (edges tails.old heads.old weights.old count) (change 3 t h w old)) }
 {
     if is_taken(n, t, h, w, old, tails, heads, weights, count) {
-        return Edited::Refused(10, place);
+        return Err(Refusal::Present(place));
     }
-    let Found::At(i) = edit::find(n, t, h, old, tails, heads, weights, count) else {
-        return Edited::Refused(11, place);
+    let Some(at) = edit::find(n, t, h, old, tails, heads, weights, count) else {
+        return Err(Refusal::Absent(place));
     };
-    retune::set_weight(n, i, w, tails, heads, weights, count);
-    Edited::Count(count)
+    retune::set_weight(n, at, w, tails, heads, weights, count);
+    Ok(count)
 }
 
 // One change of a batch.
@@ -178,15 +179,12 @@ fn apply_item(
     weights: &mut [u32],
     count: usize,
     place: usize,
-) -> Edited
+) -> Result<usize, Refusal>
     requires { Tabled n count tails.old heads.old weights.old }
     ensures result_value { verdict result ≡ item n place (edges tails.old heads.old weights.old count) (change kind t h w old) }
     ensures leaves { Leaves n result tails.new heads.new weights.new (edit (edges tails.old heads.old weights.old count) (change kind t h w old)) }
 {
-    let own = judge_words(n, kind, t, h, w, old, place);
-    if let Judged::Refused(k, i) = own {
-        return Edited::Refused(k, i);
-    }
+    judge_words(n, kind, t, h, w, old, place)?;
     if kind == 1 {
         return insert_item(n, t, h, w, tails, heads, weights, count, place);
     }
@@ -205,14 +203,13 @@ pub fn apply_items(
     heads: &mut [u32],
     weights: &mut [u32],
     count: usize,
-) -> Edited
+) -> Result<usize, Refusal>
     requires { Tabled n count tails.old heads.old weights.old × (size ≤ max_batch) × (length lists.now ≡ 5 * max_batch) }
     ensures { (cs : List Change) → Laid size cs lists.now → (verdict result ≡ items n 0 (edges tails.old heads.old weights.old count) cs) × Leaves n result tails.new heads.new weights.new (edits (edges tails.old heads.old weights.old count) cs) }
 {
     let mut m = count;
-    let mut k = 0;
-    while k < size {
-        let edited = apply_item(
+    for k in 0..size {
+        m = apply_item(
             n,
             lists[k],
             lists[TAILS + k],
@@ -224,12 +221,7 @@ pub fn apply_items(
             weights,
             m,
             k,
-        );
-        let Edited::Count(left) = edited else {
-            return edited;
-        };
-        m = left;
-        k += 1;
+        )?;
     }
-    Edited::Count(m)
+    Ok(m)
 }

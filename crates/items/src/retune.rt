@@ -13,14 +13,11 @@ fn move_word(words: &mut [u32], i: usize, j: usize, w: u32)
     requires { (i < length words.old) × (j < length words.old) }
     ensures { words.new ≡ insert_at j w (delete_at i words.old) }
 {
-    let mut k = i;
-    while k < j {
+    for k in i..j {
         words[k] = words[k + 1];
-        k += 1;
     }
-    while k > j {
-        words[k] = words[k - 1];
-        k -= 1;
+    for k in (j..i).rev() {
+        words[k + 1] = words[k];
     }
     words[j] = w;
 }

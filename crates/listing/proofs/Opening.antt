@@ -1,46 +1,52 @@
 -- The network that is opened by the code is the one of the definition. Assumes nothing.
-use Rattle.property.proofs.Basics.{◌≡◌, refl, sym, ap, ap₂, ◌∙◌, List, [], ◌++◌, map, ℕ, ◌-◌, ◌*◌, ◌≤◌, arith, length, take, drop, replicate, length-append, length-take, length-map, length-replicate, take_at, take-append_seam, le-ltb}
+use Rattle.property.proofs.Basics.{◌≡◌, refl, sym, ap, ap₂, ◌∙◌, List, ◌++◌, map, ℕ, ◌-◌, ◌*◌, ◌≤◌, arith, length, take, drop, replicate, length-append, length-take, length-map, length-replicate, take_at, take-append_seam, le-ltb}
+use Rattle.std.specs.Prelude.{Result, Ok, Err}
+use Rattle.std.specs.Result.{result_unwrap_or}
 use Rattle.property.specs.Property.{properties}
-use Rattle.graph.specs.Refusal.{Verdict, accept, refuse, refuse_if, Outcome, choose, over}
+use Rattle.graph.specs.declared.refusal.Refusal.{Refusal}
+use Rattle.graph.specs.Refusal.{accept, refuse_if, Outcome, over}
 use Rattle.graph.specs.Limits.{max_edges, max_landmarks}
-use Rattle.graph.specs.Edge.{Edge, range}
+use Rattle.graph.specs.Edge.{Edge}
 use Rattle.graph.specs.Table.{Columns, edges_of, short_table, table}
 use Rattle.graph.specs.Code.{columns}
 use Rattle.graph.proofs.Lists.{drop_replicate}
 use Rattle.graph.proofs.Tests.{or_false}
-use Rattle.graph.proofs.Verdicts.{accept_then, accept_if}
+use Rattle.graph.proofs.Verdicts.{not_accept, accept_then, accept_if}
 use Rattle.network.specs.Network.{Memory, Network}
 use Rattle.network.specs.Open.{open_call}
 use Rattle.network.specs.Batch.{column}
-use Rattle.network.specs.Choice.{ranked, choice, choice_verdict, choice_call}
+use Rattle.network.specs.Choice.{choice, choice_verdict, choice_call}
 use Rattle.network.specs.Caller.{holding, opened_network}
 use Rattle.network.proofs.Items.{length_column}
 use Rattle.calls.specs.Code.{network}
-use Rattle.open.specs.declared.Opened.{Opened}
 use Rattle.open.specs.Code.{open_outcome}
-use Rattle.choice.specs.declared.Chosen.{Chosen}
+use Rattle.choice.specs.declared.Choice.{Choice}
 use Rattle.choice.specs.Code.{padded, choosing, chosen_of}
-use Rattle.choice.proofs.Choosing.{Picked, choosing_chosen}
+use Rattle.choice.proofs.Choosing.{Picked, choosing_chosen, choosing_refused}
 use Rattle.dimacs.proofs.Written.{filled_edges}
 use Rattle.listing.specs.Listing.{graph, landmarks_of}
 use Rattle.listing.specs.Code.{Loaded, Ready}
 
 -- ---- the landmarks
 
-choose_most : (v : Verdict) (us : List ℕ) → length (choose v (take max_landmarks us) []) ≤ max_landmarks
-unfolding choose
-choose_most accept us = simp length-take (omega arith)
-choose_most (refuse k i) us = omega arith
-
 padded_length : (us : List ℕ) → length us ≤ max_landmarks → length (padded us) ≡ max_landmarks
 padded_length us h = length-append us (replicate (max_landmarks - length us) 0) ∙ omega (arith, length-replicate {A = ℕ} (max_landmarks - length us) 0)
 
--- four landmarks at most, in four places, whatever the table
-pub chosen_few : (n : ℕ) (cs : Columns) (m : ℕ) (r : Chosen) → choosing r ≡ chosen_of (choice_call n cs m max_landmarks) → (r.choice.count ≤ max_landmarks) × (length r.choice.vertices ≡ max_landmarks)
-chosen_few n cs m r e =
-    let p = choosing_chosen n cs m max_landmarks r e in
-    let l = choose_most (choice_verdict n cs m max_landmarks) (ranked (edges_of cs m) (range 0 n)) in
-    (rw p.count l, ap length p.vertices ∙ padded_length (choose (choice_verdict n cs m max_landmarks) (choice n (edges_of cs m) max_landmarks) []) l)
+-- four landmarks at most, in four places
+abbrev pub Few : Choice → Type 0
+Few c = (c.count ≤ max_landmarks) × (length c.vertices ≡ max_landmarks)
+
+-- whatever the table, where none are chosen in place of a refusal
+chosen_few : (n : ℕ) (cs : Columns) (m : ℕ) (d : Choice) → Few d → (r : Result Choice Refusal) → choosing r ≡ chosen_of (choice_call n cs m max_landmarks) → Few (result_unwrap_or r d)
+chosen_few n cs m d f (Ok c) e =
+    let p = choosing_chosen n cs m max_landmarks c e in
+    let l : length (choice n (edges_of cs m) max_landmarks) ≤ max_landmarks = simp length-take (omega arith) in
+    (rw p.count l, ap length p.vertices ∙ padded_length (choice n (edges_of cs m) max_landmarks) l)
+chosen_few n cs m d f (Err x) e = f
+
+-- the code's choice c, where d stands for none
+pub few_held : (n : ℕ) (cs : Columns) (m : ℕ) (c d : Choice) (r : Result Choice Refusal) → c ≡ result_unwrap_or r d → d.count ≡ 0 → length d.vertices ≡ max_landmarks → choosing r ≡ chosen_of (choice_call n cs m max_landmarks) → Few c
+few_held n cs m c d r q z l e = rw q (chosen_few n cs m d (omega (arith, z), l) r e)
 
 -- ---- the table
 
@@ -85,24 +91,24 @@ module _ (n : ℕ) (es : List Edge) (ts hs ws : List ℕ) (m : ℕ) (h : Loaded 
   unfolding refuse_if
   choosable = accept_then h.good.vertices ∙ accept_then short ∙ accept_then refl ∙ kept
 
-  module _ (r : Chosen) (e : choosing r ≡ chosen_of (choice_call n (columns ts hs ws) m max_landmarks)) where
-    picked : Picked n (columns ts hs ws) m max_landmarks r
-    picked = choosing_chosen n (columns ts hs ws) m max_landmarks r e
+  -- the choice of a good table is not refused
+  pub picked : (d : Choice) (r : Result Choice Refusal) → choosing r ≡ chosen_of (choice_call n (columns ts hs ws) m max_landmarks) → Picked n (columns ts hs ws) m max_landmarks (result_unwrap_or r d)
+  picked d (Ok c) e = choosing_chosen n (columns ts hs ws) m max_landmarks c e
+  picked d (Err x) e = absurd (not_accept (sym (choosing_refused n (columns ts hs ws) m max_landmarks x e) ∙ choosable))
 
-    chosen_count : r.choice.count ≡ length (landmarks_of (graph n es))
-    unfolding choose
-    chosen_count = rw (choosable, loaded_edges) at picked.count
+  module _ (r : Choice) (p : Picked n (columns ts hs ws) m max_landmarks r) where
+    chosen_count : r.count ≡ length (landmarks_of (graph n es))
+    chosen_count = rw loaded_edges at p.count
 
-    chosen_vertices : r.choice.vertices ≡ padded (landmarks_of (graph n es))
-    unfolding choose
-    chosen_vertices = rw (choosable, loaded_edges) at picked.vertices
+    chosen_vertices : r.vertices ≡ padded (landmarks_of (graph n es))
+    chosen_vertices = rw loaded_edges at p.vertices
 
-    pub chosen_landmarks : landmarks_of (graph n es) ≡ take r.choice.count r.choice.vertices
+    pub chosen_landmarks : landmarks_of (graph n es) ≡ take r.count r.vertices
     chosen_landmarks = rw (chosen_count, chosen_vertices) (sym (take-append_seam (landmarks_of (graph n es)) _))
 
-    module _ (fz bz f b : List ℕ) (o : Opened) where
+    module _ (fz bz f b : List ℕ) (o : Result (Unit {0}) Refusal) where
       abbrev size' : ℕ
-      size' = r.choice.count * properties * n
+      size' = r.count * properties * n
 
       held : take size' fz ≡ replicate size' 0 → take size' bz ≡ replicate size' 0
           → network ts hs ws (take size' fz) (take size' bz) m ≡ holding es (landmarks_of (graph n es)) n
@@ -112,8 +118,8 @@ module _ (n : ℕ) (es : List Edge) (ts hs ws : List ℕ) (m : ℕ) (h : Loaded 
 
       -- the lists at the end are those that the definition's opening leaves
       pub ready : take size' fz ≡ replicate size' 0 → take size' bz ≡ replicate size' 0 → length f ≡ size' → length b ≡ size'
-          → open_outcome o ts hs ws f b ≡ open_call n (take r.choice.count r.choice.vertices) (network ts hs ws (take size' fz) (take size' bz) m)
-          → Ready n es ts hs ws m r.choice.count r.choice.vertices (f ++ drop size' fz) (b ++ drop size' bz)
+          → open_outcome o ts hs ws f b ≡ open_call n (take r.count r.vertices) (network ts hs ws (take size' fz) (take size' bz) m)
+          → Ready n es ts hs ws m r.count r.vertices (f ++ drop size' fz) (b ++ drop size' bz)
       ready x y lf lb q = record {
         landmarks = chosen_landmarks;
         opened =

@@ -2,10 +2,11 @@
 use Rattle.property.proofs.Basics.{◌≡◌, refl, sym, ap, ◌∙◌, List, [], ◌∷◌, ◌++◌, map, append-nil, ℕ, suc, ◌+◌, ◌*◌, ◌≤◌, ◌<◌, add-one, arith, ltb, ltb-true, ltb-false, length, get_or, take, length-map, get_or-map, length-take-le, get_or-take, take_all}
 use Rattle.property.proofs.Tests.{by_test}
 use Rattle.property.specs.Property.{properties}
-use Rattle.graph.specs.declared.Judged.TheVariants.{Fine, Refused}
+use Rattle.std.specs.Prelude.{Ok}
+use Rattle.graph.specs.declared.refusal.Refusal.{Refusal}
 use Rattle.graph.specs.Refusal.{Verdict, accept, refuse, ◌▷◌}
 use Rattle.graph.specs.Edge.{range}
-use Rattle.graph.specs.Code.{told}
+use Rattle.graph.specs.Code.{number, place}
 use Rattle.graph.proofs.Lists.{get_or_within}
 use Rattle.network.specs.Network.{Network}
 use Rattle.calls.specs.Code.{network}
@@ -65,45 +66,40 @@ printed_cut gr ss = printed_cut_graph gr (take (suc max_file) ss) ∙ printed_cu
 
 -- ---- one piece
 
-module _ {gr ss : List ℕ} {p : Prepared} {ts hs ws xs f b : List ℕ} (h : Shown gr ss p ts hs ws xs f b) where
-  pub parts_refused : (k i : ℕ) → p.verdict ≡ Refused k i → parts gr ss ≡ refused_line k i ∷ []
-  unfolding told parts_of
-  parts_refused k i e =
-      ap (λ (v : Verdict). parts_of v (graph_of (read_network gr)) (sources_read (read_sources (vertex_count (read_network gr)) ss))) (sym h.verdict ∙ ap told e)
+pub parts_refused : (gr ss : List ℕ) (e : Refusal) → files_verdict gr ss ≡ refuse (number e) (place e) → parts gr ss ≡ refused_line (number e) (place e) ∷ []
+unfolding parts_of
+parts_refused gr ss e h =
+    ap (λ (v : Verdict). parts_of v (graph_of (read_network gr)) (sources_read (read_sources (vertex_count (read_network gr)) ss))) h
 
-  pub fine_accepts : p.verdict ≡ Fine → files_verdict gr ss ≡ accept
-  unfolding told
-  fine_accepts e = sym h.verdict ∙ ap told e
+module _ {gr ss : List ℕ} {p : Prepared} {ts hs ws xs f b : List ℕ} (h : Shown gr ss (Ok p) ts hs ws xs f b) where
+  abbrev piece : ℕ → List ℕ
+  piece s = let d = graph_of (read_network gr) in lines_of d (network_of d) s (range 0 d.n)
 
-  module _ (a : files_verdict gr ss ≡ accept) where
-    abbrev piece : ℕ → List ℕ
-    piece s = let d = graph_of (read_network gr) in lines_of d (network_of d) s (range 0 d.n)
+  pub parts_accepted : parts gr ss ≡ header ∷ map piece (take p.sources xs)
+  unfolding parts_of
+  parts_accepted =
+      ap (λ (v : Verdict). parts_of v (graph_of (read_network gr)) (sources_read (read_sources (vertex_count (read_network gr)) ss))) h.0
+      ∙ ap (λ (vs : List ℕ). header ∷ map piece vs) (sym h.1.sources)
 
-    pub parts_accepted : parts gr ss ≡ header ∷ map piece (take p.sources xs)
-    unfolding parts_of
-    parts_accepted =
-        ap (λ (v : Verdict). parts_of v (graph_of (read_network gr)) (sources_read (read_sources (vertex_count (read_network gr)) ss))) a
-        ∙ ap (λ (vs : List ℕ). header ∷ map piece vs) (sym (h.running a).sources)
+  module _ (l : p.sources ≤ length xs) where
+    pub parts_count : 1 + p.sources ≡ length (parts gr ss)
+    parts_count =
+        omega (arith, ap length parts_accepted, length-map (take p.sources xs) piece, length-take-le p.sources xs l)
 
-    module _ (l : p.sources ≤ length xs) where
-      pub parts_count : 1 + p.sources ≡ length (parts gr ss)
-      parts_count =
-          omega (arith, ap length parts_accepted, length-map (take p.sources xs) piece, length-take-le p.sources xs l)
-
-      -- piece i + 1 is the lines of source i, as the code makes them
-      pub parts_lines : (i : ℕ) → i < p.sources
-          → get_or (parts gr ss) (i + 1) []
-          ≡ lines_of (graph p.n (edges_read (read_network gr))) (network ts hs ws (take (p.choice.count * properties * p.n) f) (take (p.choice.count * properties * p.n) b) p.count) (get_or xs i 0) (range 0 p.n)
-      parts_lines i j =
-          let r = h.running a in
-          let es = edges_read (read_network gr) in
-          ap (λ (ps : List (List ℕ)). get_or ps (i + 1) []) parts_accepted
-          ∙ rw add-one
-          (get_or_within (map piece (take p.sources xs)) i [] (piece 0) (omega (arith, length-map (take p.sources xs) piece, length-take-le p.sources xs l))
-          ∙ get_or-map piece (take p.sources xs) i 0)
-          ∙ ap piece (get_or-take p.sources xs i 0 j)
-          ∙ ap (λ (k : ℕ). lines_of (graph k es) (network_of (graph k es)) (get_or xs i 0) (range 0 k)) (sym r.vertices)
-          ∙ ap (λ (w : Network). lines_of (graph p.n es) w (get_or xs i 0) (range 0 p.n)) (sym r.ready.opened)
+    -- piece i + 1 is the lines of source i, as the code makes them
+    pub parts_lines : (i : ℕ) → i < p.sources
+        → get_or (parts gr ss) (i + 1) []
+        ≡ lines_of (graph p.n (edges_read (read_network gr))) (network ts hs ws (take (p.choice.count * properties * p.n) f) (take (p.choice.count * properties * p.n) b) p.count) (get_or xs i 0) (range 0 p.n)
+    parts_lines i j =
+        let r = h.1 in
+        let es = edges_read (read_network gr) in
+        ap (λ (ps : List (List ℕ)). get_or ps (i + 1) []) parts_accepted
+        ∙ rw add-one
+        (get_or_within (map piece (take p.sources xs)) i [] (piece 0) (omega (arith, length-map (take p.sources xs) piece, length-take-le p.sources xs l))
+        ∙ get_or-map piece (take p.sources xs) i 0)
+        ∙ ap piece (get_or-take p.sources xs i 0 j)
+        ∙ ap (λ (k : ℕ). lines_of (graph k es) (network_of (graph k es)) (get_or xs i 0) (range 0 k)) (sym r.vertices)
+        ∙ ap (λ (w : Network). lines_of (graph p.n es) w (get_or xs i 0) (range 0 p.n)) (sym r.ready.opened)
 
 pub piece_only : (ps : List (List ℕ)) (x : List ℕ) (i : ℕ) → ps ≡ x ∷ [] → i < length ps → get_or ps i [] ≡ x
 piece_only ps x i e l =

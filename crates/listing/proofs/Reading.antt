@@ -1,12 +1,13 @@
 -- Two files as they are read: the verdict of each, and what it leaves in the lists. Assumes nothing.
 use Rattle.property.proofs.Basics.{◌≡◌, refl, sym, ap, subst, ◌∙◌, List, ℕ, ◌≤◌, ◌<◌, arith, length, drop, replicate, length-append, take_at, lt-ltb, le-ltb}
-use Rattle.graph.specs.declared.Judged.TheVariants.{Fine, Refused}
+use Rattle.std.specs.Prelude.{Result, Ok, Err}
+use Rattle.graph.specs.declared.refusal.Refusal.{Refusal}
 use Rattle.graph.specs.Refusal.{Verdict, accept, refuse, ◌▷◌, refuse_if, Reply, accepted, verdict_of, Outcome, replied, choose, over}
 use Rattle.graph.specs.Limits.{max_edges}
 use Rattle.graph.specs.Edge.{Edge}
 use Rattle.graph.specs.Table.{Columns, size, short_table}
-use Rattle.graph.specs.Code.{told, columns}
-use Rattle.graph.proofs.Verdicts.{not_accept, accept_then, refuse_then, accept_if, verdict_replied}
+use Rattle.graph.specs.Code.{reply_of, columns}
+use Rattle.graph.proofs.Verdicts.{accept_then, refuse_then, accept_if, verdict_replied}
 use Rattle.dimacs.specs.Read.{Read, good}
 use Rattle.dimacs.specs.Network as net
 use Rattle.dimacs.specs.Sources as src
@@ -16,16 +17,12 @@ use Rattle.dimacs.proofs.Calls.{judged_accept}
 use Rattle.dimacs.proofs.Network as networks
 use Rattle.dimacs.proofs.Theorems.{network_tables}
 use Rattle.dimacs.proofs.Written.{read_call_lem}
-use Rattle.reader.specs.declared.network_text.ReadReply.{ReadReply}
-use Rattle.reader.specs.declared.network_text.ReadReply.TheVariants as graphs
+use Rattle.reader.specs.declared.network_text.Size as graphs
 use Rattle.reader.specs.Code as graph
-use Rattle.sources.specs.declared.SourcesReply.{SourcesReply}
-use Rattle.sources.specs.declared.SourcesReply.TheVariants as lists
 use Rattle.sources.specs.Code as list
 use Rattle.listing.proofs.Opening.{zeros}
-use Rattle.listing.specs.declared.parts.Prepared.{Prepared}
 use Rattle.listing.specs.Listing.{max_file, graph_verdict, sources_verdict, files_verdict}
-use Rattle.listing.specs.Code.{GraphRead, SourcesRead, Running, Shown}
+use Rattle.listing.specs.Code.{GraphRead, SourcesRead}
 
 -- ---- deck.gr
 
@@ -50,7 +47,7 @@ same_size {a} {b} {c} {d} e =
     (ap (λ (z : Size). z.vertices) r, ap (λ (z : Size). z.count) r)
 
 module _ (gr ts hs ws : List ℕ) (l : length gr ≤ max_file) where
-  graph_told : (r : ReadReply) → graph.read_outcome r ts hs ws ≡ read_call gr zeros → verdict_of (graph.reading r) ≡ judged (net.read_network gr)
+  graph_told : (r : Result graphs.Size Refusal) → graph.read_outcome r ts hs ws ≡ read_call gr zeros → verdict_of (graph.reading r) ≡ judged (net.read_network gr)
   unfolding read_call
   graph_told r e = ap (λ (o : Outcome Size Columns). verdict_of o.reply) e ∙ verdict_replied (short_table zeros ▷ judged (net.read_network gr)) _ ∙ accept_then zeros_long
 
@@ -72,22 +69,22 @@ module _ (gr ts hs ws : List ℕ) (l : length gr ≤ max_file) where
     unfolding edges_read
     graph_edges = ap edges_read graph_good
 
-    graph_loaded : (n m : ℕ) → graph.read_outcome (graphs.Read n m) ts hs ws ≡ read_call gr zeros → GraphRead gr (graphs.Read n m) ts hs ws
-    unfolding graph.reading judged
-    graph_loaded n m e =
+    graph_loaded : (z : graphs.Size) → graph.read_outcome (Ok z) ts hs ws ≡ read_call gr zeros → GraphRead gr (Ok z) ts hs ws
+    unfolding reply_of judged
+    graph_loaded z e =
         let x = same_size (ap (λ (o : Outcome Size Columns). o.reply) (e ∙ graph_whole)) in
-        let a : n ≡ found.0 = x.0 in
-        let b : m ≡ length found.1 = x.1 in
+        let a : z.n ≡ found.0 = x.0 in
+        let b : z.count ≡ length found.1 = x.1 in
         let c = ap (λ (o : Outcome Size Columns). o.memory) (e ∙ graph_whole) in (
           graph_verdict_lem gr l ∙ ap judged q,
           a ∙ sym graph_count,
           rw graph_edges (record { good = subst (λ (k : ℕ). Table k found.1) (sym a) (network_tables gr found.0 found.1 found.3).0; count = b; table = c }),
         )
 
-  pub graph_read : (r : ReadReply) → graph.read_outcome r ts hs ws ≡ read_call gr zeros → GraphRead gr r ts hs ws
-  unfolding graph.reading verdict_of
-  graph_read (graphs.Read n m) e = let (st, q) = judged_accept (net.read_network gr) (sym (graph_told (graphs.Read n m) e)) in graph_loaded st q n m e
-  graph_read (graphs.Refused k i) e = graph_verdict_lem gr l ∙ sym (graph_told (graphs.Refused k i) e)
+  pub graph_read : (r : Result graphs.Size Refusal) → graph.read_outcome r ts hs ws ≡ read_call gr zeros → GraphRead gr r ts hs ws
+  unfolding reply_of verdict_of
+  graph_read (Ok z) e = let (st, q) = judged_accept (net.read_network gr) (sym (graph_told (Ok z) e)) in graph_loaded st q z e
+  graph_read (Err d) e = graph_verdict_lem gr l ∙ sym (graph_told (Err d) e)
 
 -- ---- deck.ss
 
@@ -108,8 +105,8 @@ module _ (n : ℕ) (ss xs ys : List ℕ) (s : size n ≡ accept) (w : src.max_so
       ap (λ (v : Verdict). record { reply = replied v (length (sources_read R)); memory = choose v (over (sources_read R) xs) xs })
       (accept_then s ∙ accept_then (accept_if 2 0 (le-ltb (length xs) src.max_sources w)))
 
-  sources_loaded : (k : ℕ) → judged R ≡ accept → list.sources_outcome (lists.Read k) ys ≡ sources_call n ss xs → SourcesRead n ss (lists.Read k) ys
-  unfolding list.reading replied choose
+  sources_loaded : (k : ℕ) → judged R ≡ accept → list.sources_outcome (Ok k) ys ≡ sources_call n ss xs → SourcesRead n ss (Ok k) ys
+  unfolding reply_of replied choose
   sources_loaded k v e =
       let f = rw v at (e ∙ sources_call_lem) in
       let x : accepted k ≡ accepted (length (sources_read R)) = ap (λ (o : Outcome ℕ (List ℕ)). o.reply) f in
@@ -120,13 +117,13 @@ module _ (n : ℕ) (ss xs ys : List ℕ) (s : size n ≡ accept) (w : src.max_so
         omega (arith, ap length b, length-append (sources_read R) (drop (length (sources_read R)) xs)),
       )
 
-  sources_told : (r : SourcesReply) → list.sources_outcome r ys ≡ sources_call n ss xs → verdict_of (list.reading r) ≡ judged R
+  sources_told : (r : Result ℕ Refusal) → list.sources_outcome r ys ≡ sources_call n ss xs → verdict_of (list.reading r) ≡ judged R
   sources_told r e = ap (λ (o : Outcome ℕ (List ℕ)). verdict_of o.reply) (e ∙ sources_call_lem) ∙ verdict_replied (judged R) (length (sources_read R))
 
-  pub sources_read_lem : (r : SourcesReply) → list.sources_outcome r ys ≡ sources_call n ss xs → SourcesRead n ss r ys
-  unfolding list.reading verdict_of
-  sources_read_lem (lists.Read k) e = sources_loaded k (sym (sources_told (lists.Read k) e)) e
-  sources_read_lem (lists.Refused k i) e = sources_verdict_lem ∙ sym (sources_told (lists.Refused k i) e)
+  pub sources_read_lem : (r : Result ℕ Refusal) → list.sources_outcome r ys ≡ sources_call n ss xs → SourcesRead n ss r ys
+  unfolding reply_of verdict_of
+  sources_read_lem (Ok k) e = sources_loaded k (sym (sources_told (Ok k) e)) e
+  sources_read_lem (Err d) e = sources_verdict_lem ∙ sym (sources_told (Err d) e)
 
 -- ---- both
 
@@ -135,11 +132,3 @@ files_first gr ss k i e = refuse_then (graph_verdict gr) _ e
 
 pub files_second : (gr ss : List ℕ) (n : ℕ) (v : Verdict) → graph_verdict gr ≡ accept → n ≡ vertex_count (net.read_network gr) → sources_verdict n ss ≡ v → files_verdict gr ss ≡ v
 files_second gr ss n v e a h = accept_then e ∙ ap (λ (k : ℕ). sources_verdict k ss) (sym a) ∙ h
-
-pub shown_refused : (gr ss : List ℕ) (p : Prepared) (ts hs ws xs f b : List ℕ) (k i : ℕ) → files_verdict gr ss ≡ refuse k i → p.verdict ≡ Refused k i → Shown gr ss p ts hs ws xs f b
-unfolding told
-shown_refused gr ss p ts hs ws xs f b k i d e = record { verdict = ap told e ∙ sym d; running = λ a. absurd (not_accept (sym d ∙ a)) }
-
-pub shown_running : (gr ss : List ℕ) (p : Prepared) (ts hs ws xs f b : List ℕ) → files_verdict gr ss ≡ accept → p.verdict ≡ Fine → Running gr ss p ts hs ws xs f b → Shown gr ss p ts hs ws xs f b
-unfolding told
-shown_running gr ss p ts hs ws xs f b d e r = record { verdict = ap told e ∙ sym d; running = λ a. r }

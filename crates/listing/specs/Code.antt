@@ -16,18 +16,19 @@
 --   SourcesRead n ss r xs           == the reply r to reading deck.ss tells its verdict, and where it is read, its sources stand in front of xs
 --   parts_of v d ss                 == what is printed under the verdict v, piece by piece: a refusal, or the header and each source's lines
 --   parts gr ss                     == the output for two files, piece by piece
---   Refuses k i p                   == a Prepared of a refused file: number k at place i, and nothing to list
---   Bounded p xs f b                == the numbers of a Prepared are within the lists that belong to it
+--   sources_in p                    == how many sources there are to list: none where a file is refused
+--   Within p xs f b                 == the numbers of a Prepared are within the lists that belong to it
+--   Bounded p xs f b                == so they are where two files are good; the lists of rows have room in any case
 --   Printable p xs f b out          == so they are, and out has room for the lines of a source
 --   Running gr ss p ts hs ws xs f b == the lists hold the opened network and the sources of two good files
---   Shown gr ss p ts hs ws xs f b   == a Prepared tells the verdict of two files, and where it accepts, the lists hold them
-use Rattle.std.specs.Prelude.{◌≡◌, List, [], ◌∷◌, ◌++◌, map, ℕ, suc, ◌+◌, ◌*◌, ◌≤◌, length, get_or, take, replicate}
+--   Shown gr ss p ts hs ws xs f b   == where two files are good, the lists hold them; otherwise p is their refusal
+use Rattle.std.specs.Prelude.{◌≡◌, List, [], ◌∷◌, ◌++◌, map, ℕ, suc, ◌+◌, ◌*◌, ◌≤◌, length, get_or, take, replicate, Result, Ok, Err}
 use Rattle.property.specs.Property.{properties}
-use Rattle.graph.specs.declared.Judged.TheVariants.{Refused}
+use Rattle.graph.specs.declared.refusal.Refusal.{Refusal}
 use Rattle.graph.specs.Limits.{max_vertices, max_edges, max_landmarks}
 use Rattle.graph.specs.Refusal.{Verdict, accept, refuse}
 use Rattle.graph.specs.Edge.{Edge, range}
-use Rattle.graph.specs.Code.{told, columns}
+use Rattle.graph.specs.Code.{number, place, columns}
 use Rattle.network.specs.Network.{Network}
 use Rattle.network.specs.Caller.{queried}
 use Rattle.calls.specs.Code.{network}
@@ -35,10 +36,7 @@ use Rattle.dimacs.specs.Network.{read_network}
 use Rattle.dimacs.specs.Sources.{read_sources}
 use Rattle.dimacs.specs.Call.{filled, vertex_count, edges_read, sources_read}
 use Rattle.dimacs.specs.Claims.{Table}
-use Rattle.reader.specs.declared.network_text.ReadReply.{ReadReply}
-use Rattle.reader.specs.declared.network_text.ReadReply.TheVariants as graphs
-use Rattle.sources.specs.declared.SourcesReply.{SourcesReply}
-use Rattle.sources.specs.declared.SourcesReply.TheVariants as sources
+use Rattle.reader.specs.declared.network_text.Size.{Size}
 use Rattle.listing.specs.declared.parts.Prepared.{Prepared}
 use Rattle.listing.specs.Listing.{Graph, graph, graph_of, header, spaced, refused_line, landmarks_of, network_of, lines_of, graph_verdict, sources_verdict, files_verdict}
 
@@ -95,13 +93,13 @@ pub record Ready (n : ℕ) (es : List Edge) (ts hs ws : List ℕ) (m k : ℕ) (v
 
 -- ---- files
 
-abbrev pub GraphRead : List ℕ → ReadReply → List ℕ → List ℕ → List ℕ → Type 0
-GraphRead gr (graphs.Read n m) ts hs ws = (graph_verdict gr ≡ accept) × (n ≡ vertex_count (read_network gr)) × Loaded n (edges_read (read_network gr)) ts hs ws m
-GraphRead gr (graphs.Refused k i) ts hs ws = graph_verdict gr ≡ refuse k i
+abbrev pub GraphRead : List ℕ → Result Size Refusal → List ℕ → List ℕ → List ℕ → Type 0
+GraphRead gr (Ok z) ts hs ws = (graph_verdict gr ≡ accept) × (z.n ≡ vertex_count (read_network gr)) × Loaded z.n (edges_read (read_network gr)) ts hs ws z.count
+GraphRead gr (Err e) ts hs ws = graph_verdict gr ≡ refuse (number e) (place e)
 
-abbrev pub SourcesRead : ℕ → List ℕ → SourcesReply → List ℕ → Type 0
-SourcesRead n ss (sources.Read k) xs = (sources_verdict n ss ≡ accept) × (take k xs ≡ sources_read (read_sources n ss)) × (k ≤ length xs)
-SourcesRead n ss (sources.Refused k i) xs = sources_verdict n ss ≡ refuse k i
+abbrev pub SourcesRead : ℕ → List ℕ → Result ℕ Refusal → List ℕ → Type 0
+SourcesRead n ss (Ok k) xs = (sources_verdict n ss ≡ accept) × (take k xs ≡ sources_read (read_sources n ss)) × (k ≤ length xs)
+SourcesRead n ss (Err e) xs = sources_verdict n ss ≡ refuse (number e) (place e)
 
 -- ---- the output, piece by piece
 
@@ -112,21 +110,22 @@ parts_of (refuse k i) d ss = refused_line k i ∷ []
 abbrev pub parts : List ℕ → List ℕ → List (List ℕ)
 parts gr ss = let r = read_network gr in parts_of (files_verdict gr ss) (graph_of r) (sources_read (read_sources (vertex_count r) ss))
 
-pub record Refuses (k i : ℕ) (p : Prepared) : Type 0 where
-  pub verdict : p.verdict ≡ Refused k i
-  pub vertices : p.n ≡ 0
-  pub landmarks : p.choice.count ≡ 0
-  pub places : length p.choice.vertices ≡ max_landmarks
-  pub sources : p.sources ≡ 0
+abbrev pub sources_in : Result Prepared Refusal → ℕ
+sources_in (Ok p) = p.sources
+sources_in (Err e) = 0
 
-pub record Bounded (p : Prepared) (xs f b : List ℕ) : Type 0 where
+pub record Within (p : Prepared) (xs f b : List ℕ) : Type 0 where
   pub vertices : p.n ≤ max_vertices
   pub landmarks : p.choice.count ≤ max_landmarks
   pub places : length p.choice.vertices ≡ max_landmarks
   pub sources : p.sources ≤ length xs
   pub rows : RowLists f b
 
-pub record Printable (p : Prepared) (xs f b out : List ℕ) : Type 0 where
+abbrev pub Bounded : Result Prepared Refusal → List ℕ → List ℕ → List ℕ → Type 0
+Bounded (Ok p) xs f b = Within p xs f b
+Bounded (Err e) xs f b = RowLists f b
+
+pub record Printable (p : Result Prepared Refusal) (xs f b out : List ℕ) : Type 0 where
   pub bounded : Bounded p xs f b
   pub room : max_line * max_vertices ≤ length out
 
@@ -135,6 +134,6 @@ pub record Running (gr ss : List ℕ) (p : Prepared) (ts hs ws xs f b : List ℕ
   pub ready : Ready p.n (edges_read (read_network gr)) ts hs ws p.count p.choice.count p.choice.vertices f b
   pub sources : take p.sources xs ≡ sources_read (read_sources (vertex_count (read_network gr)) ss)
 
-pub record Shown (gr ss : List ℕ) (p : Prepared) (ts hs ws xs f b : List ℕ) : Type 0 where
-  pub verdict : told p.verdict ≡ files_verdict gr ss
-  pub running : files_verdict gr ss ≡ accept → Running gr ss p ts hs ws xs f b
+abbrev pub Shown : List ℕ → List ℕ → Result Prepared Refusal → List ℕ → List ℕ → List ℕ → List ℕ → List ℕ → List ℕ → Type 0
+Shown gr ss (Ok p) ts hs ws xs f b = (files_verdict gr ss ≡ accept) × Running gr ss p ts hs ws xs f b
+Shown gr ss (Err e) ts hs ws xs f b = files_verdict gr ss ≡ refuse (number e) (place e)

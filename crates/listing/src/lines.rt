@@ -34,7 +34,7 @@ fn settle_row(
     words::fill(row, 0);
     let size = n as usize;
     let mut starts = [0u32; graph::VERTEX_WORDS];
-    query::query(
+    let _ = query::query(
         n,
         landmarks,
         tails,
@@ -90,10 +90,8 @@ fn put_vertices(n: usize, source: u32, rows: &[u32], out: &mut [u8]) -> usize
     ensures upper_bound { result ≤ length out.new }
 {
     let mut end = 0;
-    let mut t = 0;
-    while t < n {
+    for t in 0..n {
         end = put_vertex(source, t, n, rows, end, out);
-        t += 1;
     }
     end
 }
@@ -117,8 +115,7 @@ pub fn put_source(
 {
     let size = n as usize;
     let mut rows = [0u32; SETTLED_WORDS];
-    let mut p = 0;
-    while p < property::PROPERTIES {
+    for p in 0..property::PROPERTIES {
         let from = p * size;
         let to = from + size;
         settle_row(
@@ -134,7 +131,6 @@ pub fn put_source(
             source,
             &mut rows[from..to],
         );
-        p += 1;
     }
     put_vertices(size, source, &rows, out)
 }

@@ -5,13 +5,12 @@ ghost use Rattle.graph.specs.Edge.{Edge};
 ghost use Rattle.graph.specs.Refusal.{accept};
 ghost use Rattle.graph.specs.Table.{size};
 ghost use Rattle.dimacs.specs.Sources.{max_sources};
-ghost use Rattle.listing.specs.Code.{TableLists, RowLists, Loaded, Ready, GraphRead, SourcesRead, Refuses, Bounded, Shown};
+ghost use Rattle.listing.specs.Code.{TableLists, RowLists, Loaded, Ready, GraphRead, SourcesRead, Bounded, Shown};
 
 use super::parts::Prepared;
 use choice::Choice;
-use graph::{Judged, words};
-use reader::network_text::ReadReply;
-use sources::SourcesReply;
+use graph::{Refusal, words};
+use reader::network_text::Size;
 
 // The network of a table opened: the landmarks of choice, four or n if fewer, and the rows in front of two lists.
 pub fn open_network(
@@ -27,21 +26,24 @@ pub fn open_network(
     ensures count_le_max_landmarks { (result.count ≤ max_landmarks) × (length result.vertices ≡ max_landmarks) }
     ensures ready { (es : List Edge) → Loaded n es tails.now heads.now weights.now count → Ready n es tails.now heads.now weights.now count result.count result.vertices forward.new backward.new }
 {
-    let chosen = choice::choose_landmarks(
+    let none = Choice {
+        count: 0,
+        vertices: [0u32; graph::MAX_LANDMARKS],
+    };
+    let choice = choice::choose_landmarks(
         n,
         tails,
         heads,
         weights,
         count,
         graph::MAX_LANDMARKS as u32,
-    );
-    let choice = chosen.choice;
+    ).unwrap_or(none);
     let held = choice.count;
     let vertices = choice.vertices;
     let k = held * property::PROPERTIES * (n as usize);
     words::fill(forward, 0);
     words::fill(backward, 0);
-    open::open(
+    let _ = open::open(
         n,
         &vertices[..held],
         tails,
@@ -55,12 +57,17 @@ pub fn open_network(
 }
 
 // Network text of at most `MAX_FILE` bytes into table lists, with zeros past its edges.
-fn read_graph(gr: &[u8], tails: &mut [u32], heads: &mut [u32], weights: &mut [u32]) -> ReadReply
+fn read_graph(
+    gr: &[u8],
+    tails: &mut [u32],
+    heads: &mut [u32],
+    weights: &mut [u32],
+) -> Result<Size, Refusal>
     requires { TableLists tails.old heads.old weights.old }
     ensures { GraphRead gr.now result tails.new heads.new weights.new }
 {
     if gr.len() > super::MAX_FILE {
-        return ReadReply::Refused(2, 0);
+        return Err(Refusal::Short);
     }
     words::fill(tails, 0);
     words::fill(heads, 0);
@@ -69,30 +76,14 @@ fn read_graph(gr: &[u8], tails: &mut [u32], heads: &mut [u32], weights: &mut [u3
 }
 
 // A source file of at most `MAX_FILE` bytes.
-fn read_list(n: u32, ss: &[u8], list: &mut [u32]) -> SourcesReply
+fn read_list(n: u32, ss: &[u8], list: &mut [u32]) -> Result<u32, Refusal>
     requires { (size n ≡ accept) × (max_sources ≤ length list.old) }
     ensures { SourcesRead n ss.now result list.new }
 {
     if ss.len() > super::MAX_FILE {
-        return SourcesReply::Refused(2, 0);
+        return Err(Refusal::Short);
     }
     sources::read_sources(n, ss, list)
-}
-
-// What a refused file leaves to print.
-fn refused(number: u32, place: usize) -> Prepared
-    ensures { Refuses number place result }
-{
-    Prepared {
-        verdict: Judged::Refused(number, place),
-        n: 0,
-        count: 0,
-        choice: Choice {
-            count: 0,
-            vertices: [0u32; graph::MAX_LANDMARKS],
-        },
-        sources: 0,
-    }
 }
 
 // Two files, deck.gr first: a refusal, or the opened network and its sources in the lent lists.
@@ -105,27 +96,19 @@ pub fn prepare(
     list: &mut [u32],
     forward: &mut [u32],
     backward: &mut [u32],
-) -> Prepared
+) -> Result<Prepared, Refusal>
     requires table_lists { TableLists tails.old heads.old weights.old }
     requires list_len { (length list.old ≡ max_sources) × RowLists forward.old backward.old }
     ensures bounded { Bounded result list.new forward.new backward.new }
     ensures shown { Shown gr.now ss.now result tails.new heads.new weights.new list.new forward.new backward.new }
 {
-    let first = read_graph(gr, tails, heads, weights);
-    match first {
-        ReadReply::Refused(number, place) => refused(number, place),
-        ReadReply::Read(n, count) => {
-            let second = read_list(n, ss, list);
-            match second {
-                SourcesReply::Refused(number, place) => refused(number, place),
-                SourcesReply::Read(total) => Prepared {
-                    verdict: Judged::Fine,
-                    n,
-                    count,
-                    choice: open_network(n, tails, heads, weights, count, forward, backward),
-                    sources: total as usize,
-                },
-            }
-        }
-    }
+    let size = read_graph(gr, tails, heads, weights)?;
+    let sources = read_list(size.n, ss, list)?;
+    let choice = open_network(size.n, tails, heads, weights, size.count, forward, backward);
+    Ok(Prepared {
+        n: size.n,
+        count: size.count,
+        choice,
+        sources: sources as usize,
+    })
 }

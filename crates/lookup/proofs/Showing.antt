@@ -2,8 +2,8 @@
 use Rattle.property.proofs.Basics.{◌≡◌, sym, ap, ◌∙◌, Bool, true, not, cond, false≢true, List, [], ◌∷◌, ℕ, suc, ◌+◌, ◌*◌, ◌-◌, ◌<◌, ◌≤◌, add-zero, add-one, arith, length, get_or, take, drop, drop_of_length-le, drop-cons, eqb, ltb, leb, eq-eqb, ne_eqb, ltb-true, ltb-false, leb-true, not-false}
 use Rattle.property.specs.Property.{is_property}
 use Rattle.property.proofs.Tests.{by_test}
-use Rattle.graph.specs.declared.Judged.{Judged}
-use Rattle.graph.specs.declared.Judged.TheVariants.{Fine, Refused}
+use Rattle.std.specs.Prelude.{Result, Ok, Err}
+use Rattle.graph.specs.declared.refusal.Refusal.{Refusal}
 use Rattle.graph.specs.Edge.{exists}
 use Rattle.graph.specs.Limits.{max_vertices, max_landmarks}
 use Rattle.graph.specs.Refusal.{Verdict, refuse_if, verdict_of, replied, choose}
@@ -45,27 +45,27 @@ index_below v (x ∷ vs) h = by_test (eqb v x) (λ e. rw e (omega arith)) (λ e.
 
 -- ---- the number
 
-pub told_number : (n : ℕ) (ls : List ℕ) (xs : Rows) (side l p : ℕ) (r : Judged) → replied (told r) tt ≡ lookup_number n ls xs side l p → told r ≡ lookup_verdict n ls xs side l p
+pub told_number : (n : ℕ) (ls : List ℕ) (xs : Rows) (side l p : ℕ) (r : Result (Unit {0}) Refusal) → replied (told r) tt ≡ lookup_number n ls xs side l p → told r ≡ lookup_verdict n ls xs side l p
 unfolding lookup_number
 told_number n ls xs side l p r e = sym (verdict_replied (told r) tt) ∙ (ap verdict_of e ∙ verdict_replied (lookup_verdict n ls xs side l p) tt)
 
 module _ (n : ℕ) (ls f b : List ℕ) (side l p : ℕ) where
-  pub number_told : (r : Judged) → told r ≡ lookup_verdict n ls (row_lists f b) side l p → replied (told r) tt ≡ lookup_number n ls (row_lists f b) side l p
+  pub number_told : (r : Result (Unit {0}) Refusal) → told r ≡ lookup_verdict n ls (row_lists f b) side l p → replied (told r) tt ≡ lookup_number n ls (row_lists f b) side l p
   unfolding lookup_number
   number_told r e = ap (λ (v : Verdict). replied v tt) e
 
-  module _ (r : Judged) (e : replied (told r) tt ≡ lookup_number n ls (row_lists f b) side l p) where
-    pub row_refused : (k i : ℕ) → r ≡ Refused k i → [] ≡ lookup_row n ls (row_lists f b) side l p
+  module _ (r : Result (Unit {0}) Refusal) (e : replied (told r) tt ≡ lookup_number n ls (row_lists f b) side l p) where
+    pub row_refused : (d : Refusal) → r ≡ Err d → [] ≡ lookup_row n ls (row_lists f b) side l p
     unfolding lookup_row choose told
-    row_refused k i q = rw (sym (told_number n ls (row_lists f b) side l p r e) ∙ ap told q)
+    row_refused d q = rw (sym (told_number n ls (row_lists f b) side l p r e) ∙ ap told q)
 
     -- a refused look-up shows no row
-    pub part_refused : (k i : ℕ) → r ≡ Refused k i → (x y z : ℕ × ℕ) → Shows n ls (row_lists f b) side l p x y z
+    pub part_refused : (d : Refusal) → r ≡ Err d → (x y z : ℕ × ℕ) → Shows n ls (row_lists f b) side l p x y z
     unfolding told
-    part_refused k i q x y z h = absurd (not_accept (sym (ap told q) ∙ (told_number n ls (row_lists f b) side l p r e ∙ h)))
+    part_refused d q x y z h = absurd (not_accept (sym (ap told q) ∙ (told_number n ls (row_lists f b) side l p r e ∙ h)))
 
     -- the part from s on of the list of its side, where s is the row's start; and where it lies, if the lists lie at x and y
-    pub row_shown : r ≡ Fine → (s : ℕ) → s ≡ row_at (index_of l ls) p * n → (x y : ℕ × ℕ) (t : Bool) → eqb side 0 ≡ t
+    pub row_shown : r ≡ Ok tt → (s : ℕ) → s ≡ row_at (index_of l ls) p * n → (x y : ℕ × ℕ) (t : Bool) → eqb side 0 ≡ t
         → (take (s + n - s) (drop s (cond t f b)) ≡ lookup_row n ls (row_lists f b) side l p) × Shows n ls (row_lists f b) side l p x y (word_at (cond t x y) s)
     unfolding lookup_row choose told
     row_shown q s at x y t d =
@@ -83,7 +83,7 @@ module _ (n : ℕ) (ls f b : List ℕ) (side l p : ℕ) where
     pub forward : row_at (index_of l ls) p * n + n ≤ length f
     pub backward : row_at (index_of l ls) p * n + n ≤ length b
 
-  pub lookup_accept : (r : Judged) → replied (told r) tt ≡ lookup_number n ls (row_lists f b) side l p → r ≡ Fine → Shown
+  pub lookup_accept : (r : Result (Unit {0}) Refusal) → replied (told r) tt ≡ lookup_number n ls (row_lists f b) side l p → r ≡ Ok tt → Shown
   unfolding told
   lookup_accept r e q =
       let v = then_accept (size n) _ (sym (told_number n ls (row_lists f b) side l p r e) ∙ ap told q) in

@@ -8,20 +8,18 @@ ghost use Rattle.network.specs.Lookup.{index_of, lookup_row, lookup_number};
 ghost use Rattle.calls.specs.Code.{row_lists};
 ghost use Rattle.lookup.specs.Code.{Shows};
 
-use graph::{Judged, rules};
+use graph::{Refusal, rules};
 
 // Where `v` stands among the vertices; past them where it does not.
 pub fn index_of(v: u32, vertices: &[u32]) -> usize
     ensures { result ≡ index_of v vertices.now }
 {
-    let mut i = 0;
-    while i < vertices.len() {
-        if v == vertices[i] {
+    for (i, &vertex) in vertices.iter().enumerate() {
+        if v == vertex {
             return i;
         }
-        i += 1;
     }
-    i
+    vertices.len()
 }
 
 // The number that a look-up is refused with.
@@ -33,25 +31,19 @@ pub fn row_number(
     side: u32,
     landmark: u32,
     property: u32,
-) -> Judged
+) -> Result<(), Refusal>
     ensures { replied (told result) tt ≡ lookup_number n landmarks.now (row_lists forward.now backward.now) side landmark property }
 {
-    let size = rules::judge_size(n);
-    let Judged::Fine = size else {
-        return size;
-    };
-    let rows = calls::judge_rows(n, landmarks, forward, backward);
-    let Judged::Fine = rows else {
-        return rows;
-    };
-    let list = calls::judge_landmarks(n, landmarks);
-    let Judged::Fine = list else {
-        return list;
-    };
+    rules::judge_size(n)?;
+    calls::judge_rows(n, landmarks, forward, backward)?;
+    calls::judge_landmarks(n, landmarks)?;
     if !calls::is_in(landmark, landmarks, 0) {
-        return Judged::Refused(3, 0);
+        return Err(Refusal::Landmarks);
     }
-    rules::refuse_if(!calls::is_property(property) | (side > 1), 5, 0)
+    rules::refuse_if(
+        !calls::is_property(property) | (side > 1),
+        Refusal::Property,
+    )
 }
 
 // The row of a side (0 forward, 1 backward), a landmark and a property; a refused look-up shows the empty part.
@@ -68,7 +60,7 @@ pub fn row<'a>(
     ensures part { Shows n landmarks.now (row_lists forward.now backward.now) side landmark property forward.entry.ref_ptr backward.entry.ref_ptr result.ref_ptr }
 {
     let number = row_number(n, landmarks, forward, backward, side, landmark, property);
-    let Judged::Fine = number else {
+    let Ok(()) = number else {
         return &forward[0..0];
     };
     let start = calls::row_start(property, n as usize, index_of(landmark, landmarks));

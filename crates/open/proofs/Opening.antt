@@ -1,17 +1,16 @@
 -- A row as its function leaves it, and the opening's outcome. Assumes nothing.
-use Rattle.property.proofs.Basics.{◌≡◌, sym, ap, ◌∙◌, List, map, ℕ, suc, ◌/◌, ◌%◌, get_or}
+use Rattle.property.proofs.Basics.{◌≡◌, sym, ◌∙◌, List, map, ℕ, suc, ◌/◌, ◌%◌, get_or}
 use Rattle.property.specs.Property.{property, properties}
-use Rattle.graph.specs.declared.Judged.{Judged}
-use Rattle.graph.specs.declared.Judged.TheVariants as judged
+use Rattle.std.specs.Prelude.{Ok, Err}
+use Rattle.graph.specs.declared.refusal.Refusal.{Refusal}
 use Rattle.graph.specs.Refusal.{accept, over}
 use Rattle.graph.specs.Edge.{Edge, reverse}
-use Rattle.graph.specs.Code.{told}
+use Rattle.graph.specs.Code.{told, reply_of}
 use Rattle.graph.proofs.Verdicts.{outcome_refused, outcome_accepted}
 use Rattle.run.specs.Start.{values_from}
-use Rattle.open.specs.declared.Opened.TheVariants.{Accepted, Refused}
 use Rattle.network.specs.Network.{Network, edges_in, faults, flat}
 use Rattle.network.specs.Open.{open_row, open_rows, open_verdict, open_call}
-use Rattle.open.specs.Code.{opening, open_outcome}
+use Rattle.open.specs.Code.{open_outcome}
 use Rattle.calls.specs.Code.{network}
 use Rattle.network.proofs.Never.{open_verdict_lem}
 
@@ -28,12 +27,12 @@ module _ (n : ℕ) (ls ts hs ws f b : List ℕ) (m : ℕ) where
   abbrev w : Network
   w = network ts hs ws f b m
 
-  pub open_refused : {k i : ℕ} (a : Judged) → told a ≡ faults n ls w → a ≡ judged.Refused k i → open_outcome (Refused k i) ts hs ws f b ≡ open_call n ls w
-  unfolding open_call opening told
-  open_refused a e q = sym (outcome_refused (open_verdict n ls w) _ _ _ (open_verdict_lem n ls w ∙ sym e ∙ ap told q))
+  pub open_refused : (e : Refusal) → told (Err e) ≡ faults n ls w → open_outcome (Err e) ts hs ws f b ≡ open_call n ls w
+  unfolding open_call reply_of told
+  open_refused e h = sym (outcome_refused (open_verdict n ls w) _ _ _ (open_verdict_lem n ls w ∙ sym h))
 
   -- the rows of both sides are written over their lists
   pub open_written : faults n ls w ≡ accept → (f' b' : List ℕ) → f' ≡ over (flat (open_rows n ls (edges_in w))) f
-      → b' ≡ over (flat (open_rows n ls (map reverse (edges_in w)))) b → open_outcome Accepted ts hs ws f' b' ≡ open_call n ls w
-  unfolding open_call opening
+      → b' ≡ over (flat (open_rows n ls (map reverse (edges_in w)))) b → open_outcome (Ok tt) ts hs ws f' b' ≡ open_call n ls w
+  unfolding open_call reply_of
   open_written h f' b' ef eb = rw (ef, eb) (sym (outcome_accepted (open_verdict n ls w) _ _ _ (open_verdict_lem n ls w ∙ h)))

@@ -10,14 +10,7 @@ ghost use Rattle.network.specs.Open.{open_row, open_rows, open_call};
 ghost use Rattle.calls.specs.Code.{network, Placed, Openable};
 ghost use Rattle.open.specs.Code.{open_outcome};
 
-use graph::{Judged, pack};
-
-// The reply to an opening: only that it was accepted.
-#[derive(Drop)]
-pub enum Opened {
-    Accepted,
-    Refused(u32, usize),
-}
+use graph::{Refusal, pack};
 
 // Row `r` of a side is opened and settled in `part`.
 fn open_row(r: usize, n: usize, landmarks: &[u32], index: &[u32], part: &mut [u32])
@@ -38,12 +31,10 @@ fn open_rows(n: usize, landmarks: &[u32], index: &[u32], out: &mut [u32])
     ensures { (es : List Edge) → Own n index.now es → out.new ≡ over (flat (open_rows n landmarks.now es)) out.old }
 {
     let rows = landmarks.len() * property::PROPERTIES;
-    let mut r = 0;
-    while r < rows {
+    for r in 0..rows {
         let start = r * n;
         let end = start + n;
         open_row(r, n, landmarks, index, &mut out[start..end]);
-        r += 1;
     }
 }
 
@@ -97,18 +88,15 @@ pub fn open(
     count: u32,
     forward: &mut [u32],
     backward: &mut [u32],
-) -> Opened
+) -> Result<(), Refusal>
     ensures { open_outcome result tails.now heads.now weights.now forward.new backward.new ≡ open_call n landmarks.now (network tails.now heads.now weights.now forward.old backward.old count) }
 {
-    let judged = calls::judge_all(
+    calls::judge_all(
         n, landmarks, tails, heads, weights, count, forward, backward,
-    );
-    if let Judged::Refused(number, place) = judged {
-        return Opened::Refused(number, place);
-    }
+    )?;
     let size = n as usize;
     let edges = count as usize;
     open_forward(size, edges, landmarks, tails, heads, weights, forward);
     open_backward(size, edges, landmarks, tails, heads, weights, backward);
-    Opened::Accepted
+    Ok(())
 }

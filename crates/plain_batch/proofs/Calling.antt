@@ -1,16 +1,17 @@
 -- A batch as a call: numbers 1 to 4, then its changes, then number 13, and what is lent. Assumes nothing.
 use Rattle.property.proofs.Basics.{◌≡◌, sym, ◌∙◌, List, ℕ, ◌+◌, ◌-◌, ◌≤◌, ◌<◌, min, arith, dec_lt, length, take, drop, length-drop, drop_of_length-le, take_all, take-nil, take_at, length-take-le, paste, lt-ltb, le-ltb, ltb-false, map}
+use Rattle.std.specs.Prelude.{Err}
+use Rattle.graph.specs.declared.refusal.Refusal.{Refusal}
 use Rattle.graph.specs.Limits.{max_batch}
 use Rattle.graph.specs.Refusal.{Verdict, accept, refuse, ◌▷◌, refuse_if, replied, choose}
 use Rattle.graph.specs.Edge.{Edge, edges, range}
-use Rattle.graph.specs.Code.{Room, columns}
+use Rattle.graph.specs.Code.{number, place, told, reply_of, Room, columns}
 use Rattle.graph.proofs.Verdicts.{then_accept, if_accept, accept_then, accept_if, refuse_then}
-use Rattle.apply.specs.declared.Applied.TheVariants as applied
 use Rattle.network.specs.Network.{Network, edges_in, faults}
 use Rattle.network.specs.Change.{Change, edits, items}
 use Rattle.network.specs.Batch.{batch_verdict, new_edges, still_waiting, long_batch, batch_call, batch_faults}
 use Rattle.sides.specs.Code.{Fair}
-use Rattle.apply.specs.Code.{applying, apply_call, batch_outcome}
+use Rattle.apply.specs.Code.{apply_call, batch_outcome}
 use Rattle.items.specs.Code.{change, change_at, Laid}
 use Rattle.calls.specs.Code.{network}
 use Rattle.graph.proofs.Lists.{length_table, table_at}
@@ -88,17 +89,17 @@ module _ (n : ℕ) (ls : List ℕ) (ts hs ws f b : List ℕ) (m : ℕ) (cs : Lis
   abbrev w : Network
   w = network ts hs ws f b m
 
-  pub call_faulty : (k i : ℕ) → refuse k i ≡ batch_faults n ls w (length cs) → batch_outcome (applied.Refused k i) ts hs ws f b ≡ batch_call n ls w cs
-  unfolding batch_call applying replied choose
-  call_faulty k i e =
-      let v : batch_verdict n ls w cs ≡ refuse k i = refuse_then _ _ (sym e) in
+  pub call_faulty : (d : Refusal) → told (Err d) ≡ batch_faults n ls w (length cs) → batch_outcome (Err d) ts hs ws f b ≡ batch_call n ls w cs
+  unfolding told batch_call reply_of replied choose
+  call_faulty d e =
+      let v : batch_verdict n ls w cs ≡ refuse (number d) (place d) = refuse_then _ _ (sym e) in
       rw v
 
   module _ (a : batch_faults n ls w (length cs) ≡ accept) where
-    pub call_item : (k i : ℕ) → refuse k i ≡ items n 0 (edges_in w) cs → batch_outcome (applied.Refused k i) ts hs ws f b ≡ batch_call n ls w cs
-    unfolding batch_call applying replied choose
-    call_item k i e =
-        let v : batch_verdict n ls w cs ≡ refuse k i = accept_then a ∙ refuse_then _ _ (sym e) in
+    pub call_item : (d : Refusal) → refuse (number d) (place d) ≡ items n 0 (edges_in w) cs → batch_outcome (Err d) ts hs ws f b ≡ batch_call n ls w cs
+    unfolding batch_call reply_of replied choose
+    call_item d e =
+        let v : batch_verdict n ls w cs ≡ refuse (number d) (place d) = accept_then a ∙ refuse_then _ _ (sym e) in
         rw v
 
     pub call_applied : accept ≡ items n 0 (edges_in w) cs → (fs : List Edge) → fs ≡ edits (edges_in w) cs → apply_call n ls w fs ≡ batch_call n ls w cs

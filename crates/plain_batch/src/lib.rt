@@ -12,9 +12,9 @@ ghost use Rattle.calls.specs.Code.{network};
 ghost use Rattle.items.specs.Code.{changes_of, Laid};
 ghost use Rattle.apply.specs.Code.{batch_outcome};
 
-use apply::Applied;
-use graph::{Judged, words};
-use items::{Edited, lay};
+use apply::Report;
+use graph::{Refusal, words};
+use items::lay;
 
 // Numbers 1 to 4 of a batch of `size` changes.
 fn judge_batch(
@@ -27,11 +27,11 @@ fn judge_batch(
     forward: &[u32],
     backward: &[u32],
     size: usize,
-) -> Judged
+) -> Result<(), Refusal>
     ensures { told result ≡ batch_faults n landmarks.now (network tails.now heads.now weights.now forward.now backward.now count) size }
 {
     if size > graph::MAX_BATCH {
-        return Judged::Refused(1, 0);
+        return Err(Refusal::Size);
     }
     calls::judge_all(
         n, landmarks, tails, heads, weights, count, forward, backward,
@@ -68,7 +68,7 @@ fn try_changes(
     backward: &mut [u32],
     lists: &[u32],
     size: usize,
-) -> Applied
+) -> Result<Report, Refusal>
     requires { (length lists.now ≡ 5 * max_batch) × (batch_faults n landmarks.now (network tails.old heads.old weights.old forward.old backward.old records) size ≡ accept) }
     ensures { (cs : List Change) → Laid size cs lists.now → batch_outcome result tails.new heads.new weights.new forward.new backward.new ≡ batch_call n landmarks.now (network tails.old heads.old weights.old forward.old backward.old records) cs }
 {
@@ -84,7 +84,7 @@ fn try_changes(
         &mut heads2,
         &mut weights2,
     );
-    let edited = items::apply_items(
+    let count2 = items::apply_items(
         n,
         lists,
         size,
@@ -92,14 +92,11 @@ fn try_changes(
         &mut heads2,
         &mut weights2,
         records,
-    );
-    match edited {
-        Edited::Refused(number, place) => Applied::Refused(number, place),
-        Edited::Count(count2) => apply::apply(
-            n, landmarks, tails, heads, weights, records, forward, backward, &tails2, &heads2,
-            &weights2, count2,
-        ),
-    }
+    )?;
+    apply::apply(
+        n, landmarks, tails, heads, weights, records, forward, backward, &tails2, &heads2,
+        &weights2, count2,
+    )
 }
 
 // A batch of `size` changes, of which the list holds as many as it has room for: more are refused by number 1.
@@ -114,16 +111,13 @@ pub fn batch_laid(
     backward: &mut [u32],
     lists: &[u32],
     size: usize,
-) -> Applied
+) -> Result<Report, Refusal>
     requires { length lists.now ≡ 5 * max_batch }
     ensures { (cs : List Change) → Laid size cs lists.now → batch_outcome result tails.new heads.new weights.new forward.new backward.new ≡ batch_call n landmarks.now (network tails.old heads.old weights.old forward.old backward.old count) cs }
 {
-    let judged = judge_batch(
+    judge_batch(
         n, landmarks, tails, heads, weights, count, forward, backward, size,
-    );
-    if let Judged::Refused(number, place) = judged {
-        return Applied::Refused(number, place);
-    }
+    )?;
     try_changes(
         n,
         landmarks,
@@ -151,11 +145,11 @@ pub fn batch_part(
     changes: &[[u32; 5]],
     from: usize,
     to: usize,
-) -> Applied
+) -> Result<Report, Refusal>
     ensures { batch_outcome result tails.new heads.new weights.new forward.new backward.new ≡ batch_call n landmarks.now (network tails.old heads.old weights.old forward.old backward.old count) (take (to - from) (drop from (changes_of changes.now))) }
 {
-    let end = graph::lesser(to, changes.len());
-    let start = graph::lesser(from, end);
+    let end = to.min(changes.len());
+    let start = from.min(end);
     let size = end - start;
     let mut lists = [0u32; items::BATCH_WORDS];
     lay::lay(changes, start, size, &mut lists);

@@ -2,18 +2,16 @@
 use Rattle.property.proofs.Basics.{◌≡◌, refl, sym, ap, ◌∙◌, List, [], ◌++◌, ℕ, ◌+◌, ◌*◌, ◌<◌, ◌≤◌, arith, length, take, drop, length-drop, take-append-drop, length-take-le, drop-append-le, paste, ltb, le-ltb}
 use lib.Seq.{take-append-le}
 use Rattle.graph.specs.Limits.{max_edges}
-use Rattle.graph.specs.declared.Judged.{Judged}
-use Rattle.graph.specs.declared.Judged.TheVariants.{Refused}
+use Rattle.std.specs.Prelude.{Result, Ok, Err}
+use Rattle.graph.specs.declared.refusal.Refusal.{Refusal}
 use Rattle.graph.specs.Refusal.{accept, ◌▷◌, refuse_if, accepted, verdict_of, Outcome}
 use Rattle.graph.specs.Edge.{edges}
 use Rattle.graph.specs.Table.{rules}
-use Rattle.graph.specs.Code.{told, Room}
+use Rattle.graph.specs.Code.{told, reply_of, Room}
 use Rattle.graph.proofs.Tests.{or_false}
 use Rattle.graph.proofs.Verdicts.{not_accept, accept_then, accept_if, refuse_then}
-use Rattle.apply.specs.declared.Applied.{Applied}
-use Rattle.apply.specs.declared.Applied.TheVariants as applied
 use Rattle.apply.specs.declared.Report as declared
-use Rattle.apply.specs.Code.{reporting, applying, batch_outcome}
+use Rattle.apply.specs.Code.{reporting, batch_outcome}
 use Rattle.network.specs.Network.{Memory, Network, faults, row_count, row}
 use Rattle.network.specs.Change.{Change}
 use Rattle.network.specs.Batch.{Report, batch_call}
@@ -56,18 +54,16 @@ copied_alike n ls ts hs ws f b m h ts2 hs2 ws2 f2 b2 df db room same lf lb ef eb
 -- ---- a batch on the copy v of w, and the query after it
 
 module _ (n : ℕ) (ls : List ℕ) (w v : Network) (h : faults n ls w ≡ accept) (a : Alike n ls w v) (p s : ℕ) (cs : List Change) (zs : List ℕ) where
-  pub follows_refused : (r : Applied) {k i : ℕ} {ts hs ws f b : List ℕ} → r ≡ applied.Refused k i → batch_outcome r ts hs ws f b ≡ batch_call n ls v cs
-      → AskAfterDone n ls w p s cs (Refused k i) zs
-  unfolding told applying verdict_of
-  follows_refused r g e =
-      let q = sym (ap (λ (x : Applied). verdict_of (applying x)) g) ∙ ap (λ (o : Outcome Report Memory). verdict_of o.reply) e ∙ ap verdict_of (batch_alike n ls w v h a cs).0 in
+  pub follows_refused : (d : Refusal) {ts hs ws f b : List ℕ} → batch_outcome (Err d) ts hs ws f b ≡ batch_call n ls v cs → AskAfterDone n ls w p s cs (Err d) zs
+  unfolding told reply_of verdict_of
+  follows_refused d e =
+      let q = ap (λ (o : Outcome Report Memory). verdict_of o.reply) e ∙ ap verdict_of (batch_alike n ls w v h a cs).0 in
       record { verdict = sym (refuse_then _ _ (sym q)); words = λ z. absurd (not_accept (ap told z)) }
 
-  pub follows_asked : (r : Applied) (d : declared.Report) (t : Judged) {ts hs ws f b : List ℕ} → r ≡ applied.Done d → batch_outcome r ts hs ws f b ≡ batch_call n ls v cs
+  pub follows_asked : (d : declared.Report) (t : Result (Unit {0}) Refusal) {ts hs ws f b : List ℕ} → batch_outcome (Ok d) ts hs ws f b ≡ batch_call n ls v cs
       → AskDone n ls (network ts hs ws f b d.count) p s t zs → AskAfterDone n ls w p s cs t zs
-  unfolding applying verdict_of reported
-  follows_asked r d t {ts} {hs} {ws} {f} {b} g e x =
-      let c = sym (ap (λ (y : Applied). batch_outcome y ts hs ws f b) g) ∙ e in
+  unfolding reply_of verdict_of reported
+  follows_asked d t {ts} {hs} {ws} {f} {b} c x =
       let q : (batch_call n ls w cs).reply ≡ accepted (reporting d) = sym (ap (λ (o : Outcome Report Memory). o.reply) c ∙ (batch_alike n ls w v h a cs).0) in
       let same : queried n ls (network ts hs ws f b d.count) p s [] ≡ queried n ls (hand_on w (batch_call n ls w cs)) p s []
       = ap (λ (o : Outcome Report Memory). queried n ls (hand_on v o) p s []) c

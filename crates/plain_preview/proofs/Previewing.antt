@@ -3,8 +3,8 @@ use Rattle.property.proofs.Basics.{◌≡◌, refl, sym, ap, ap₂, ◌∙◌, B
 use lib.IntN.{ℤ}
 use Rattle.property.specs.Property.{property}
 use Rattle.graph.specs.Limits.{max_vertices}
-use Rattle.graph.specs.declared.Judged.{Judged}
-use Rattle.graph.specs.declared.Judged.TheVariants.{Fine, Refused}
+use Rattle.std.specs.Prelude.{Result, Ok, Err}
+use Rattle.graph.specs.declared.refusal.Refusal.{Refusal}
 use Rattle.graph.specs.Refusal.{Verdict, accept, refuse, ◌▷◌, refuse_if, accepted, replied, verdict_of, Outcome, over}
 use Rattle.graph.specs.Edge.{range}
 use Rattle.graph.specs.Table.{size, short_table, table}
@@ -12,9 +12,9 @@ use Rattle.graph.specs.Code.{told}
 use Rattle.graph.proofs.Tests.{or_false}
 use Rattle.graph.proofs.Lists.{range_below, get_or_within, take_replicate}
 use Rattle.graph.proofs.Verdicts.{then_accept, accept_then, accept_if, then_same, verdict_replied, outcome_refused, outcome_accepted}
-use Rattle.graph.proofs.Judging.{then_refused}
+use Rattle.graph.proofs.Judging.{size_accept, then_refused, fine_accept}
 use Rattle.run.specs.Run.{Tally, word}
-use Rattle.query.specs.declared.Answered.{Answered}
+use Rattle.run.specs.declared.Tally as declared
 use Rattle.query.specs.Code.{asking, words_of, answering, as_outcome}
 use Rattle.query.proofs.AskingFaults.{Sound, faults_accept}
 use Rattle.network.specs.Network.{Network, short_rows, landmarks, faults}
@@ -30,7 +30,7 @@ use Rattle.effects.specs.Code.{shown_of}
 use Rattle.plain_preview.specs.Code.{preview_outcome, AskDone}
 
 -- the reply r says what the query's does, whose answer goes to lists of n zeros
-pub answers_as : (n : ℕ) (ls : List ℕ) (w : Network) (p s : ℕ) (ys us zs : List ℕ) (a : Answered) (r : Judged) → n ≤ max_vertices → ys ≡ replicate n 0
+pub answers_as : (n : ℕ) (ls : List ℕ) (w : Network) (p s : ℕ) (ys us zs : List ℕ) (a : Result declared.Tally Refusal) (r : Result (Unit {0}) Refusal) → n ≤ max_vertices → ys ≡ replicate n 0
     → as_outcome a us zs ≡ query_call n ls w (asking p s []) (words_of (take n (replicate max_vertices 0)) ys) → told r ≡ verdict_of (answering a) → AskDone n ls w p s r zs
 answers_as n ls w p s ys us zs a r h y e v =
     let q : as_outcome a us zs ≡ queried n ls w p s [] = e ∙ ap₂ (λ us vs. query_call n ls w (asking p s []) (words_of us vs)) (take_replicate n max_vertices 0 h) y in
@@ -80,10 +80,26 @@ module _ (n : ℕ) (ls : List ℕ) (w : Network) (p s : ℕ) where
       let o : Words = words_of (replicate n 0) (replicate n 0) in
       verdict_replied (query_verdict n ls w (inquiry p s) o) _ ∙ query_verdict_lem n ls w (inquiry p s) o f b
 
--- what is known past them, where the batch has k changes
+-- what is known past the first of them, where the batch has k changes: there are few vertices, and the query before is judged as both are
+module _ (n : ℕ) (ls : List ℕ) (w : Network) (k p s : ℕ) (xs : List ℕ) (ys : List ℤ) (h : told (Ok tt) ≡ (long_batch k ▷ size n ▷ short_words n (length xs) (length ys))) where
+  pub few_vertices : n ≤ max_vertices
+  few_vertices =
+      let a = then_accept (long_batch k) (size n ▷ short_words n (length xs) (length ys)) (fine_accept _ h) in
+      let b = then_accept (size n) (short_words n (length xs) (length ys)) a.1 in
+      (size_accept n b.0).1
+
+  pub judged_before : FitList w.memory.rows.forward → FitList w.memory.rows.backward → (r : Result (Unit {0}) Refusal) (zs : List ℕ) → AskDone n ls w p s r zs
+      → told r ≡ (long_batch k ▷ query_faults n ls w (inquiry p s) (length xs) (length ys))
+  judged_before f b r zs x = x.verdict ∙ asked_verdict n ls w p s f b ∙ sym (faults_first n ls w p s k (length xs) (length ys) ∙ accept_then (fine_accept _ h))
+
+-- what is known past them
 pub record Passed (n : ℕ) (ls : List ℕ) (w : Network) (k p s : ℕ) (xs : List ℕ) (ys : List ℤ) : Type 0 where
   pub fine : (long_batch k ▷ query_faults n ls w (inquiry p s) (length xs) (length ys)) ≡ accept
   pub answered : verdict_of (queried n ls w p s []).reply ≡ accept
+
+pub passes : (n : ℕ) (ls : List ℕ) (w : Network) (k p s : ℕ) (xs : List ℕ) (ys : List ℤ) → told (Ok tt) ≡ (long_batch k ▷ size n ▷ short_words n (length xs) (length ys))
+    → FitList w.memory.rows.forward → FitList w.memory.rows.backward → (zs : List ℕ) → AskDone n ls w p s (Ok tt) zs → Passed n ls w k p s xs ys
+passes n ls w k p s xs ys h f b zs x = record { fine = fine_accept _ (judged_before n ls w k p s xs ys h f b (Ok tt) zs x); answered = fine_accept _ x.verdict }
 
 module _ {n : ℕ} {ls : List ℕ} {w : Network} {k p s : ℕ} {xs : List ℕ} {ys : List ℤ} (g : Passed n ls w k p s xs ys) where
   asked : query_faults n ls w (inquiry p s) (length xs) (length ys) ≡ accept
@@ -108,14 +124,14 @@ module _ (n : ℕ) (ls : List ℕ) (w : Network) (cs : List Change) (p s : ℕ) 
   out = shown_of xs ys
 
   -- refused: both lists stay
-  pub preview_refused : (r : Judged) {k i : ℕ} → r ≡ Refused k i → told r ≡ preview_verdict n ls w cs p s out → preview_outcome r xs ys ≡ preview_call n ls w cs p s out
+  pub preview_refused : (e : Refusal) → told (Err e) ≡ preview_verdict n ls w cs p s out → preview_outcome (Err e) xs ys ≡ preview_call n ls w cs p s out
   unfolding preview_call told replied
-  preview_refused r q e = ap (λ a. record { reply = replied (told a) tt; memory = out }) q ∙ sym (outcome_refused (preview_verdict n ls w cs p s out) tt _ out (sym e ∙ ap told q))
+  preview_refused e h = sym (outcome_refused (preview_verdict n ls w cs p s out) tt _ out (sym h))
 
-  pub preview_faulty : (r : Judged) {j k i : ℕ} → length cs ≡ j → r ≡ Refused k i → told r ≡ (long_batch j ▷ query_faults n ls w (inquiry p s) (length xs) (length ys))
-      → preview_outcome r xs ys ≡ preview_call n ls w cs p s out
+  pub preview_faulty : (e : Refusal) {j : ℕ} → length cs ≡ j → told (Err e) ≡ (long_batch j ▷ query_faults n ls w (inquiry p s) (length xs) (length ys))
+      → preview_outcome (Err e) xs ys ≡ preview_call n ls w cs p s out
   unfolding preview_faults
-  preview_faulty r l q e = preview_refused r q (then_refused r _ _ _ _ (rw l e) q)
+  preview_faulty e l h = preview_refused e (then_refused e _ _ (rw l h))
 
   -- accepted: where bs and as are the settled words before and after, both lists show what becomes of them
   module _ (bs as' : List ℕ) (lb : length bs ≡ n) (la : length as' ≡ n) (eb : bs ≡ (before n ls w cs p s).memory.settled) (ea : as' ≡ (afterwards n ls w cs p s).memory.settled) where
@@ -129,7 +145,7 @@ module _ (n : ℕ) (ls : List ℕ) (w : Network) (cs : List Change) (p s : ℕ) 
 
     pub preview_shown : preview_verdict n ls w cs p s out ≡ accept → {es : List ℕ} {ms : List ℤ}
         → shown_of es ms ≡ shown_of (over (map (λ t. effect_of (property p) (get_or bs t 0) (get_or as' t 0)) (range 0 (length bs))) xs)
-        (over (map (λ t. move_of (property p) (get_or bs t 0) (get_or as' t 0)) (range 0 (length bs))) ys) → preview_outcome Fine es ms ≡ preview_call n ls w cs p s out
+        (over (map (λ t. move_of (property p) (get_or bs t 0) (get_or as' t 0)) (range 0 (length bs))) ys) → preview_outcome (Ok tt) es ms ≡ preview_call n ls w cs p s out
     unfolding preview_call told replied
     preview_shown v e =
         ap (λ (o : Shown). record { reply = accepted tt; memory = o })

@@ -16,22 +16,17 @@ ghost use Rattle.items.specs.Code.{changes_of, Laid};
 ghost use Rattle.effects.specs.Code.{shown_of};
 ghost use Rattle.plain_preview.specs.Code.{preview_outcome, AskDone, AskAfterDone};
 
-use apply::Applied;
-use graph::{Judged, rules, words};
+use graph::{Refusal, rules, words};
 use items::lay;
-use query::Answered;
 
 // Number 1 of n and of a batch of so many changes, and number 2 of the lists for the answer: what comes before the query.
-fn judge_preview(n: u32, changes: usize, effects: usize, moves: usize) -> Judged
+fn judge_preview(n: u32, changes: usize, effects: usize, moves: usize) -> Result<(), Refusal>
     ensures { told result ≡ (long_batch changes ▷ size n ▷ short_words n effects moves) }
 {
     if changes > graph::MAX_BATCH {
-        return Judged::Refused(1, 0);
+        return Err(Refusal::Size);
     }
-    let own = rules::judge_size(n);
-    let Judged::Fine = own else {
-        return own;
-    };
+    rules::judge_size(n)?;
     calls::judge_outputs(n, effects, moves)
 }
 
@@ -48,13 +43,13 @@ fn ask(
     property: u32,
     source: u32,
     settled: &mut [u32],
-) -> Judged
+) -> Result<(), Refusal>
     requires { (n ≤ max_vertices) × (settled.old ≡ replicate n 0) }
     ensures { AskDone n landmarks.now (network tails.now heads.now weights.now forward.now backward.now count) property source result settled.new }
 {
     let mut starts = [0u32; graph::VERTEX_WORDS];
     let size = n as usize;
-    let r = query::query(
+    query::query(
         n,
         landmarks,
         tails,
@@ -68,11 +63,8 @@ fn ask(
         &landmarks[..0],
         &mut starts[..size],
         settled,
-    );
-    match r {
-        Answered::Settled(_) => Judged::Fine,
-        Answered::Refused(number, place) => Judged::Refused(number, place),
-    }
+    )?;
+    Ok(())
 }
 
 // The batch on a copy of the network, and then such a query there.
@@ -90,7 +82,7 @@ fn ask_after(
     property: u32,
     source: u32,
     settled: &mut [u32],
-) -> Judged
+) -> Result<(), Refusal>
     requires lists_len { (length lists.now ≡ 5 * max_batch) × (settled.old ≡ replicate n 0) }
     requires count_value { faults n landmarks.now (network tails.now heads.now weights.now forward.now backward.now count) ≡ accept }
     ensures { (cs : List Change) → Laid size cs lists.now → AskAfterDone n landmarks.now (network tails.now heads.now weights.now forward.now backward.now count) property source cs result settled.new }
@@ -113,7 +105,7 @@ fn ask_after(
     let rows = landmarks.len() * property::PROPERTIES * (n as usize);
     words::copy(rows, forward, &mut forward2, 0);
     words::copy(rows, backward, &mut backward2, 0);
-    let applied = plain_batch::batch_laid(
+    let report = plain_batch::batch_laid(
         n,
         landmarks,
         &mut tails2,
@@ -124,23 +116,20 @@ fn ask_after(
         &mut backward2,
         lists,
         size,
-    );
-    match applied {
-        Applied::Refused(number, place) => Judged::Refused(number, place),
-        Applied::Done(report) => ask(
-            n,
-            landmarks,
-            &tails2,
-            &heads2,
-            &weights2,
-            report.count,
-            &forward2,
-            &backward2,
-            property,
-            source,
-            settled,
-        ),
-    }
+    )?;
+    ask(
+        n,
+        landmarks,
+        &tails2,
+        &heads2,
+        &weights2,
+        report.count,
+        &forward2,
+        &backward2,
+        property,
+        source,
+        settled,
+    )
 }
 
 // What a batch of `size` changes would do to each vertex, by the words of a property from `source`: refused, or the two lists tell it; entries past
@@ -160,17 +149,14 @@ pub fn preview_laid(
     source: u32,
     effects: &mut [u32],
     moves: &mut [i64],
-) -> Judged
+) -> Result<(), Refusal>
     requires { length lists.now ≡ 5 * max_batch }
     ensures { (cs : List Change) → Laid size cs lists.now → preview_outcome result effects.new moves.new ≡ preview_call n landmarks.now (network tails.now heads.now weights.now forward.now backward.now count) cs property source (shown_of effects.old moves.old) }
 {
-    let judged = judge_preview(n, size, effects.len(), moves.len());
-    let Judged::Fine = judged else {
-        return judged;
-    };
+    judge_preview(n, size, effects.len(), moves.len())?;
     let vertices = n as usize;
     let mut before = [0u32; graph::VERTEX_WORDS];
-    let sooner = ask(
+    ask(
         n,
         landmarks,
         tails,
@@ -182,12 +168,9 @@ pub fn preview_laid(
         property,
         source,
         &mut before[..vertices],
-    );
-    let Judged::Fine = sooner else {
-        return sooner;
-    };
+    )?;
     let mut after = [0u32; graph::VERTEX_WORDS];
-    let later = ask_after(
+    ask_after(
         n,
         landmarks,
         tails,
@@ -201,10 +184,7 @@ pub fn preview_laid(
         property,
         source,
         &mut after[..vertices],
-    );
-    let Judged::Fine = later else {
-        return later;
-    };
+    )?;
     effects::show(
         property,
         &before[..vertices],
@@ -212,7 +192,7 @@ pub fn preview_laid(
         effects,
         moves,
     );
-    Judged::Fine
+    Ok(())
 }
 
 // The same of changes of five words each, for callers that can lend no slice of records.
@@ -230,7 +210,7 @@ pub fn preview_words(
     source: u32,
     effects: &mut [u32],
     moves: &mut [i64],
-) -> Judged
+) -> Result<(), Refusal>
     ensures { preview_outcome result effects.new moves.new ≡ preview_call n landmarks.now (network tails.now heads.now weights.now forward.now backward.now count) (changes_of changes.now) property source (shown_of effects.old moves.old) }
 {
     let m = changes.len();

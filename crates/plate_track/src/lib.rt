@@ -12,7 +12,7 @@ ghost use Rattle.answers.specs.Routing.{route_call};
 ghost use Rattle.answers.specs.Preview.{preview_call};
 ghost use Rattle.answers.specs.Digest.{digest_call};
 ghost use Rattle.dimacs.specs.Call.{read_call, write_call, sources_call};
-ghost use Rattle.graph.specs.Code.{columns};
+ghost use Rattle.graph.specs.Code.{columns, reply_of};
 ghost use Rattle.calls.specs.Code.{row_lists, lists, network};
 ghost use Rattle.items.specs.Code.{changes_of};
 ghost use Rattle.query.specs.Code.{asking, words_of};
@@ -21,8 +21,9 @@ ghost use Rattle.effects.specs.Code.{shown_of};
 ghost use Rattle.spelling.specs.Code.{open_words, tally_words, report_words, check_words, choice_words, size_words, one_word, digest_words};
 ghost use Rattle.plate_track.specs.Code.{spelled, alone, lookup_start, version};
 
-use graph::Judged;
-use spelling::{REPLY_WORDS, spell};
+use graph::Refusal;
+use spelling::REPLY_WORDS;
+use spelling::spell::spell;
 
 const VERSION: u32 = 2;
 
@@ -55,7 +56,7 @@ pub extern "C" fn plate_track_open(
     let r = open::open(
         n, landmarks, tails, heads, weights, count, forward, backward,
     );
-    spell::spell_open(r, reply)
+    spell(r, reply)
 }
 
 // Query.
@@ -85,7 +86,7 @@ pub extern "C" fn plate_track_query(
         n, landmarks, tails, heads, weights, count, forward, backward, property, source, schedule,
         starts, settled,
     );
-    spell::spell_query(r, reply)
+    spell(r, reply)
 }
 
 // Batch: a change is five words, kind, tail, head, weight and old weight.
@@ -120,7 +121,7 @@ pub extern "C" fn plate_track_batch_v2(
         0,
         changes.len(),
     );
-    spell::spell_batch(r, reply)
+    spell(r, reply)
 }
 
 // Settled check.
@@ -144,7 +145,7 @@ pub extern "C" fn plate_track_settled(
     let r = settled_check::find_relaxable(
         n, landmarks, tails, heads, weights, count, forward, backward,
     );
-    spell::spell_check(r, reply)
+    spell(r, reply)
 }
 
 // Landmark choice.
@@ -164,7 +165,7 @@ pub extern "C" fn plate_track_choose(
         return 2;
     }
     let r = choice::choose_landmarks(n, tails, heads, weights, count, k);
-    spell::spell_choice(r, reply)
+    spell(r, reply)
 }
 
 // Row look-up.
@@ -184,14 +185,25 @@ pub extern "C" fn plate_track_row(
     if reply.len() < REPLY_WORDS {
         return 2;
     }
-    let r = lookup::row_number(n, landmarks, forward, backward, side, landmark, property);
-    if let Judged::Refused(number, place) = r {
-        reply[0] = place as u64;
-        return number;
-    }
+    let r = row_start(n, landmarks, forward, backward, side, landmark, property);
+    spell(r, reply)
+}
+
+// Where the row that a look-up shows starts in its list.
+fn row_start(
+    n: u32,
+    landmarks: &[u32],
+    forward: &[u32],
+    backward: &[u32],
+    side: u32,
+    landmark: u32,
+    property: u32,
+) -> Result<usize, Refusal>
+    ensures { reply_of (λ i. i) result ≡ lookup_start n landmarks.now (row_lists forward.now backward.now) side landmark property }
+{
+    lookup::row_number(n, landmarks, forward, backward, side, landmark, property)?;
     let i = lookup::index_of(landmark, landmarks);
-    reply[0] = calls::row_start(property, n as usize, i) as u64;
-    0
+    Ok(calls::row_start(property, n as usize, i))
 }
 
 // Network text into table lists.
@@ -209,7 +221,7 @@ pub extern "C" fn plate_track_read(
         return 2;
     }
     let r = reader::network_text::read_network(text, tails, heads, weights);
-    spell::spell_read(r, reply)
+    spell(r, reply)
 }
 
 // A network's text.
@@ -229,7 +241,7 @@ pub extern "C" fn plate_track_write(
         return 2;
     }
     let r = writer::network_text::write_network(n, tails, heads, weights, count, text);
-    spell::spell_write(r, reply)
+    spell(r, reply)
 }
 
 // A source file into a list of vertices.
@@ -246,7 +258,7 @@ pub extern "C" fn plate_track_read_sources(
         return 2;
     }
     let r = sources::read_sources(n, text, sources);
-    spell::spell_sources(r, reply)
+    spell(r, reply)
 }
 
 // Route.
@@ -273,7 +285,7 @@ pub extern "C" fn plate_track_route_v2(
     let r = routing::route(
         n, tails, heads, weights, count, property, source, target, vertices, marks, figures,
     );
-    spell::spell_route(r, reply)
+    spell(r, reply)
 }
 
 // Preview: what a batch would do.
@@ -303,7 +315,7 @@ pub extern "C" fn plate_track_preview_v2(
         n, landmarks, tails, heads, weights, count, forward, backward, changes, property, source,
         effects, moves,
     );
-    spell::spell_preview(r, reply)
+    spell(r, reply)
 }
 
 // Digest of a preview.
@@ -321,5 +333,5 @@ pub extern "C" fn plate_track_digest(
         return 2;
     }
     let r = digest::digest_preview(n, property, effects, moves);
-    spell::spell_digest(r, reply)
+    spell(r, reply)
 }

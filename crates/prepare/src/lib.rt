@@ -16,7 +16,7 @@ ghost use Rattle.compare.specs.Code.{before, after, changes_in, Inside, Faces};
 ghost use Rattle.hunt.specs.Code.{from_end};
 ghost use Rattle.prepare.specs.Code.{Batched, edge_lost, starts, Raised, Started, Woken, Entering};
 
-use frontier::{Next, Words};
+use frontier::Words;
 use graph::arc;
 
 // ---- what the changes do
@@ -64,12 +64,9 @@ fn take_changes(p: u32, s: u32, net: &[u32], words: &[u32], todo: &mut Words, wa
     ensures raised { Raised (waiting_of todo.old) (waiting_of todo.new) (Started (property p) s words.now net.now (changes_in net.now)) × Marks (length words.now) todo.new }
     ensures raised_2 { Raised (waiting_of waiting.old) (waiting_of waiting.new) (Woken (property p) net.now (changes_in net.now)) × Marks (length words.now) waiting.new }
 {
-    let size = net.len() / 2;
-    let mut k = 0;
-    while k < size {
+    for k in 0..net.len() / 2 {
         start_change(p, s, k, net, words, todo);
         wake_change(p, k, net, waiting);
-        k += 1;
     }
 }
 
@@ -82,10 +79,9 @@ fn wake_into(n: usize, v: usize, into: &[u32], waiting: &mut Words)
     ensures marks { Marks n waiting.new }
 {
     let hi = into[v + 1] as usize;
-    let mut j = into[v] as usize;
-    while j < hi {
+    let lo = into[v] as usize;
+    for j in lo..hi {
         frontier::insert(waiting, arc::head(into[j]) as usize);
-        j += 1;
     }
 }
 
@@ -104,9 +100,9 @@ fn reopen_marked(
     ensures marks { Marks n waiting.new }
 {
     let mut i = 0;
+    // kept as a `while`: a turn leads to the next marked vertex, and `next_from` may be asked below the last one alone
     while i < n {
-        let next = frontier::next_from(marks, i);
-        let Next::At(v) = next else {
+        let Some(v) = frontier::next_from(marks, i) else {
             return;
         };
         words[v] = property::none(p);

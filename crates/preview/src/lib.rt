@@ -9,7 +9,7 @@ ghost use Rattle.effects.specs.Code.{shown_of};
 ghost use Rattle.plain_preview.specs.Code.{preview_outcome};
 
 use batch::Change;
-use graph::Judged;
+use graph::Refusal;
 
 // What a batch would do to each vertex, by the words of a property from `source`. The network is lent to read.
 pub fn preview(
@@ -26,15 +26,11 @@ pub fn preview(
     source: u32,
     effects: &mut [u32],
     moves: &mut [i64],
-) -> Judged
+) -> Result<(), Refusal>
     ensures { preview_outcome result effects.new moves.new ≡ preview_call n landmarks.now (network tails.now heads.now weights.now forward.now backward.now count) (map recorded changes.now) property source (shown_of effects.old moves.old) }
 {
     let mut lists = [0u32; items::BATCH_WORDS];
-    batch::copy_changes(
-        changes,
-        graph::lesser(changes.len(), graph::MAX_BATCH),
-        &mut lists,
-    );
+    batch::copy_changes(changes, changes.len().min(graph::MAX_BATCH), &mut lists);
     plain_preview::preview_laid(
         n,
         landmarks,

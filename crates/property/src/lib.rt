@@ -1,7 +1,7 @@
 // The five properties of routes, by number: what a run computes with. Every sum saturates.
 #![tactic(auto)]
 
-ghost use Rattle.std.specs.Prelude.{◌≡◌, min, max};
+ghost use Rattle.std.specs.Prelude.{◌≡◌};
 ghost use Rattle.property.specs.Property.{plus, property};
 
 // How many properties there are: `properties` of specs/Property.antt is the same number. Their numbers are 1 to this.
@@ -14,21 +14,7 @@ pub const GREATEST: u32 = 0xffff_ffff;
 fn sum(a: u32, b: u32) -> u32
     ensures { result ≡ plus a b }
 {
-    if b < GREATEST - a { a + b } else { GREATEST }
-}
-
-// The lesser of two words.
-fn lesser(a: u32, b: u32) -> u32
-    ensures { result ≡ min a b }
-{
-    if a < b { a } else { b }
-}
-
-// The greater of two words.
-fn greater(a: u32, b: u32) -> u32
-    ensures { result ≡ max a b }
-{
-    if a < b { b } else { a }
+    a.saturating_add(b)
 }
 
 // The value at the source.
@@ -64,8 +50,8 @@ pub fn along(p: u32, v: u32, w: u32) -> u32
     match p {
         1 => sum(v, w),
         2 => sum(v, 1),
-        3 => lesser(v, w),
-        4 => greater(v, w),
+        3 => v.min(w),
+        4 => v.max(w),
         _ => v,
     }
 }
@@ -90,9 +76,9 @@ pub fn join(p: u32, a: u32, b: u32) -> u32
     match p {
         1 => sum(a, b),
         2 => sum(a, b),
-        3 => lesser(a, b),
-        4 => greater(a, b),
-        _ => lesser(a, b),
+        3 => a.min(b),
+        4 => a.max(b),
+        _ => a.min(b),
     }
 }
 

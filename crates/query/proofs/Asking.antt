@@ -1,7 +1,8 @@
 -- A query's start words and its schedule, landmark by landmark, vertex by vertex and entry by entry. Assumes nothing.
 use Rattle.property.proofs.Basics.{◌≡◌, sym, ap, ap₂, ◌∙◌, cond, List, map, ℕ, suc, ◌+◌, ◌-◌, ◌*◌, ◌<◌, ◌≤◌, sub-zero, add-one, arith, length, get_or, drop, drop_of_length-le, drop-cons, ext_get_or, eqb, lt-ltb, le-ltb, eq-eqb, ne_eqb}
 use Rattle.property.specs.Property.{Property, property}
-use Rattle.graph.specs.declared.Judged.TheVariants.{Fine, Refused}
+use Rattle.std.specs.Prelude.{Ok, Err}
+use Rattle.graph.specs.declared.refusal.Refusal.TheVariants.{Vertex}
 use Rattle.graph.specs.Refusal.{Verdict, ◌▷◌, refuse_if}
 use Rattle.graph.specs.Edge.{range}
 use Rattle.graph.specs.Code.{told}
@@ -76,10 +77,10 @@ module _ (n : ℕ) (vs : List ℕ) (i : ℕ) {v : Verdict} (h : scheduled n i (d
   unfolding scheduled refuse_if ◌▷◌
   schedule_more l e = rw add-one (rw (drop-cons vs i 0 l, lt-ltb (get_or vs i 0) n e) at h)
 
-  pub schedule_broken : i < length vs → n ≤ get_or vs i 0 → told (Refused 6 i) ≡ v
+  pub schedule_broken : i < length vs → n ≤ get_or vs i 0 → told (Err (Vertex i)) ≡ v
   unfolding told scheduled refuse_if ◌▷◌
   schedule_broken l e = rw (drop-cons vs i 0 l, le-ltb (get_or vs i 0) n e) at h
 
-  pub schedule_none : length vs ≤ i → told Fine ≡ v
+  pub schedule_none : length vs ≤ i → told (Ok tt) ≡ v
   unfolding told scheduled
   schedule_none l = rw (drop_of_length-le vs {i = i} l) at h

@@ -1,19 +1,18 @@
 -- A query's run and its outcome: from the start words to the reply and the lists lent for the answer. Assumes nothing.
 use Rattle.property.proofs.Basics.{◌≡◌, sym, ap, ◌∙◌, List, ◌++◌, ℕ, length, drop, drop_at, paste}
 use Rattle.property.specs.Property.{property}
-use Rattle.graph.specs.declared.Judged.{Judged}
-use Rattle.graph.specs.declared.Judged.TheVariants as judged
+use Rattle.std.specs.Prelude.{Ok, Err}
+use Rattle.graph.specs.declared.refusal.Refusal.{Refusal}
 use Rattle.graph.specs.Refusal.{accept, accepted, over}
-use Rattle.graph.specs.Code.{told}
+use Rattle.graph.specs.Code.{told, reply_of}
 use Rattle.graph.proofs.Verdicts.{refuse_then, outcome_refused, outcome_accepted}
 use Rattle.run.specs.declared.Tally.{Tally}
 use Rattle.run.specs.Run.{State}
 use Rattle.run.specs.Start.{asked}
 use Rattle.run.specs.Code.{state}
-use Rattle.query.specs.declared.Answered.TheVariants.{Settled, Refused}
 use Rattle.network.specs.Network.{Network, edges_in}
 use Rattle.network.specs.Query.{Query, at_start, at_end, query_faults, query_verdict, query_call}
-use Rattle.query.specs.Code.{answering, words_of, as_outcome, run_from, Ended}
+use Rattle.query.specs.Code.{words_of, as_outcome, run_from, Ended}
 use Rattle.network.proofs.Never.{FitList, query_verdict_lem}
 use Rattle.graph.proofs.Copies.{paste_over}
 
@@ -30,17 +29,17 @@ run_ended n st zs ys vs ws bs t e lz lw ev =
 
 module _ (n : ℕ) (ls : List ℕ) (w : Network) (q : Query) (xs ys : List ℕ) where
   -- a refusal before the run
-  pub query_refused : (a : Judged) {k i : ℕ} → told a ≡ query_faults n ls w q (length xs) (length ys) → a ≡ judged.Refused k i
-      → as_outcome (Refused k i) xs ys ≡ query_call n ls w q (words_of xs ys)
-  unfolding query_call answering told
-  query_refused a e f =
-      sym (outcome_refused (query_verdict n ls w q (words_of xs ys)) _ _ _ (refuse_then _ _ (sym e ∙ ap told f)))
+  pub query_refused : (e : Refusal) → told (Err e) ≡ query_faults n ls w q (length xs) (length ys)
+      → as_outcome (Err e) xs ys ≡ query_call n ls w q (words_of xs ys)
+  unfolding query_call reply_of told
+  query_refused e h =
+      sym (outcome_refused (query_verdict n ls w q (words_of xs ys)) _ _ _ (refuse_then _ _ (sym h)))
 
   -- None is. Nothing waits after n rounds, whatever words of 32 bits the rows hold.
   pub query_settled : FitList w.memory.rows.forward → FitList w.memory.rows.backward → query_faults n ls w q (length xs) (length ys) ≡ accept
       → (zs us vs : List ℕ) (t : Tally) → zs ≡ (at_start n ls w q).words → us ≡ over zs xs
-      → Ended (run_from (property q.property) (edges_in w) n q.source q.schedule zs) t ys vs → as_outcome (Settled t) us vs ≡ query_call n ls w q (words_of xs ys)
-  unfolding query_call answering asked
+      → Ended (run_from (property q.property) (edges_in w) n q.source q.schedule zs) t ys vs → as_outcome (Ok t) us vs ≡ query_call n ls w q (words_of xs ys)
+  unfolding query_call reply_of asked
   query_settled f b fine zs us vs t e eu (d, c) =
       let ended : run_from (property q.property) (edges_in w) n q.source q.schedule zs ≡ at_end n ls w q
       = ap (run_from (property q.property) (edges_in w) n q.source q.schedule) e in

@@ -8,17 +8,17 @@
 --   run_from P es n s vs ws == the state after a query's run: from the start words ws, with the source s alone waiting, the schedule vs and the rounds
 --   Ended st t ys zs        == a run that ended in the state st has the tally t, and its words stand at the front of the list zs, which was ys
 --   Rowed n ls p s f b      == p is a property, s one of not too many vertices, and both row lists have every row of the landmarks ls
-use Rattle.std.specs.Prelude.{◌≡◌, true, false, List, [], ℕ, ◌*◌, ◌<◌, ◌≤◌, length, set, replicate}
+use Rattle.std.specs.Prelude.{◌≡◌, true, false, List, [], ℕ, ◌*◌, ◌<◌, ◌≤◌, length, set, replicate, Result}
 use Rattle.property.specs.Property.{Property, properties}
 use Rattle.graph.specs.Limits.{max_vertices, max_landmarks}
-use Rattle.graph.specs.Refusal.{Reply, accepted, refused, Outcome, over}
+use Rattle.graph.specs.declared.refusal.Refusal.{Refusal}
+use Rattle.graph.specs.Refusal.{Reply, Outcome, over}
 use Rattle.graph.specs.Edge.{Edge}
+use Rattle.graph.specs.Code.{reply_of}
 use Rattle.run.specs.Run.{State, Tally, no_tally, pass, settle}
 use Rattle.run.specs.declared.Tally as declared
 use Rattle.run.specs.Code.{counts}
 use Rattle.run.specs.Start.{Landmark}
-use Rattle.query.specs.declared.Answered.{Answered}
-use Rattle.query.specs.declared.Answered.TheVariants.{Settled, Refused}
 use Rattle.network.specs.Network.{row_count}
 use Rattle.network.specs.Query.{Query, Words, known}
 use Rattle.calls.specs.Code.{network}
@@ -29,11 +29,10 @@ asking p s vs = record { property = p; source = s; schedule = vs }
 abbrev pub words_of : List ℕ → List ℕ → Words
 words_of xs ys = record { starts = xs; settled = ys }
 
-unfoldable pub answering : Answered → Reply Tally
-answering (Settled t) = accepted (counts t)
-answering (Refused k i) = refused k i
+abbrev pub answering : Result declared.Tally Refusal → Reply Tally
+answering r = reply_of counts r
 
-abbrev pub as_outcome : Answered → List ℕ → List ℕ → Outcome Tally Words
+abbrev pub as_outcome : Result declared.Tally Refusal → List ℕ → List ℕ → Outcome Tally Words
 as_outcome r xs ys = record { reply = answering r; memory = words_of xs ys }
 
 -- ---- the run

@@ -15,50 +15,38 @@ ghost use Rattle.network.specs.Query.{scheduled, long_schedule, requested, query
 ghost use Rattle.calls.specs.Code.{network};
 ghost use Rattle.query.specs.Code.{asking, words_of, as_outcome, run_from, Ended, known_by, Rowed};
 
-use graph::{Judged, ends, rules};
+use graph::{Refusal, ends, rules};
 use run::Tally;
 
-// The reply to a query: its tally.
-#[derive(Drop)]
-pub enum Answered {
-    Settled(Tally),
-    Refused(u32, usize),
-}
-
 // Number 6 at the first entry of a schedule that is no vertex.
-fn judge_schedule(n: u32, schedule: &[u32]) -> Judged
+fn judge_schedule(n: u32, schedule: &[u32]) -> Result<(), Refusal>
     ensures { told result ≡ scheduled n 0 schedule.now }
 {
-    let mut i = 0;
-    while i < schedule.len() {
-        if schedule[i] >= n {
-            return Judged::Refused(6, i);
+    for (i, &vertex) in schedule.iter().enumerate() {
+        if vertex >= n {
+            return Err(Refusal::Vertex(i));
         }
-        i += 1;
     }
-    Judged::Fine
+    Ok(())
 }
 
 // Number 1: n is 0 or over `MAX_VERTICES`, or the schedule has over `MAX_SCHEDULE` entries.
-fn judge_sizes(n: u32, entries: usize) -> Judged
+fn judge_sizes(n: u32, entries: usize) -> Result<(), Refusal>
     ensures { told result ≡ (size n ▷ long_schedule entries) }
 {
-    let size = rules::judge_size(n);
-    let Judged::Fine = size else {
-        return size;
-    };
-    rules::refuse_if(entries > graph::MAX_SCHEDULE, 1, 0)
+    rules::judge_size(n)?;
+    rules::refuse_if(entries > graph::MAX_SCHEDULE, Refusal::Size)
 }
 
 // Numbers 5 and 6: no property, a source or an entry of the schedule that is no vertex.
-fn judge_request(n: u32, property: u32, source: u32, schedule: &[u32]) -> Judged
+fn judge_request(n: u32, property: u32, source: u32, schedule: &[u32]) -> Result<(), Refusal>
     ensures { told result ≡ requested n (asking property source schedule.now) }
 {
     if !calls::is_property(property) {
-        return Judged::Refused(5, 0);
+        return Err(Refusal::Property);
     }
     if source >= n {
-        return Judged::Refused(6, 0);
+        return Err(Refusal::Vertex(0));
     }
     judge_schedule(n, schedule)
 }
@@ -78,25 +66,13 @@ fn judge_query(
     schedule: &[u32],
     starts: usize,
     settled: usize,
-) -> Judged
+) -> Result<(), Refusal>
     ensures { told result ≡ query_faults n landmarks.now (network tails.now heads.now weights.now forward.now backward.now count) (asking property source schedule.now) starts settled }
 {
-    let sizes = judge_sizes(n, schedule.len());
-    let Judged::Fine = sizes else {
-        return sizes;
-    };
-    let lists = calls::judge_lists(n, landmarks, tails, heads, weights, forward, backward);
-    let Judged::Fine = lists else {
-        return lists;
-    };
-    let outputs = calls::judge_outputs(n, starts, settled);
-    let Judged::Fine = outputs else {
-        return outputs;
-    };
-    let network = calls::judge_network(n, landmarks, tails, heads, weights, count);
-    let Judged::Fine = network else {
-        return network;
-    };
+    judge_sizes(n, schedule.len())?;
+    calls::judge_lists(n, landmarks, tails, heads, weights, forward, backward)?;
+    calls::judge_outputs(n, starts, settled)?;
+    calls::judge_network(n, landmarks, tails, heads, weights, count)?;
     judge_request(n, property, source, schedule)
 }
 
@@ -112,10 +88,8 @@ fn join_row_of(p: u32, b: u32, at: usize, forward: &[u32], out: &mut [u32])
     requires { at + length out.old ≤ length forward.now }
     ensures { (t : ℕ) → t < length out.old → get_or out.new t 0 ≡ start.finer (property p) ((property p).join b (get_or forward.now (at + t) 0)) (get_or out.old t 0) }
 {
-    let mut t = 0;
-    while t < out.len() {
-        out[t] = finer(p, property::join(p, b, forward[at + t]), out[t]);
-        t += 1;
+    for (t, word) in out.iter_mut().enumerate() {
+        *word = finer(p, property::join(p, b, forward[at + t]), *word);
     }
 }
 
@@ -148,9 +122,7 @@ fn start_words(
     ensures { out.new ≡ (start.asked (property p) (known_by n landmarks.now p source forward.now backward.now) n source).words }
 {
     graph::words::fill(out, property::none(p));
-    let mut i = landmarks.len();
-    while i > 0 {
-        i -= 1;
+    for i in (0..landmarks.len()).rev() {
         let at = calls::row_start(p, n, i);
         join_row(p, backward[at + source], at, forward, out);
     }
@@ -204,10 +176,10 @@ pub fn query(
     schedule: &[u32],
     starts: &mut [u32],
     settled: &mut [u32],
-) -> Answered
+) -> Result<Tally, Refusal>
     ensures { as_outcome result starts.new settled.new ≡ query_call n landmarks.now (network tails.now heads.now weights.now forward.now backward.now count) (asking property source schedule.now) (words_of starts.old settled.old) }
 {
-    let judged = judge_query(
+    judge_query(
         n,
         landmarks,
         tails,
@@ -221,10 +193,7 @@ pub fn query(
         schedule,
         starts.len(),
         settled.len(),
-    );
-    if let Judged::Refused(number, place) = judged {
-        return Answered::Refused(number, place);
-    }
+    )?;
     let size = n as usize;
     let mut start = [0u32; graph::VERTEX_WORDS];
     start_words(
@@ -250,5 +219,5 @@ pub fn query(
         &start[..size],
         settled,
     );
-    Answered::Settled(tally)
+    Ok(tally)
 }

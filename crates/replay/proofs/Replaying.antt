@@ -1,5 +1,8 @@
 -- A replay as a call: which changes a batch has, what is left of the batches after one, and the opening's part in the reply. Assumes nothing.
 use Rattle.property.proofs.Basics.{◌≡◌, sym, ap, subst, ◌∙◌, List, [], ◌∷◌, append-nil, ℕ, ◌+◌, ◌-◌, ◌≤◌, ◌<◌, add-zero, zero-add, add-one, arith, length, get_or, take, drop, drop_of_length-le, drop-cons}
+use Rattle.std.specs.Prelude.{Result, Ok, Err}
+use Rattle.graph.specs.declared.refusal.Refusal.{Refusal}
+use Rattle.graph.specs.Code.{number, place, reply_of}
 use Rattle.graph.specs.Refusal.{accept, refuse, accepted, refused, verdict_of, choose, Outcome}
 use Rattle.graph.proofs.Verdicts.{verdict_replied, reply_accepted, outcome_refused, outcome_accepted}
 use Rattle.network.specs.Network.{Memory, Network, edges_in, faults}
@@ -13,17 +16,12 @@ use Rattle.network.proofs.Moment.{Good, opens, steps}
 use Rattle.network.proofs.Never.{open_judged}
 use Rattle.network.proofs.History.{history}
 use Rattle.calls.specs.Code.{lists, network}
-use Rattle.apply.specs.declared.Applied.{Applied}
-use Rattle.apply.specs.declared.Applied.TheVariants as applied
 use Rattle.apply.specs.declared.Report.{Report}
-use Rattle.apply.specs.Code.{applying, batch_outcome}
-use Rattle.open.specs.declared.Opened.{Opened}
-use Rattle.open.specs.declared.Opened.TheVariants as opened
-use Rattle.open.specs.Code.{opening, open_outcome}
-use Rattle.replay.specs.declared.Replayed.{Replayed}
-use Rattle.replay.specs.declared.Replayed.TheVariants.{Done, Refused}
+use Rattle.apply.specs.Code.{batch_outcome}
+use Rattle.open.specs.Code.{open_outcome}
+use Rattle.replay.specs.declared.Summary as declared
 use Rattle.replay.specs.Replay.{Summary, batches_from, accepted_of, replay_call}
-use Rattle.replay.specs.Code.{replaying, replay_outcome, carried, AtExit}
+use Rattle.replay.specs.Code.{summary_of, replay_outcome, carried, AtExit}
 
 -- ---- which changes a batch has
 
@@ -44,23 +42,23 @@ module _ (n : ℕ) (ls : List ℕ) (w : Network) (k : ℕ) (b : List Change) (bs
   carried_on v j p q = rw (p, q) (rw e at h)
 
   module _ (ts hs ws f g : List ℕ) where
-    pub carried_done : (q : Applied) (r : Report) → q ≡ applied.Done r → batch_outcome q ts hs ws f g ≡ batch_call n ls w b
+    pub carried_done : (q : Result Report Refusal) (r : Report) → q ≡ Ok r → batch_outcome q ts hs ws f g ≡ batch_call n ls w b
         → (m j : ℕ) → m ≡ r.count → j ≡ k + 1 → carried n ls (network ts hs ws f g m) j cs ≡ z
-    unfolding applying reported verdict_of choose
+    unfolding reply_of reported verdict_of choose
     carried_done q r d o m j c a =
-        let p : batch_outcome (applied.Done r) ts hs ws f g ≡ batch_call n ls w b = rw d at o in
+        let p : batch_outcome (Ok r) ts hs ws f g ≡ batch_call n ls w b = rw d at o in
         rw (c, a) (carried_on _ _ (ap (λ x. hand_on w x) p) (ap (λ x. k + choose (verdict_of x.reply) 1 0) p))
 
-    pub carried_refused : (q : Applied) (u i : ℕ) → q ≡ applied.Refused u i → batch_outcome q ts hs ws f g ≡ batch_call n ls w b
+    pub carried_refused : (q : Result Report Refusal) (u : Refusal) → q ≡ Err u → batch_outcome q ts hs ws f g ≡ batch_call n ls w b
         → (m j : ℕ) → m ≡ w.count → j ≡ k → carried n ls (network ts hs ws f g m) j cs ≡ z
-    unfolding applying reported verdict_of choose
-    carried_refused q u i d o m j c a =
-        let p : batch_outcome (applied.Refused u i) ts hs ws f g ≡ batch_call n ls w b = rw d at o in
+    unfolding reply_of reported verdict_of choose
+    carried_refused q u d o m j c a =
+        let p : batch_outcome (Err u) ts hs ws f g ≡ batch_call n ls w b = rw d at o in
         rw (c, a) (carried_on _ _ (ap (λ x. hand_on w x) p) (sym (add-zero k) ∙ ap (λ x. k + choose (verdict_of x.reply) 1 0) p))
 
 pub carried_none : (n : ℕ) (ls ts hs ws f b : List ℕ) (m k : ℕ) (bs : List (List Change)) {z : Outcome Summary Memory} → bs ≡ []
-    → carried n ls (network ts hs ws f b m) k bs ≡ z → replay_outcome (Done m k) ts hs ws f b ≡ z
-unfolding carried replaying
+    → carried n ls (network ts hs ws f b m) k bs ≡ z → replay_outcome (Ok (record { count = m; accepted_batches = k })) ts hs ws f b ≡ z
+unfolding carried reply_of
 carried_none n ls ts hs ws f b m k bs e h = rw e at h
 
 -- On a network that keeps the invariant each call accepts the batches that "Turned back" accepts on its edges, and hands on the edges
@@ -98,41 +96,41 @@ module _ (n : ℕ) (ls : List ℕ) (w : Network) (bs : List (List Change)) where
   call_refused k i h = outcome_refused (faults n ls w) _ _ _ h
 
   -- after a refused opening nothing is done
-  pub replay_refused : (q : Opened) (k i : ℕ) (ts hs ws f b : List ℕ) → q ≡ opened.Refused k i → open_outcome q ts hs ws f b ≡ open_call n ls w
-      → replay_outcome (Refused k i) ts hs ws f b ≡ replay_call n ls w bs
-  unfolding opening replaying verdict_of open_call
-  replay_refused q k i ts hs ws f b e o =
-      let v : verdict_of (open_call n ls w).reply ≡ refuse k i = ap (λ x. verdict_of x.reply) (sym o) ∙ ap (λ x. verdict_of (opening x)) e in
+  pub replay_refused : (e : Refusal) (ts hs ws f b : List ℕ) → open_outcome (Err e) ts hs ws f b ≡ open_call n ls w
+      → replay_outcome (Err e) ts hs ws f b ≡ replay_call n ls w bs
+  unfolding reply_of verdict_of open_call
+  replay_refused e ts hs ws f b o =
+      let v : verdict_of (open_call n ls w).reply ≡ refuse (number e) (place e) = ap (λ x. verdict_of x.reply) (sym o) in
       let m : lists ts hs ws f b ≡ w.memory =
       ap (λ x. x.memory) (o ∙ outcome_refused (open_verdict n ls w) tt (open_memory n ls w) w.memory (sym (verdict_replied (open_verdict n ls w) tt) ∙ v)) in
-      rw m (sym (call_refused k i (sym (open_judged n ls w) ∙ v)))
+      rw m (sym (call_refused (number e) (place e) (sym (open_judged n ls w) ∙ v)))
 
   -- After an accepted opening the invariant holds, and the batches go on from there.
-  pub replay_done : (q : Opened) (ts hs ws f b : List ℕ) → q ≡ opened.Accepted → open_outcome q ts hs ws f b ≡ open_call n ls w
+  pub replay_done : (ts hs ws f b : List ℕ) → open_outcome (Ok tt) ts hs ws f b ≡ open_call n ls w
       → {z : Outcome Summary Memory} → z ≡ carried n ls (network ts hs ws f b w.count) 0 bs → z ≡ replay_call n ls w bs
-  unfolding opening verdict_of
-  replay_done q ts hs ws f b a o h =
-      let v : verdict_of (open_call n ls w).reply ≡ accept = ap (λ x. verdict_of x.reply) (sym o) ∙ ap (λ x. verdict_of (opening x)) a in
+  unfolding reply_of verdict_of
+  replay_done ts hs ws f b o h =
+      let v : verdict_of (open_call n ls w).reply ≡ accept = ap (λ x. verdict_of x.reply) (sym o) in
       let e : network ts hs ws f b w.count ≡ opened_network n ls w = ap (λ x. record { memory = x.memory; count = w.count }) o in
       let g = opens n ls w v in
       h ∙ ap (λ x. carried n ls x 0 bs) e ∙ carried_good n ls (opened_network n ls w) 0 bs g.0 ∙ (rw (g.1, zero-add (accepted_of n (edges_in w) bs))) ∙ sym (call_done (sym (open_judged n ls w) ∙ v))
 
 -- Where the reply is no refusal, the opening was accepted, and what the lists hold is the network at the last moment of the batches: of
 -- that one demand 3 speaks.
-pub replay_ends : (n : ℕ) (ls : List ℕ) (w : Network) (bs : List (List Change)) (r : Replayed) (ts hs ws f b : List ℕ)
+pub replay_ends : (n : ℕ) (ls : List ℕ) (w : Network) (bs : List (List Change)) (r : Result declared.Summary Refusal) (ts hs ws f b : List ℕ)
     → replay_outcome r ts hs ws f b ≡ replay_call n ls w bs → AtExit n ls w bs r ts hs ws f b
-unfolding replaying replay_call
-replay_ends n ls w bs r ts hs ws f b o = record { holds = λ m k e. subst (Holds n ls (edges_now n w bs)) (same m k e) (((began m k e).holds bs []) (sym (append-nil bs))); past = began }
+unfolding reply_of replay_call
+replay_ends n ls w bs r ts hs ws f b o = record { holds = λ s e. subst (Holds n ls (edges_now n w bs)) (same s e) (((began s e).holds bs []) (sym (append-nil bs))); past = began }
   where
-    opened : (m k : ℕ) → r ≡ Done m k → (faults n ls w ≡ accept) × (◌≡◌ {A = Summary} (record { count = (moment n ls w bs).count; accepted_batches = accepted_of n (edges_in w) bs }) (record { count = m; accepted_batches = k }))
-    opened m k e = reply_accepted (faults n ls w) _ (record { count = m; accepted_batches = k }) (ap (λ y. y.reply) (sym (rw e at o)))
+    opened : (s : declared.Summary) → r ≡ Ok s → (faults n ls w ≡ accept) × (◌≡◌ {A = Summary} (record { count = (moment n ls w bs).count; accepted_batches = accepted_of n (edges_in w) bs }) (summary_of s))
+    opened s e = reply_accepted (faults n ls w) _ (summary_of s) (ap (λ y. y.reply) (sym (rw e at o)))
 
-    began : (m k : ℕ) → r ≡ Done m k → Past n ls w bs
-    began m k e = (history n ls w).later (opened m k e).0 bs
+    began : (s : declared.Summary) → r ≡ Ok s → Past n ls w bs
+    began s e = (history n ls w).later (opened s e).0 bs
 
-    same : (m k : ℕ) → r ≡ Done m k → moment n ls w bs ≡ network ts hs ws f b m
-    same m k e =
-        let x = opened m k e in
+    same : (s : declared.Summary) → r ≡ Ok s → moment n ls w bs ≡ network ts hs ws f b s.count
+    same s e =
+        let x = opened s e in
         let a : (moment n ls w bs).memory ≡ lists ts hs ws f b = ap (λ y. y.memory) (sym (call_done n ls w bs x.0) ∙ sym o) in
-        let c : (moment n ls w bs).count ≡ m = ap (λ y. y.count) x.1 in
+        let c : (moment n ls w bs).count ≡ s.count = ap (λ y. y.count) x.1 in
         rw (sym a, sym c)

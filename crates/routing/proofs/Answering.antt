@@ -2,13 +2,14 @@
 use Rattle.property.proofs.Basics.{◌≡◌, sym, ap, ◌∙◌, inl, inr, ◌≢◌, Bool, true, false, not, ◌||◌, List, Memᴰ, ℕ, suc, ℕ_discrete, length, eqb, ltb, eqb-true, ltb-true, ltb-false, eq-eqb, ne_eqb}
 use Rattle.property.specs.Property.{Property, property}
 use Rattle.property.proofs.Tests.{by_test}
-use Rattle.graph.specs.declared.Judged.{Judged}
-use Rattle.graph.specs.declared.Judged.TheVariants as judged
+use Rattle.std.specs.Prelude.{Ok, Err}
+use Rattle.graph.specs.declared.refusal.Refusal.{Refusal}
+use Rattle.graph.specs.declared.refusal.Refusal.TheVariants.{NoRoute}
 use Rattle.graph.specs.Refusal.{Verdict, accept, ◌▷◌, refuse_if, outcome, over}
 use Rattle.graph.specs.Edge.{Edge, keep, edges}
 use Rattle.graph.specs.Table.{Columns, edges_of, bare_faults}
 use Rattle.graph.specs.Leads.{Leads, visited, weights_of, Preferred}
-use Rattle.graph.specs.Code.{told, columns}
+use Rattle.graph.specs.Code.{told, reply_of, columns}
 use Rattle.graph.proofs.Tests.{neither, or_right}
 use Rattle.graph.proofs.Verdicts.{then_accept, refuse_then, accept_then, if_accept, accept_if, outcome_refused, outcome_accepted}
 use Rattle.graph.proofs.Judging.{bare_accept}
@@ -19,11 +20,10 @@ use Rattle.answers.specs.Routing.{Request, eligible, best_words, best_word, pref
 use Rattle.answers.proofs.Parallel.{Light, preferred_only}
 use Rattle.answers.proofs.Routing.{faults_asked}
 use Rattle.answers.proofs.Preferring.{Asked, fewest_preferred, least_preferred, eligible_leads, unrouted, preferred_holds}
-use Rattle.routing.specs.declared.RouteReply.TheVariants.{Vertices, Refused}
 use Rattle.search.specs.Search.{Search, is_unfound, is_searched, searched}
 use Rattle.search.specs.Code.{Trace}
 use Rattle.search.proofs.Searching.{Found, search_finds, search_lacks}
-use Rattle.routing.specs.Code.{requesting, routing, answer_of, route_outcome, unfaulted, Routable}
+use Rattle.routing.specs.Code.{requesting, answer_of, route_outcome, unfaulted, Routable}
 
 -- what a request has that numbers 1 to 6 let pass
 pub accept_routable : (n : ℕ) (ts hs ws : List ℕ) (m p s t : ℕ) (xs ys zs : List ℕ)
@@ -139,21 +139,21 @@ module _ (n : ℕ) (cs : Columns) (m : ℕ) (q : Request) where
     abbrev faults : Verdict
     faults = route_faults n cs m q (length xs) (length ys) (length zs)
 
-    pub route_refused : {k i : ℕ} (a : Judged) → told a ≡ faults → a ≡ judged.Refused k i → route_outcome (Refused k i) xs ys zs ≡ route_call n cs m q (answer_of xs ys zs)
-    unfolding route_call routing told
-    route_refused a e z = sym (outcome_refused (faults ▷ no_route n cs m q) _ _ _ (refuse_then faults _ (sym e ∙ ap told z)))
+    pub route_refused : (e : Refusal) → told (Err e) ≡ faults → route_outcome (Err e) xs ys zs ≡ route_call n cs m q (answer_of xs ys zs)
+    unfolding route_call reply_of told
+    route_refused e h = sym (outcome_refused (faults ▷ no_route n cs m q) _ _ _ (refuse_then faults _ (sym h)))
 
     pub route_unfaulted : faults ≡ accept → unfaulted n cs m q (answer_of xs ys zs) ≡ route_call n cs m q (answer_of xs ys zs)
     unfolding route_call
     route_unfaulted e = ap (λ v. outcome v (suc (length (preferred n cs m q))) (with_route n cs m q (answer_of xs ys zs)) (answer_of xs ys zs)) (sym (accept_then e))
 
-    pub route_lacking : best_word n cs m q ≡ P.none → route_outcome (Refused 15 0) xs ys zs ≡ unfaulted n cs m q (answer_of xs ys zs)
-    unfolding routing refuse_if
+    pub route_lacking : best_word n cs m q ≡ P.none → route_outcome (Err NoRoute) xs ys zs ≡ unfaulted n cs m q (answer_of xs ys zs)
+    unfolding reply_of refuse_if
     route_lacking z = sym (outcome_refused (no_route n cs m q) _ _ _ (rw (eq-eqb _ _ z)))
 
     pub route_written : (r : ℕ) (us vs fs : List ℕ) → best_word n cs m q ≢ P.none
         → (r ≡ suc (length (preferred n cs m q))) × (us ≡ over (visited q.source (preferred n cs m q)) xs)
         × (vs ≡ over (marks_of q.property P.start (preferred n cs m q)) ys) × (fs ≡ over (weights_of (preferred n cs m q)) zs)
-        → route_outcome (Vertices r) us vs fs ≡ unfaulted n cs m q (answer_of xs ys zs)
-    unfolding routing
+        → route_outcome (Ok r) us vs fs ≡ unfaulted n cs m q (answer_of xs ys zs)
+    unfolding reply_of
     route_written r us vs fs d (a, b, c, e) = rw (a, b, c, e) (sym (outcome_accepted (no_route n cs m q) _ _ _ (accept_if 15 0 (ne_eqb _ _ d))))

@@ -7,16 +7,16 @@
 --   route_outcome r xs ys zs == the program's reply r and the three lists at exit, as an outcome
 --   unfaulted n cs m q out   == the outcome of a request that numbers 1 to 6 let pass
 --   Routable ..              == what such a request has: few vertices, a table that keeps the rules, a property, source and target, and lists with room
-use Rattle.std.specs.Prelude.{List, ℕ, suc, ◌<◌, ◌≤◌, length}
+use Rattle.std.specs.Prelude.{List, ℕ, suc, ◌<◌, ◌≤◌, length, Result}
 use Rattle.property.specs.Property.{properties}
 use Rattle.graph.specs.Limits.{max_vertices}
-use Rattle.graph.specs.Refusal.{Reply, accepted, refused, Outcome, outcome}
+use Rattle.graph.specs.declared.refusal.Refusal.{Refusal}
+use Rattle.graph.specs.Refusal.{Reply, Outcome, outcome}
+use Rattle.graph.specs.Code.{reply_of}
 use Rattle.graph.specs.Table.{Columns}
 use Rattle.answers.specs.Routing.{Request, Answer, preferred, no_route, with_route}
 use Rattle.calls.specs.Code.{Tabled}
 use Rattle.routing.specs.declared.Request as declared
-use Rattle.routing.specs.declared.RouteReply.{RouteReply}
-use Rattle.routing.specs.declared.RouteReply.TheVariants.{Vertices, Refused}
 
 abbrev pub requesting : ℕ → ℕ → ℕ → Request
 requesting p s t = record { property = p; source = s; target = t }
@@ -27,11 +27,10 @@ request_of r = requesting r.property r.source r.target
 abbrev pub answer_of : List ℕ → List ℕ → List ℕ → Answer
 answer_of xs ys zs = record { vertices = xs; marks = ys; figures = zs }
 
-unfoldable pub routing : RouteReply → Reply ℕ
-routing (Vertices k) = accepted k
-routing (Refused k i) = refused k i
+abbrev pub routing : Result ℕ Refusal → Reply ℕ
+routing r = reply_of (λ k. k) r
 
-abbrev pub route_outcome : RouteReply → List ℕ → List ℕ → List ℕ → Outcome ℕ Answer
+abbrev pub route_outcome : Result ℕ Refusal → List ℕ → List ℕ → List ℕ → Outcome ℕ Answer
 route_outcome r xs ys zs = record { reply = routing r; memory = answer_of xs ys zs }
 
 abbrev pub unfaulted : ℕ → Columns → ℕ → Request → Answer → Outcome ℕ Answer

@@ -8,7 +8,7 @@ ghost use Rattle.graph.specs.Code.{told, columns};
 ghost use Rattle.answers.specs.Routing.{route_faults, route_call};
 ghost use Rattle.routing.specs.Code.{requesting, request_of, answer_of, route_outcome, unfaulted, Routable};
 
-use graph::{Judged, rules};
+use graph::{Refusal, rules};
 
 // What is asked: the route for a property from a source to a target.
 #[derive(Clone, Copy)]
@@ -16,13 +16,6 @@ struct Request {
     property: u32,
     source: u32,
     target: u32,
-}
-
-// The reply to a request for a route: how many vertices it has.
-#[derive(Drop)]
-pub enum RouteReply {
-    Vertices(u32),
-    Refused(u32, usize),
 }
 
 // Numbers 1 to 6 of a request, where the lists for the answer have `vertices`, `marks` and `figures` words.
@@ -36,26 +29,26 @@ fn judge_route(
     vertices: usize,
     marks: usize,
     figures: usize,
-) -> Judged
+) -> Result<(), Refusal>
     ensures { told result ≡ route_faults n (columns tails.now heads.now weights.now) count (request_of request) vertices marks figures }
 {
     let size = n as usize;
     let outputs = rules::refuse_if(
         (vertices < size) | ((marks < size) | (figures < size)),
-        2,
-        0,
+        Refusal::Short,
     );
-    let bare = rules::judge_bare(n, tails, heads, weights, count, outputs);
-    let Judged::Fine = bare else {
-        return bare;
-    };
+    rules::judge_bare(n, tails, heads, weights, count, outputs)?;
     if !calls::is_property(request.property) {
-        return Judged::Refused(5, 0);
+        return Err(Refusal::Property);
     }
-    rules::refuse_if(!((request.source < n) & (request.target < n)), 6, 0)
+    rules::refuse_if(
+        !((request.source < n) & (request.target < n)),
+        Refusal::Vertex(0),
+    )
 }
 
-// The route of a request that numbers 1 to 6 let pass: 15, or its vertices, marks and figures are written. `via` is scratch.
+// The route of a request that numbers 1 to 6 let pass: 15, or its vertices, marks and figures are written; how many vertices it has. `via` is
+// scratch.
 fn find_route(
     n: usize,
     tails: &[u32],
@@ -67,7 +60,7 @@ fn find_route(
     vertices: &mut [u32],
     marks: &mut [u32],
     figures: &mut [u32],
-) -> RouteReply
+) -> Result<u32, Refusal>
     requires { Routable n count request.property request.source request.target tails.now heads.now weights.now vertices.old marks.old figures.old × (length via.old ≡ n) }
     ensures { route_outcome result vertices.new marks.new figures.new ≡ unfaulted n (columns tails.now heads.now weights.now) count (request_of request) (answer_of vertices.old marks.old figures.old) }
 {
@@ -77,12 +70,13 @@ fn find_route(
     let s = source as usize;
     let t = target as usize;
     if !search::find(p, n, s, t, count, tails, heads, weights, via) {
-        return RouteReply::Refused(15, 0);
+        return Err(Refusal::NoRoute);
     }
-    RouteReply::Vertices(write::write_route(p, source, target, via, vertices, marks, figures))
+    Ok(write::write_route(p, source, target, via, vertices, marks, figures))
 }
 
-// The route from source to target: refused, or its vertices, marks and figures are written to their lists; words past them stay.
+// The route from source to target: refused, or its vertices, marks and figures are written to their lists; how many vertices it has. Words past
+// them stay.
 pub fn route(
     n: u32,
     tails: &[u32],
@@ -95,7 +89,7 @@ pub fn route(
     vertices: &mut [u32],
     marks: &mut [u32],
     figures: &mut [u32],
-) -> RouteReply
+) -> Result<u32, Refusal>
     ensures { route_outcome result vertices.new marks.new figures.new ≡ route_call n (columns tails.now heads.now weights.now) count (requesting property source target) (answer_of vertices.old marks.old figures.old) }
 {
     let request = Request {
@@ -103,7 +97,7 @@ pub fn route(
         source,
         target,
     };
-    let judged = judge_route(
+    judge_route(
         n,
         tails,
         heads,
@@ -113,10 +107,7 @@ pub fn route(
         vertices.len(),
         marks.len(),
         figures.len(),
-    );
-    if let Judged::Refused(number, place) = judged {
-        return RouteReply::Refused(number, place);
-    }
+    )?;
     let size = n as usize;
     let mut via = [0u32; graph::VERTEX_WORDS];
     find_route(

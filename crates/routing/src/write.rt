@@ -31,9 +31,7 @@ fn write_back(t: u32, k: usize, via: &[u32], vertices: &mut [u32], figures: &mut
 {
     let mut u = t;
     vertices[k] = u;
-    let mut i = k;
-    while i > 0 {
-        i -= 1;
+    for i in (0..k).rev() {
         let a = via[u as usize];
         u = arc::head(a);
         vertices[i] = u;
@@ -58,12 +56,10 @@ fn mark_edges(p: u32, k: usize, figures: &[u32], marks: &mut [u32])
     ensures { (ps : List Edge) (ws : List ℕ) → length ps ≡ k → figures.now ≡ over (weights_of ps) ws → marks.new ≡ over (marks_of p (property p).start ps) marks.old }
 {
     let mut v = property::start(p);
-    let mut i = 0;
-    while i < k {
+    for i in 0..k {
         let x = property::along(p, v, figures[i]);
         marks[i] = mark(p, v, x);
         v = x;
-        i += 1;
     }
 }
 

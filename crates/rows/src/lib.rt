@@ -73,8 +73,7 @@ fn batch_rows(
     let size = landmarks.len() * property::PROPERTIES;
     let mut affected = 0;
     let mut stores = 0;
-    let mut r = 0;
-    while r < size {
+    for r in 0..size {
         let start = r * n;
         let end = start + n;
         let row = batch_row(
@@ -90,7 +89,6 @@ fn batch_rows(
         );
         affected += row.affected;
         stores += row.stores;
-        r += 1;
     }
     Rowed { affected, stores }
 }

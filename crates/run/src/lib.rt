@@ -13,7 +13,7 @@ ghost use Rattle.run.specs.Run as spec;
 ghost use Rattle.run.specs.Start.{opened, values_from};
 ghost use Rattle.run.specs.Code.{bits, no_counts, state, Marks, Sized, Low, Ready, Ran, Scheduled};
 
-use frontier::{Next, Words};
+use frontier::Words;
 use graph::arc;
 
 // A count has 64 bits. A run asks for counts below 2 ^ 31, and each step within it for a bit or more above its caller's (`Ready` 32, 38 and 39,
@@ -71,14 +71,13 @@ fn handle(
     let n = words.len();
     let v = words[u];
     let hi = firsts[u + 1] as usize;
-    let mut j = firsts[u] as usize;
+    let lo = firsts[u] as usize;
     frontier::remove(waiting, u);
     let mut t = tally;
-    while j < hi {
+    for j in lo..hi {
         let h = arc::head_in(packed, heads[j]) as usize;
         let x = property::along(p, v, arc::weight_in(packed, weights[j]));
         t = relax(p, n, h, x, words, waiting, t);
-        j += 1;
     }
     t
 }
@@ -105,9 +104,9 @@ fn round_of(
         stores: tally.stores,
     };
     let mut i = 0;
+    // kept as a `while`: a turn leads to the next vertex that waits, and `next_from` may be asked below the last one alone
     while i < n {
-        let next = frontier::next_from(waiting, i);
-        let Next::At(v) = next else {
+        let Some(v) = frontier::next_from(waiting, i) else {
             return t;
         };
         t = handle(p, packed, v, firsts, heads, weights, words, waiting, t);
@@ -188,13 +187,11 @@ pub fn settle(
     ensures ran { Ran n words.new waiting.new tally result 0 n (max_vertices * max_vertices * max_edges) }
 {
     let mut t = tally;
-    let mut k = 0;
-    while k < n {
+    for _round in 0..n {
         if !frontier::any(waiting) {
             return t;
         }
         t = round(p, n, packed, firsts, heads, weights, words, waiting, t);
-        k += 1;
     }
     t
 }
@@ -246,11 +243,9 @@ fn pass(
     ensures ran { Ran n words.new waiting.new tally result (length schedule.now) 0 (max_edges * length schedule.now) }
 {
     let mut t = tally;
-    let mut entry = 0;
-    while entry < schedule.len() {
-        let u = schedule[entry] as usize;
+    for entry in schedule {
+        let u = *entry as usize;
         t = take(p, n, u, firsts, heads, weights, words, waiting, t);
-        entry += 1;
     }
     t
 }

@@ -1,5 +1,5 @@
 -- What a line says, by its mark and its fields. The readers try one mark after the other, and no line has two. Assumes nothing.
-use Rattle.property.proofs.Basics.{◌≡◌, refl, sym, ap, ◌∙◌, Bool, true, false, List, [], ◌∷◌, Option, none, some, bind, ℕ, length, drop, eqb, eqb-true, ne_eqb}
+use Rattle.property.proofs.Basics.{◌≡◌, refl, sym, ap, ◌∙◌, Bool, true, false, List, [], ◌∷◌, Option, none, some, bind, ℕ, arith, length, get_or, drop, eqb, eqb-true, ne_eqb}
 use Rattle.property.proofs.Tests.{by_test}
 use Rattle.dimacs.specs.Read.{after}
 use Rattle.dimacs.specs.Network.{or_else}
@@ -41,7 +41,20 @@ module _ {A : Type 0} (shown : Option A → Option A) (f g : List ℕ → Option
 
 -- ---- fields, their numbers capped
 
--- what the fields of an answer say, where saying and capping may change places
-pub said_fields : {A R : Type 0} (f : List ℕ → Option A) (g : Option A → Option A) (of : R → Option (List ℕ)) → ((o : Option (List ℕ)) → bind (cap_fields o) f ≡ g (bind o f))
-    → {r s : R} (o : Option (List ℕ)) → r ≡ s → of r ≡ cap_fields o → bind (of s) f ≡ g (bind o f)
-said_fields f g of h o q e = rw (← q, e) (h o)
+-- what the fields of a line say, where saying and capping may change places
+pub said_fields : {A : Type 0} (f : List ℕ → Option A) (g : Option A → Option A) → ((o : Option (List ℕ)) → bind (cap_fields o) f ≡ g (bind o f)) → {r : Option (List ℕ)} (o : Option (List ℕ)) → r ≡ cap_fields o → bind r f ≡ g (bind o f)
+said_fields f g h o e = rw e (h o)
+
+-- one, two and three numbers, one by one
+pub one_value : (vs : List ℕ) → length vs ≡ 1 → vs ≡ get_or vs 0 0 ∷ []
+one_value [] e = absurd (omega (arith, e))
+one_value (a ∷ []) e = refl
+one_value (a ∷ b ∷ vs) e = absurd (omega (arith, e))
+
+pub two_values : (vs : List ℕ) → length vs ≡ 2 → vs ≡ get_or vs 0 0 ∷ get_or vs 1 0 ∷ []
+two_values [] e = absurd (omega (arith, e))
+two_values (a ∷ vs) e = let h : length vs ≡ 1 = omega (arith, e) in ap (λ ws. a ∷ ws) (one_value vs h)
+
+pub three_values : (vs : List ℕ) → length vs ≡ 3 → vs ≡ get_or vs 0 0 ∷ get_or vs 1 0 ∷ get_or vs 2 0 ∷ []
+three_values [] e = absurd (omega (arith, e))
+three_values (a ∷ vs) e = let h : length vs ≡ 2 = omega (arith, e) in ap (λ ws. a ∷ ws) (two_values vs h)

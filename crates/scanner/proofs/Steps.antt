@@ -1,11 +1,10 @@
 -- The state after a line, for any kind of text: a comment, or another line; and how the rest of the text is read after it. Assumes nothing.
+use Rattle.std.specs.Prelude as std
 use Rattle.property.proofs.Basics.{◌≡◌, refl, sym, ap, ◌∙◌, Bool, true, false, true≢false, cond, List, [], ◌∷◌, Option, none, some, bind, ℕ, ◌+◌, ◌-◌, ◌≤◌, ◌<◌, add-one, arith, eqb, length, take, drop, drop_of_length-le, drop-cons}
 use Rattle.property.proofs.Tests.{by_test}
 use Rattle.dimacs.specs.Lines.{split}
 use Rattle.dimacs.specs.Read.{line_in, comment_of, spoken_by, heard, step, Read, bad, ended, reading}
 use Rattle.dimacs.proofs.Reading.{reading_none, reading_some}
-use Rattle.scanner.specs.declared.Feed.{Feed}
-use Rattle.scanner.specs.declared.Feed.TheVariants.{Ends, Open}
 use Rattle.scanner.specs.Code.{split_by, in_text}
 use Rattle.scanner.specs.Capped.{starts, commented}
 
@@ -52,16 +51,16 @@ module _ {A S : Type 0} {parse : List ℕ → Option A} {act : S → A → Optio
   left_end h = rw (drop_of_length-le x h) at l.comes
 
   -- r says where the line ends
-  module _ {r : Feed} (feed : (split_by x at r ≡ split (drop at x)) × in_text x at r) where
-    parted : {q : Feed} → r ≡ q → reading parse act complete (split_by x at q).lines (split_by x at q).rest k s ≡ o
+  module _ {r : std.Option ℕ} (feed : (split_by x at r ≡ split (drop at x)) × in_text x at r) where
+    parted : {q : std.Option ℕ} → r ≡ q → reading parse act complete (split_by x at q).lines (split_by x at q).rest k s ≡ o
     parted q = rw (← feed.0, q) at l.comes
 
-    pub left_open : at < length x → r ≡ Open → bad (k + 1) ≡ o
+    pub left_open : at < length x → r ≡ std.None → bad (k + 1) ≡ o
     unfolding reading ended
     left_open h q = rw (drop-cons x at 0 h, ← add-one k) at (parted q)
 
     -- f is the state after the line, as it is told
-    module _ {e : ℕ} (q : r ≡ Ends e) {B : Type 0} (f : B → Option S) {u v : B} (told : u ≡ v) (stepped : f u ≡ step parse act complete s (take (e - at) (drop at x))) where
+    module _ {e : ℕ} (q : r ≡ std.Some e) {B : Type 0} (f : B → Option S) {u v : B} (told : u ≡ v) (stepped : f u ≡ step parse act complete s (take (e - at) (drop at x))) where
       pub left_stop : f v ≡ none → bad (k + 1) ≡ o
       left_stop h = rw add-one (sym (reading_none parse act complete _ _ _ k s (sym (known f told stepped) ∙ h)) ∙ parted q)
 

@@ -9,37 +9,26 @@ ghost use Rattle.dimacs.specs.Read.{after};
 ghost use Rattle.scanner.specs.Capped.{commented};
 ghost use Rattle.scanner.specs.Code.{split_by, in_text, begun};
 
-// Where the line at a position ends, if it does.
-#[derive(Drop)]
-pub enum Feed {
-    Ends(usize),
-    Open,
-}
-
-// The line feed that ends the line at a position.
-pub fn line_feed(text: &[u8], at: usize) -> Feed
+// Where the line feed stands that ends the line at a position, if there is one.
+pub fn line_feed(text: &[u8], at: usize) -> Option<usize>
     ensures { (split_by text.now at result ≡ split (drop at text.now)) × in_text text.now at result }
 {
-    let mut i = at;
-    while i < text.len() {
+    for i in at..text.len() {
         if text[i] == 10 {
-            return Feed::Ends(i);
+            return Some(i);
         }
-        i += 1;
     }
-    Feed::Open
+    None
 }
 
 // Whether a line begins with the bytes of `mark`.
 pub fn begins(line: &[u8], mark: &[u8]) -> bool
     ensures { begun result mark.now line.now ≡ after mark.now line.now }
 {
-    let mut i = 0;
-    while i < mark.len() {
-        if !numbers::holds(line, i, mark[i]) {
+    for (i, b) in mark.iter().enumerate() {
+        if !numbers::holds(line, i, *b) {
             return false;
         }
-        i += 1;
     }
     true
 }

@@ -62,16 +62,15 @@ fn expand(
     ensures searching { Searching result queue.new via.new }
 {
     let x = row[u];
+    let lo = index[u] as usize;
     let hi = index[u + 1] as usize;
-    let mut j = index[u] as usize;
     let mut m = count;
-    while j < hi {
+    for j in lo..hi {
         let a = index[j];
         let h = arc::head(a) as usize;
         let w = arc::weight(a);
         let test = is_eligible(p, v, x, w, row[h]);
         m = look(test, h, arc::arc(u as u32, w), queue, m, via);
-        j += 1;
     }
     m
 }
@@ -95,6 +94,7 @@ fn search(
     queue[0] = s as u32;
     let mut count = 1;
     let mut i = 0;
+    // kept as a `while`: the queue grows as it is walked, and the walk ends where `t` is found
     while i < count && via[t] == UNFOUND {
         let u = queue[i] as usize;
         count = expand(p, v, u, index, row, queue, count, via);

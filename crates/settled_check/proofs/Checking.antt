@@ -1,18 +1,17 @@
 -- The settled check: one record against one row, and the search through sides, rows and records. Assumes nothing.
 use Rattle.property.proofs.Basics.{◌≡◌, refl, ap, ◌∙◌, Bool, true, false, cond, List, [], ◌∷◌, map, ℕ, zero, suc, ◌+◌, ◌*◌, ◌-◌, ◌%◌, ◌<◌, ◌≤◌, add-one, arith, length, get_or, drop, eqb}
 use Rattle.property.specs.Property.{Property, property, properties}
-use Rattle.graph.specs.declared.Judged.{Judged}
-use Rattle.graph.specs.declared.Judged.TheVariants.{Fine, Refused}
-use Rattle.graph.specs.Refusal.{Verdict, Reply, accepted, replied}
+use Rattle.std.specs.Prelude.{Option, None, Some, Ok, Err}
+use Rattle.graph.specs.declared.refusal.Refusal.{Refusal}
+use Rattle.graph.specs.Refusal.{Verdict, replied}
 use Rattle.graph.specs.Edge.{Edge, edge, reverse, edges, range}
-use Rattle.graph.specs.Code.{told, Room, edge_at}
+use Rattle.graph.specs.Code.{told, reply_of, Room, edge_at}
 use Rattle.graph.proofs.Records.{edges_more, edges_none}
 use Rattle.run.specs.Run.{relaxable}
-use Rattle.settled_check.specs.declared.Checked.{Checked}
-use Rattle.settled_check.specs.declared.Checked.TheVariants as checked
+use Rattle.settled_check.specs.declared.Spot.{Spot}
 use Rattle.network.specs.Network.{row, property_of}
 use Rattle.network.specs.Settled.{Check, settled, found, in_records, in_rows}
-use Rattle.settled_check.specs.Code.{checking}
+use Rattle.settled_check.specs.Code.{spotted, checking}
 use Rattle.calls.proofs.Rows.{row_word}
 
 -- ---- one record against one row
@@ -103,18 +102,18 @@ module _ (n k : ℕ) (es : List Edge) (f b : List ℕ) where
 
 -- ---- replies
 
-pub checking_found : (side r j : ℕ) (c : Check) → found side r j ≡ c → checking (checked.Found side r j) ≡ accepted c
-unfolding checking
-checking_found side r j c e = ap accepted e
+pub checking_found : (s : Spot) (c : Check) → found s.side s.row s.record ≡ c → spotted (Some s) ≡ c
+unfolding spotted
+checking_found s c e = e
 
-pub checking_settled : (x : Checked) (c : Check) → x ≡ checked.Settled → settled ≡ c → checking x ≡ accepted c
-unfolding checking
-checking_settled x c q e = ap checking q ∙ ap accepted e
+pub checking_settled : (x : Option Spot) (c : Check) → x ≡ None → settled ≡ c → spotted x ≡ c
+unfolding spotted
+checking_settled x c q e = ap spotted q ∙ e
 
-pub checking_refused : (v : Judged) (k i : ℕ) (w : Verdict) (c : Check) → told v ≡ w → v ≡ Refused k i → checking (checked.Refused k i) ≡ replied w c
-unfolding checking told replied
-checking_refused v k i w c e q = rw (← e, q)
+pub checking_refused : (e : Refusal) (w : Verdict) (c : Check) → told (Err e) ≡ w → checking (Err e) ≡ replied w c
+unfolding reply_of told replied
+checking_refused e w c h = rw (← h)
 
-pub checking_accepted : (v : Judged) (w : Verdict) (c : Check) {r : Reply Check} → told v ≡ w → v ≡ Fine → r ≡ accepted c → r ≡ replied w c
-unfolding told replied
-checking_accepted v w c e q f = rw (← e, q) f
+pub checking_accepted : (x : Option Spot) (w : Verdict) (c : Check) → told (Ok tt) ≡ w → spotted x ≡ c → checking (Ok x) ≡ replied w c
+unfolding reply_of told replied
+checking_accepted x w c h f = rw (← h, f)

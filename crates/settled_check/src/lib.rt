@@ -2,23 +2,23 @@
 #![tactic(auto)]
 
 ghost use Rattle.std.specs.Prelude.{◌≡◌, cond, ◌+◌, ◌*◌, ◌<◌, ◌≤◌, length, get_or, eqb};
-ghost use Rattle.graph.specs.Refusal.{accept, accepted};
+ghost use Rattle.graph.specs.Refusal.{accept};
 ghost use Rattle.graph.specs.Edge.{edge, reverse};
 ghost use Rattle.graph.specs.Code.{edge_at};
 ghost use Rattle.run.specs.Run.{relaxable};
 ghost use Rattle.network.specs.Network.{row, property_of, faults};
 ghost use Rattle.network.specs.Settled.{check, settled_call};
-ghost use Rattle.settled_check.specs.Code.{checking};
+ghost use Rattle.settled_check.specs.Code.{spotted, checking};
 ghost use Rattle.calls.specs.Code.{network};
 
-use graph::Judged;
+use graph::Refusal;
 
-// The reply to a settled check: the first edge that could still better a word, by side, row and record.
-#[derive(Drop)]
-pub enum Checked {
-    Settled,
-    Found(u32, usize, usize),
-    Refused(u32, usize),
+// Where an edge could still better a word: a side (0 forward; else backward), a row of its list and a record of the table.
+#[derive(Clone, Copy)]
+pub struct Spot {
+    pub side: u32,
+    pub row: usize,
+    pub record: usize,
 }
 
 // Whether going along an edge would better its head's word in row `r` of a row list.
@@ -70,28 +70,26 @@ fn first_spot(
     count: u32,
     forward: &[u32],
     backward: &[u32],
-) -> Checked
+) -> Option<Spot>
     requires { faults n landmarks.now (network tails.now heads.now weights.now forward.now backward.now count) ≡ accept }
-    ensures { checking result ≡ accepted (check n landmarks.now (network tails.now heads.now weights.now forward.now backward.now count)) }
+    ensures { spotted result ≡ check n landmarks.now (network tails.now heads.now weights.now forward.now backward.now count) }
 {
     let rows = landmarks.len() * property::PROPERTIES;
     let records = count as usize;
-    let mut found = Checked::Settled;
-    let mut side: u32 = 0;
-    'sides: while side < 2 {
-        let mut r = 0;
-        while r < rows {
-            let mut j = 0;
-            while j < records {
+    let mut found = None;
+    'sides: for side in 0..2 {
+        for r in 0..rows {
+            for j in 0..records {
                 if is_spot(n, side, r, j, tails, heads, weights, forward, backward) {
-                    found = Checked::Found(side, r, j);
+                    found = Some(Spot {
+                        side,
+                        row: r,
+                        record: j,
+                    });
                     break 'sides;
                 }
-                j += 1;
             }
-            r += 1;
         }
-        side += 1;
     }
     found
 }
@@ -106,16 +104,13 @@ pub fn find_relaxable(
     count: u32,
     forward: &[u32],
     backward: &[u32],
-) -> Checked
+) -> Result<Option<Spot>, Refusal>
     ensures { checking result ≡ settled_call n landmarks.now (network tails.now heads.now weights.now forward.now backward.now count) }
 {
-    let verdict = calls::judge_all(
+    calls::judge_all(
         n, landmarks, tails, heads, weights, count, forward, backward,
-    );
-    if let Judged::Refused(k, i) = verdict {
-        return Checked::Refused(k, i);
-    }
-    first_spot(
+    )?;
+    Ok(first_spot(
         n, landmarks, tails, heads, weights, count, forward, backward,
-    )
+    ))
 }

@@ -2,10 +2,26 @@
 // handed a batch with one bad change among ten, and is asked from a vertex that was never used before, also with a schedule.
 #![tactic(auto)]
 
-use apply::Applied;
-use open::Opened;
-use query::Answered;
+use graph::Refusal;
 use std::io;
+
+// Its vertices, its one landmark, and the words of its rows: one landmark's, of each property.
+const VERTICES: u32 = 4;
+
+const LANDMARKS: [u32; 1] = [0];
+
+const ROW_WORDS: usize = 20;
+
+// A network with its rows.
+#[derive(Drop)]
+struct Deck {
+    tails: [u32; graph::MAX_EDGES],
+    heads: [u32; graph::MAX_EDGES],
+    weights: [u32; graph::MAX_EDGES],
+    count: u32,
+    forward: [u32; ROW_WORDS],
+    backward: [u32; ROW_WORDS],
+}
 
 // The names of the five properties, as they are printed.
 fn name_of(p: u32) -> &'static str {
@@ -23,97 +39,17 @@ fn print_words(rt: &HostRuntime, words: [u32; 4]) -> io::Result<()> {
     print!(rt; " {a} {b} {c} {d}")
 }
 
-fn print_refusal(rt: &HostRuntime, number: u32, place: usize) -> io::Result<()> {
+fn print_refusal(rt: &HostRuntime, refusal: Refusal) -> io::Result<()> {
+    let number = refusal.number();
+    let place = refusal.place();
     println!(rt; "refused {number} {place}")
 }
 
-// Asks for one property from one vertex, and prints the settled words and the tally.
-fn ask(
-    rt: &HostRuntime,
-    property: u32,
-    source: u32,
-    schedule: &[u32],
-    tails: &[u32; 2048],
-    heads: &[u32; 2048],
-    weights: &[u32; 2048],
-    count: u32,
-    forward: &[u32; 20],
-    backward: &[u32; 20],
-) -> io::Result<()> {
-    let landmarks = [0u32];
-    let mut starts = [0u32; 4];
-    let mut settled = [0u32; 4];
-    let answer = query::query(
-        4,
-        &landmarks,
-        tails,
-        heads,
-        weights,
-        count,
-        forward,
-        backward,
-        property,
-        source,
-        schedule,
-        &mut starts,
-        &mut settled,
-    );
-    match answer {
-        Answered::Settled(t) => {
-            let name = name_of(property);
-            let taken = t.taken;
-            let rounds = t.rounds;
-            let stores = t.stores;
-            print!(rt; "from {source} {name}")?;
-            print_words(rt, settled)?;
-            println!(rt; ", taken {taken} rounds {rounds} stores {stores}")
-        }
-        Answered::Refused(number, place) => print_refusal(rt, number, place),
-    }
-}
-
-// Hands in a batch, prints its report or refusal, and answers the present count.
-fn change(
-    rt: &HostRuntime,
-    changes: &[[u32; 5]],
-    tails: &mut [u32; 2048],
-    heads: &mut [u32; 2048],
-    weights: &mut [u32; 2048],
-    count: u32,
-    forward: &mut [u32; 20],
-    backward: &mut [u32; 20],
-) -> io::Result<u32> {
-    let landmarks = [0u32];
-    let applied = plain_batch::batch_part(
-        4,
-        &landmarks,
-        tails,
-        heads,
-        weights,
-        count,
-        forward,
-        backward,
-        changes,
-        0,
-        changes.len(),
-    );
-    match applied {
-        Applied::Done(report) => {
-            let now = report.count;
-            let suspects = report.affected;
-            let stores = report.stores;
-            println!(rt; "count {now} suspects {suspects} stores {stores}")?;
-            Ok(now)
-        }
-        Applied::Refused(number, place) => {
-            print_refusal(rt, number, place)?;
-            Ok(count)
-        }
-    }
-}
-
-// Deck A's records.
-fn fill(tails: &mut [u32; 2048], heads: &mut [u32; 2048], weights: &mut [u32; 2048]) {
+// Deck A's records, before it is opened.
+fn deck_a() -> Deck {
+    let mut tails = [0u32; graph::MAX_EDGES];
+    let mut heads = [0u32; graph::MAX_EDGES];
+    let mut weights = [0u32; graph::MAX_EDGES];
     tails[2] = 1;
     tails[3] = 2;
     tails[4] = 3;
@@ -127,160 +63,121 @@ fn fill(tails: &mut [u32; 2048], heads: &mut [u32; 2048], weights: &mut [u32; 20
     weights[2] = 4;
     weights[3] = 4;
     weights[4] = 2;
-}
-
-// Opens it with landmark 0.
-fn start(
-    rt: &HostRuntime,
-    tails: &[u32; 2048],
-    heads: &[u32; 2048],
-    weights: &[u32; 2048],
-    forward: &mut [u32; 20],
-    backward: &mut [u32; 20],
-) -> io::Result<()> {
-    let landmarks = [0u32];
-    let opened = open::open(4, &landmarks, tails, heads, weights, 5, forward, backward);
-    match opened {
-        Opened::Accepted => println!(rt; "opened"),
-        Opened::Refused(number, place) => print_refusal(rt, number, place),
+    Deck {
+        tails,
+        heads,
+        weights,
+        count: 5,
+        forward: [0; ROW_WORDS],
+        backward: [0; ROW_WORDS],
     }
 }
 
-// The five properties from vertex 0.
-fn ask_each(
-    rt: &HostRuntime,
-    tails: &[u32; 2048],
-    heads: &[u32; 2048],
-    weights: &[u32; 2048],
-    count: u32,
-    forward: &[u32; 20],
-    backward: &[u32; 20],
-) -> io::Result<()> {
-    ask(
-        rt,
-        1,
-        0,
-        &[],
-        tails,
-        heads,
-        weights,
-        count,
-        forward,
-        backward,
-    )?;
-    ask(
-        rt,
-        2,
-        0,
-        &[],
-        tails,
-        heads,
-        weights,
-        count,
-        forward,
-        backward,
-    )?;
-    ask(
-        rt,
-        3,
-        0,
-        &[],
-        tails,
-        heads,
-        weights,
-        count,
-        forward,
-        backward,
-    )?;
-    ask(
-        rt,
-        4,
-        0,
-        &[],
-        tails,
-        heads,
-        weights,
-        count,
-        forward,
-        backward,
-    )?;
-    ask(
-        rt,
-        5,
-        0,
-        &[],
-        tails,
-        heads,
-        weights,
-        count,
-        forward,
-        backward,
-    )
+impl Deck {
+    // Opens it.
+    fn open(&mut self, rt: &HostRuntime) -> io::Result<()> {
+        let opened = open::open(
+            VERTICES,
+            &LANDMARKS,
+            &self.tails,
+            &self.heads,
+            &self.weights,
+            self.count,
+            &mut self.forward,
+            &mut self.backward,
+        );
+        match opened {
+            Ok(()) => println!(rt; "opened"),
+            Err(refusal) => print_refusal(rt, refusal),
+        }
+    }
+
+    // Asks for one property from one vertex, and prints the settled words and the tally.
+    fn ask(
+        &self,
+        rt: &HostRuntime,
+        property: u32,
+        source: u32,
+        schedule: &[u32],
+    ) -> io::Result<()> {
+        let mut starts = [0u32; 4];
+        let mut settled = [0u32; 4];
+        let answer = query::query(
+            VERTICES,
+            &LANDMARKS,
+            &self.tails,
+            &self.heads,
+            &self.weights,
+            self.count,
+            &self.forward,
+            &self.backward,
+            property,
+            source,
+            schedule,
+            &mut starts,
+            &mut settled,
+        );
+        match answer {
+            Ok(tally) => {
+                let name = name_of(property);
+                let taken = tally.taken;
+                let rounds = tally.rounds;
+                let stores = tally.stores;
+                print!(rt; "from {source} {name}")?;
+                print_words(rt, settled)?;
+                println!(rt; ", taken {taken} rounds {rounds} stores {stores}")
+            }
+            Err(refusal) => print_refusal(rt, refusal),
+        }
+    }
+
+    // Hands in a batch, and prints its report or refusal.
+    fn change(&mut self, rt: &HostRuntime, changes: &[[u32; 5]]) -> io::Result<()> {
+        let applied = plain_batch::batch_part(
+            VERTICES,
+            &LANDMARKS,
+            &mut self.tails,
+            &mut self.heads,
+            &mut self.weights,
+            self.count,
+            &mut self.forward,
+            &mut self.backward,
+            changes,
+            0,
+            changes.len(),
+        );
+        match applied {
+            Ok(report) => {
+                self.count = report.count;
+                let now = report.count;
+                let suspects = report.affected;
+                let stores = report.stores;
+                println!(rt; "count {now} suspects {suspects} stores {stores}")
+            }
+            Err(refusal) => print_refusal(rt, refusal),
+        }
+    }
 }
 
 // The edge 0→1 is taken.
-fn take(
-    rt: &HostRuntime,
-    tails: &mut [u32; 2048],
-    heads: &mut [u32; 2048],
-    weights: &mut [u32; 2048],
-    count: u32,
-    forward: &mut [u32; 20],
-    backward: &mut [u32; 20],
-) -> io::Result<u32> {
+fn take(rt: &HostRuntime, deck: &mut Deck) -> io::Result<()> {
     print!(rt; "take 0 1 4: ")?;
-    let now = change(
-        rt,
-        &[[2, 0, 1, 4, 0]],
-        tails,
-        heads,
-        weights,
-        count,
-        forward,
-        backward,
-    )?;
-    ask(rt, 1, 0, &[], tails, heads, weights, now, forward, backward)?;
-    ask(rt, 3, 0, &[], tails, heads, weights, now, forward, backward)?;
-    Ok(now)
+    deck.change(rt, &[[2, 0, 1, 4, 0]])?;
+    deck.ask(rt, 1, 0, &[])?;
+    deck.ask(rt, 3, 0, &[])
 }
 
 // It is put back.
-fn put_back(
-    rt: &HostRuntime,
-    tails: &mut [u32; 2048],
-    heads: &mut [u32; 2048],
-    weights: &mut [u32; 2048],
-    count: u32,
-    forward: &mut [u32; 20],
-    backward: &mut [u32; 20],
-) -> io::Result<u32> {
+fn put_back(rt: &HostRuntime, deck: &mut Deck) -> io::Result<()> {
     print!(rt; "add 0 1 4: ")?;
-    let now = change(
-        rt,
-        &[[1, 0, 1, 4, 0]],
-        tails,
-        heads,
-        weights,
-        count,
-        forward,
-        backward,
-    )?;
-    ask(rt, 1, 0, &[], tails, heads, weights, now, forward, backward)?;
-    Ok(now)
+    deck.change(rt, &[[1, 0, 1, 4, 0]])?;
+    deck.ask(rt, 1, 0, &[])
 }
 
 // Ten changes, of which the seventh takes an edge that is not there.
-fn change_ten(
-    rt: &HostRuntime,
-    tails: &mut [u32; 2048],
-    heads: &mut [u32; 2048],
-    weights: &mut [u32; 2048],
-    count: u32,
-    forward: &mut [u32; 20],
-    backward: &mut [u32; 20],
-) -> io::Result<u32> {
+fn change_ten(rt: &HostRuntime, deck: &mut Deck) -> io::Result<()> {
     print!(rt; "ten changes: ")?;
-    let now = change(
+    deck.change(
         rt,
         &[
             [1, 1, 0, 5, 0],
@@ -294,88 +191,20 @@ fn change_ten(
             [2, 0, 3, 9, 0],
             [2, 3, 2, 2, 0],
         ],
-        tails,
-        heads,
-        weights,
-        count,
-        forward,
-        backward,
     )?;
-    ask(rt, 1, 0, &[], tails, heads, weights, now, forward, backward)?;
-    Ok(now)
-}
-
-// Vertex 3 asks, without a schedule and with one.
-fn ask_from_three(
-    rt: &HostRuntime,
-    tails: &[u32; 2048],
-    heads: &[u32; 2048],
-    weights: &[u32; 2048],
-    count: u32,
-    forward: &[u32; 20],
-    backward: &[u32; 20],
-) -> io::Result<()> {
-    ask(
-        rt,
-        1,
-        3,
-        &[],
-        tails,
-        heads,
-        weights,
-        count,
-        forward,
-        backward,
-    )?;
-    ask(
-        rt,
-        1,
-        3,
-        &[2, 3, 1, 3, 2],
-        tails,
-        heads,
-        weights,
-        count,
-        forward,
-        backward,
-    )
+    deck.ask(rt, 1, 0, &[])
 }
 
 fn main(rt: HostRuntime) -> io::Result<()> {
-    let mut tails = [0u32; 2048];
-    let mut heads = [0u32; 2048];
-    let mut weights = [0u32; 2048];
-    let mut forward = [0u32; 20];
-    let mut backward = [0u32; 20];
-    fill(&mut tails, &mut heads, &mut weights);
-    start(&rt, &tails, &heads, &weights, &mut forward, &mut backward)?;
-    ask_each(&rt, &tails, &heads, &weights, 5, &forward, &backward)?;
-    let four = take(
-        &rt,
-        &mut tails,
-        &mut heads,
-        &mut weights,
-        5,
-        &mut forward,
-        &mut backward,
-    )?;
-    let five = put_back(
-        &rt,
-        &mut tails,
-        &mut heads,
-        &mut weights,
-        four,
-        &mut forward,
-        &mut backward,
-    )?;
-    let count = change_ten(
-        &rt,
-        &mut tails,
-        &mut heads,
-        &mut weights,
-        five,
-        &mut forward,
-        &mut backward,
-    )?;
-    ask_from_three(&rt, &tails, &heads, &weights, count, &forward, &backward)
+    let mut deck = deck_a();
+    deck.open(&rt)?;
+    for property in 1..=5 {
+        deck.ask(&rt, property, 0, &[])?;
+    }
+    take(&rt, &mut deck)?;
+    put_back(&rt, &mut deck)?;
+    change_ten(&rt, &mut deck)?;
+    // vertex 3 asks, without a schedule and with one
+    deck.ask(&rt, 1, 3, &[])?;
+    deck.ask(&rt, 1, 3, &[2, 3, 1, 3, 2])
 }

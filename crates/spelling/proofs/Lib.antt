@@ -1,2 +1,2 @@
 pub mod Telling
-mod Choosing
+pub mod Choosing

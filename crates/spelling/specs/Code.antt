@@ -9,6 +9,7 @@
 --   report_words      == count, affected, stores
 --   check_words       == 1 where settled; else 0, side, row, record
 --   choice_words      == how many, then the four places
+--   chosen_words      == the same of a choice as the code has it
 --   size_words        == n and the count of a network that was read
 --   one_word          == a single number: where a row starts, how long a text is, how many sources there are, how many vertices a route has
 --   digest_words      == gained, lost, better, worse, and the vertex that loses most
@@ -18,6 +19,7 @@ use Rattle.run.specs.Run.{Tally}
 use Rattle.network.specs.Batch.{Report}
 use Rattle.network.specs.Settled.{Check, settled, found}
 use Rattle.answers.specs.Digest.{Digest}
+use Rattle.choice.specs.declared.Choice.{Choice}
 use Rattle.choice.specs.Code.{padded}
 use Rattle.dimacs.specs.Call.{Size}
 
@@ -55,6 +57,9 @@ check_words (found side r j) = 0 ∷ side ∷ r ∷ j ∷ []
 
 abbrev pub choice_words : List ℕ → List ℕ
 choice_words us = length us ∷ padded us
+
+abbrev pub chosen_words : Choice → List ℕ
+chosen_words c = c.count ∷ c.vertices
 
 abbrev pub size_words : Size → List ℕ
 size_words s = s.vertices ∷ s.count ∷ []

@@ -7,6 +7,7 @@ ghost use Rattle.dimacs.specs.Sources.{max_sources};
 ghost use Rattle.listing.specs.Listing.{max_file};
 ghost use Rattle.listing.specs.Code.{max_line, row_words, Printable};
 
+use graph::Refusal;
 use listing::parts::Prepared;
 use listing::{parts, prepare};
 use std::fs::File;
@@ -63,7 +64,7 @@ fn read_file(rt: &HostRuntime, name: &str, text: &mut [u8]) -> usize
 // Writes the pieces of the output, one after the other, until one can't be written.
 fn print_parts(
     rt: &HostRuntime,
-    prepared: Prepared,
+    prepared: Result<Prepared, Refusal>,
     tails: &[u32],
     heads: &[u32],
     weights: &[u32],
@@ -75,15 +76,13 @@ fn print_parts(
     requires { (length list.now ≡ max_sources) × Printable prepared list.now forward.now backward.now out.old }
 {
     let count = parts::part_count(prepared);
-    let mut i = 0;
-    while i < count {
+    for i in 0..count {
         let n = parts::put_part(
             i, prepared, tails, heads, weights, list, forward, backward, out,
         );
         if io::writer(rt).write_all(&out[..n]).is_err() {
             return;
         }
-        i += 1;
     }
 }
 

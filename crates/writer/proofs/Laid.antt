@@ -1,8 +1,8 @@
 -- Text laid into a buffer, piece after piece. Assumes nothing.
 --
 --   Pending text at out left r mid   == text is being laid into out from at: left is still to be laid, from r of the buffer mid
-use Rattle.property.proofs.Basics.{◌≡◌, refl, sym, ap, ◌∙◌, List, [], ◌∷◌, ◌++◌, append-nil, ℕ, suc, ◌+◌, ◌-◌, ◌/◌, ◌%◌, ◌≤◌, ◌<◌, arith, add-zero, length, set, length-append, take-append-drop, sets, paste}
-use lib.Seq.{sets-eq, length-sets, set_comm, take-length}
+use Rattle.property.proofs.Basics.{◌≡◌, refl, sym, ap, ◌∙◌, List, [], ◌∷◌, ◌++◌, append-nil, ℕ, suc, ◌+◌, ◌-◌, ◌/◌, ◌%◌, ◌≤◌, ◌<◌, arith, add-zero, add-one, length, set, get_or, length-append, take-append-drop, sets, paste}
+use lib.Seq.{sets-eq, length-sets, set_comm, take-length, paste-suc}
 use Rattle.writer.specs.Code.{laid, Fits, Wrote}
 use Rattle.writer.proofs.Digits.{pad, length_pad}
 
@@ -76,6 +76,10 @@ module _ {text : List ℕ} (xs ys : List ℕ) (e : text ≡ xs ++ ys) {at : ℕ}
 
     pub both_wrote : {s : ℕ} {new : List ℕ} → Wrote ys r mid s new → Wrote text at out s new
     both_wrote w = (pending_turn (pending_start f) xs ys e v).ends _ _ w
+
+-- a copy, byte by byte
+pub copy_turn : (src d e : List ℕ) (at i : ℕ) → i < length src → at + i < length d → e ≡ paste d at src i → set e (at + i) (get_or src i 0) ≡ paste d at src (i + 1)
+copy_turn src d e at i hs hd h = rw (h, add-one) (paste-suc d at src i 0 hd hs)
 
 -- a copy of all bytes
 pub paste_wrote : {text : List ℕ} {at : ℕ} {out : List ℕ} {i : ℕ} {new : List ℕ} → i ≡ length text → new ≡ paste out at text i → Wrote text at out (at + i) new

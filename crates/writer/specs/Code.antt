@@ -6,13 +6,13 @@
 --   arcs_of es              == the lines of the edges es, each ended by line feed
 --   writing r               == the program's reply as document 01's
 --   write_outcome r out     == the program's reply r and the buffer at exit, as an outcome
-use Rattle.std.specs.Prelude.{◌≡◌, List, ◌++◌, map, ℕ, ◌+◌, ◌≤◌, length, take, drop}
-use Rattle.graph.specs.Refusal.{Reply, accepted, refused, Outcome}
+use Rattle.std.specs.Prelude.{◌≡◌, List, ◌++◌, map, ℕ, ◌+◌, ◌≤◌, length, take, drop, Result}
+use Rattle.graph.specs.declared.refusal.Refusal.{Refusal}
+use Rattle.graph.specs.Refusal.{Reply, Outcome}
+use Rattle.graph.specs.Code.{reply_of}
 use Rattle.graph.specs.Edge.{Edge}
 use Rattle.dimacs.specs.Lines.{joined}
 use Rattle.dimacs.specs.Network.{arc, item_of}
-use Rattle.writer.specs.declared.WriteReply.{WriteReply}
-use Rattle.writer.specs.declared.WriteReply.TheVariants.{Length, Refused}
 
 -- ---- pieces of text
 
@@ -31,9 +31,8 @@ pub record Wrote (text : List ℕ) (at : ℕ) (out : List ℕ) (r : ℕ) (new : 
 unfoldable pub arcs_of : List Edge → List ℕ
 arcs_of es = joined (map item_of (map arc es))
 
-unfoldable pub writing : WriteReply → Reply ℕ
-writing (Length k) = accepted k
-writing (Refused k i) = refused k i
+abbrev pub writing : Result ℕ Refusal → Reply ℕ
+writing r = reply_of (λ k. k) r
 
-abbrev pub write_outcome : WriteReply → List ℕ → Outcome ℕ (List ℕ)
+abbrev pub write_outcome : Result ℕ Refusal → List ℕ → Outcome ℕ (List ℕ)
 write_outcome r out = record { reply = writing r; memory = out }

@@ -3,10 +3,3 @@
 
 pub mod network_text;
 pub mod put;
-
-// The reply to a writing: the length of the text.
-#[derive(Drop)]
-pub enum WriteReply {
-    Length(usize),
-    Refused(u32, usize),
-}

@@ -9,8 +9,8 @@ ghost use Rattle.dimacs.specs.Network.{problem, arc, item_of};
 ghost use Rattle.dimacs.specs.Call.{write_call};
 ghost use Rattle.writer.specs.Code.{Fits, Wrote, arcs_of, write_outcome};
 
-use super::{WriteReply, put};
-use graph::{Judged, rules};
+use super::put;
+use graph::{Refusal, rules};
 
 // The length of the p line, with its line feed.
 fn problem_width(n: u32, count: u32) -> usize
@@ -35,10 +35,8 @@ fn arcs_width(tails: &[u32], heads: &[u32], weights: &[u32], count: usize) -> us
     ensures upper_bound { result ≤ 65 * count }
 {
     let mut sum: usize = 0;
-    let mut k = 0;
-    while k < count {
+    for k in 0..count {
         sum += arc_width(tails[k], heads[k], weights[k]);
-        k += 1;
     }
     sum
 }
@@ -73,31 +71,29 @@ fn put_arcs(
     ensures { Wrote (arcs_of (edges tails.now heads.now weights.now count)) at out.old result out.new }
 {
     let mut end = at;
-    let mut k = 0;
-    while k < count {
+    for k in 0..count {
         end = put_arc(tails[k], heads[k], weights[k], end, out);
-        k += 1;
     }
     end
 }
 
 // Numbers 1, 2 of the table's lists, and 4. It does not go by `rules::judge_bare`, whose judge of records goes by vectors and saves registers: that
 // would be half of this call's stack.
-fn judge_write(n: u32, tails: &[u32], heads: &[u32], weights: &[u32], count: u32) -> Judged
+fn judge_write(
+    n: u32,
+    tails: &[u32],
+    heads: &[u32],
+    weights: &[u32],
+    count: u32,
+) -> Result<(), Refusal>
     ensures { told result ≡ (size n ▷ short_table (columns tails.now heads.now weights.now) ▷ table n (columns tails.now heads.now weights.now) count) }
 {
-    let size = rules::judge_size(n);
-    let Judged::Fine = size else {
-        return size;
-    };
-    let lengths = rules::judge_lengths(tails, heads, weights);
-    let Judged::Fine = lengths else {
-        return lengths;
-    };
+    rules::judge_size(n)?;
+    rules::judge_lengths(tails, heads, weights)?;
     rules::judge_table_plainly(n, tails, heads, weights, count)
 }
 
-// A network's text: refused, or written to the lent buffer; bytes past it stay. Only the buffer is judged last.
+// A network's text, written to the lent buffer, and its length; bytes past it stay. Only the buffer is judged last.
 pub fn write_network(
     n: u32,
     tails: &[u32],
@@ -105,19 +101,16 @@ pub fn write_network(
     weights: &[u32],
     count: u32,
     text: &mut [u8],
-) -> WriteReply
+) -> Result<usize, Refusal>
     ensures { write_outcome result text.new ≡ write_call n (columns tails.now heads.now weights.now) count text.old }
 {
-    let judged = judge_write(n, tails, heads, weights, count);
-    if let Judged::Refused(number, place) = judged {
-        return WriteReply::Refused(number, place);
-    }
+    judge_write(n, tails, heads, weights, count)?;
     let records = count as usize;
     let length = problem_width(n, count) + arcs_width(tails, heads, weights, records);
     if text.len() < length {
-        return WriteReply::Refused(2, 0);
+        return Err(Refusal::Short);
     }
     let arcs = put_problem(n, count, 0, text);
     put_arcs(tails, heads, weights, records, arcs, text);
-    WriteReply::Length(length)
+    Ok(length)
 }

@@ -1,4 +1,5 @@
 // Bytes put at a position of a lent buffer. Each function gives the position after what it put.
+// Kept by hand, not by `Display`: the bytes go to a place of a lent buffer, each stands in the contract, and no memory is asked for.
 ghost use Rattle.std.specs.Prelude.{◌≡◌, [], ◌∷◌, ◌++◌, ◌*◌, ◌≤◌, length};
 ghost use Rattle.dimacs.specs.Decimal.{digits};
 ghost use Rattle.dimacs.specs.Lines.{fields_of};
@@ -31,12 +32,10 @@ pub fn put_word(word: &[u8], at: usize, out: &mut [u8]) -> usize
     requires { Fits word.now at out.old }
     ensures { Wrote word.now at out.old result out.new }
 {
-    let mut i = 0;
-    while i < word.len() {
-        out[at + i] = word[i];
-        i += 1;
+    for (i, b) in word.iter().enumerate() {
+        out[at + i] = *b;
     }
-    at + i
+    at + word.len()
 }
 
 // A number in base ten, its last digit first.
@@ -45,10 +44,8 @@ fn put_number(v: usize, at: usize, out: &mut [u8]) -> usize
     ensures { Wrote (digits v) at out.old result out.new }
 {
     let end = at + width(v);
-    let mut i = end;
     let mut w = v;
-    while at < i {
-        i -= 1;
+    for i in (at..end).rev() {
         out[i] = 48 + (w % 10) as u8;
         w = w / 10;
     }
@@ -70,10 +67,8 @@ fn put_fields(values: &[usize], at: usize, out: &mut [u8]) -> usize
     ensures { Wrote (fields_of values.now) at out.old result out.new }
 {
     let mut end = at;
-    let mut i = 0;
-    while i < values.len() {
-        end = put_field(values[i], end, out);
-        i += 1;
+    for v in values {
+        end = put_field(*v, end, out);
     }
     end
 }
@@ -112,10 +107,8 @@ pub fn fields_width(values: &[usize]) -> usize
     ensures upper_bound { result ≤ 21 * length values.now }
 {
     let mut sum: usize = 0;
-    let mut i = 0;
-    while i < values.len() {
-        sum += 1 + width(values[i]);
-        i += 1;
+    for v in values {
+        sum += 1 + width(*v);
     }
     sum
 }

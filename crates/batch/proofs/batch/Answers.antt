@@ -5,4 +5,4 @@ use Rattle.batch.proofs.batch.Goals as goal
 
 pub returns : goal.returns
 returns c =
-    c.batch_laid.ensures _ (copied_laid c.args.changes.now _ _ _ c.lesser.ensures c.copy_changes.ensures (length-replicate {A = ℕ} 5120 0))
+    c.batch_laid.ensures _ (copied_laid c.args.changes.now _ _ _ c.min.ensures c.copy_changes.ensures (length-replicate {A = ℕ} 5120 0))

@@ -1,25 +1,11 @@
 -- `compare::align` meets its contract: a copy of the index, and the changes gone over one by one. Assumes nothing.
-use Rattle.property.proofs.Basics.{arith, ◌≡◌, refl, ◌∙◌, length}
-use Rattle.compare.proofs.Beside.{aligned_none, aligned_turn, aligned_done}
+use Rattle.property.proofs.Basics.{arith, ◌≡◌, ◌∙◌, length}
+use Rattle.compare.proofs.Beside.{aligned_turn, aligned_done}
 use Rattle.compare.proofs.align.Goals as goal
-
-pub loop-k-init : goal.loop-k-init
-loop-k-init c =
-    (aligned_none _ _ _ _ c.copy.ensures, refl)
-
-pub align_change-requires : goal.align_change-requires
-align_change-requires c =
-    let kept : length c.loop-k.other ≡ length c.args.other.now = c.loop-k.invariant.1 ∙ c.copy.auto.dst in
-    (omega (arith, c.loop-k-test.true), c.requires.0, omega (arith, kept, c.requires.1))
 
 pub loop-k-preserved : goal.loop-k-preserved
 loop-k-preserved c =
     (aligned_turn _ _ c.loop-k.other c.align_change.new.other c.loop-k.k c.loop-k-test.true c.align_change.ensures.1 c.loop-k.invariant.0, c.align_change.ensures.0 ∙ c.loop-k.invariant.1)
-
-pub shape_of-other : goal.shape_of-other
-shape_of-other c =
-    let kept : length c.loop-k.other ≡ length c.args.other.now = c.loop-k.invariant.1 ∙ c.copy.auto.dst in
-    kept
 
 pub returns : goal.returns
 returns c =

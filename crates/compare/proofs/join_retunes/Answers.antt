@@ -1,23 +1,11 @@
 -- `compare::join_retunes` meets its contract: the changes are gone over one by one. Assumes nothing.
 use Rattle.property.proofs.Basics.{arith, ◌≡◌, ◌*◌, ◌≤◌, length}
-use Rattle.compare.proofs.Joining.{Joined, joined_none, joined_step, joined_differences, joined_inside}
+use Rattle.compare.proofs.Joining.{Joined, joined_step, joined_differences, joined_inside}
 use Rattle.compare.proofs.join_retunes.Goals as goal
-
-pub loop-k-init : goal.loop-k-init
-loop-k-init c =
-    (joined_none _ _, omega arith)
-
-pub join_retune-requires : goal.join_retune-requires
-join_retune-requires c =
-    (c.loop-k-test.true, omega (arith, c.requires, c.loop-k.invariant.0.size))
 
 pub loop-k-preserved : goal.loop-k-preserved
 loop-k-preserved c =
     (rw c.join_retune.ensures (joined_step c.args.list.now c.loop-k.list c.args.size c.loop-k.k c.loop-k.invariant.0 c.requires), omega (arith, c.loop-k-test.true))
-
-pub shape_of-list : goal.shape_of-list
-shape_of-list c =
-    c.loop-k.invariant.0.size
 
 pub returns : goal.returns
 returns c =

@@ -1,5 +1,5 @@
 -- `compare::turn` meets its contract. Assumes nothing.
-use Rattle.property.proofs.Basics.{◌≡◌, ◌-◌, ◌≤◌}
+use Rattle.property.proofs.Basics.{◌≡◌, ◌≤◌}
 use Rattle.compare.specs.Code.{changes_in}
 use Rattle.compare.proofs.Reversed.{Turned}
 use Rattle.compare.proofs.turn.Given as goal
@@ -7,7 +7,3 @@ use Rattle.compare.proofs.turn.Given as goal
 abbrev pub invariant-loop-k : goal.invariant-loop-k
 invariant-loop-k l =
     Turned l.initial.list l.list l.k × (l.k ≤ l.size) × (l.size ≡ changes_in l.initial.list)
-
-abbrev pub decreases-loop-k : goal.decreases-loop-k
-decreases-loop-k l =
-    l.size - l.k

@@ -1,5 +1,5 @@
 -- `digest::count_moved` meets its contract: the vertices below t are counted. Assumes nothing.
-use Rattle.property.proofs.Basics.{Bool, ◌&&◌, List, ℕ, ◌-◌, eqb}
+use Rattle.property.proofs.Basics.{Bool, ◌&&◌, List, ℕ, eqb}
 use lib.IntN.{ℤ}
 use Rattle.property.specs.Property.{property}
 use Rattle.answers.specs.Digest.{effect_at, move_at, moves_to}
@@ -12,7 +12,3 @@ moved p good effects moves t = eqb (effect_at effects t) 3 && moves_to (property
 abbrev pub invariant-loop-t : goal.invariant-loop-t
 invariant-loop-t l =
     Counted (moved l.p l.good l.effects l.moves) l.n l.t l.count
-
-abbrev pub decreases-loop-t : goal.decreases-loop-t
-decreases-loop-t l =
-    l.n - l.t

@@ -1,5 +1,5 @@
 -- `digest::find_most` meets its contract: of the vertices below t the one that loses most is found. Assumes nothing.
-use Rattle.property.proofs.Basics.{arith, ◌≡◌, refl, sym, ap, ap₂, ◌∙◌, ◌≢◌, inl, inr, Bool, true, false, cond, ◌&&◌, ◌||◌, List, ℕ, ◌+◌, ◌-◌, ◌^◌, ◌<◌, ◌≤◌, eqb, eq-eqb, ne_eqb, foldl}
+use Rattle.property.proofs.Basics.{arith, ◌≡◌, refl, sym, ap, ap₂, ◌∙◌, ◌≢◌, inl, inr, Bool, true, false, cond, ◌&&◌, ◌||◌, List, ℕ, ◌+◌, ◌^◌, ◌<◌, ◌≤◌, eqb, eq-eqb, ne_eqb, foldl}
 use lib.IntN.{ℤ}
 use lib.Signed.{mag}
 use mir.Syntax.{w64}
@@ -57,7 +57,3 @@ module _ (p n : ℕ) (xs : List ℕ) (ys : List ℤ) where
 abbrev pub invariant-loop-t : goal.invariant-loop-t
 invariant-loop-t l =
     Found l.p l.n l.effects l.moves l.most l.t
-
-abbrev pub decreases-loop-t : goal.decreases-loop-t
-decreases-loop-t l =
-    l.n - l.t

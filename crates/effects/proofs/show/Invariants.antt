@@ -1,5 +1,5 @@
 -- `effects::show` meets its contract: the effects and moves of the vertices below t are written. Assumes nothing.
-use Rattle.property.proofs.Basics.{◌≡◌, List, map, ℕ, ◌-◌, ◌≤◌, length, get_or}
+use Rattle.property.proofs.Basics.{◌≡◌, List, map, ℕ, ◌≤◌, length, get_or}
 use lib.IntN.{ℤ}
 use Rattle.property.specs.Property.{property}
 use Rattle.graph.specs.Refusal.{over}
@@ -17,7 +17,3 @@ abbrev pub invariant-loop-t : goal.invariant-loop-t
 invariant-loop-t l =
     (l.effects ≡ over (map (effect_at l.p l.before l.after) (range 0 l.t)) l.initial.effects) × (l.moves ≡ over (map (move_at l.p l.before l.after) (range 0 l.t)) l.initial.moves)
     × (l.t ≤ length l.before) × (length l.effects ≡ length l.initial.effects) × (length l.moves ≡ length l.initial.moves)
-
-abbrev pub decreases-loop-t : goal.decreases-loop-t
-decreases-loop-t l =
-    length l.before - l.t

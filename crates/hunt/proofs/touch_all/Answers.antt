@@ -9,8 +9,8 @@ pub overflow_cast-lo : goal.overflow_cast-lo
 overflow_cast-lo c =
     omega (arith, c.type_inv.old c.args.u)
 
-pub overflow_cast-j : goal.overflow_cast-j
-overflow_cast-j c =
+pub overflow_cast-hi : goal.overflow_cast-hi
+overflow_cast-hi c =
     omega (arith, c.type_inv.old (c.args.u + 1))
 
 pub loop-j-init : goal.loop-j-init

@@ -6,8 +6,4 @@ use Rattle.hunt.proofs.touch_all.Given as goal
 
 abbrev pub invariant-loop-j : goal.invariant-loop-j
 invariant-loop-j l =
-    Touched (property l.p) (length l.words) l.s l.words l.old l.other l.u l.on l.j (l.initial.j - l.j) l.initial.marks l.initial.todo l.marks l.todo × (l.lo ≤ l.j) × (l.j ≤ l.initial.j)
-
-abbrev pub decreases-loop-j : goal.decreases-loop-j
-decreases-loop-j l =
-    l.j
+    Touched (property l.p) (length l.words) l.s l.words l.old l.other l.u l.on l.j (l.hi - l.j) l.initial.marks l.initial.todo l.marks l.todo × (l.lo ≤ l.j) × (l.j ≤ l.hi)

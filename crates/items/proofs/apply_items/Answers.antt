@@ -1,6 +1,7 @@
 -- `items::apply_items` meets its contract: what is left of the changes gives, from here, the verdict and the edges of all. Assumes nothing.
 use Rattle.property.proofs.Basics.{arith, ◌≡◌, refl, ◌∙◌, List, ◌∷◌, ◌+◌, drop, drop_of_length-le}
 use Rattle.network.specs.Change.{Change}
+use Rattle.graph.proofs.Judging.{passed_on}
 use Rattle.items.specs.Code.{change_at, Laid}
 use Rattle.items.proofs.Editing.{items_more, items_stop, items_none, edits_more, edits_none, leaves_refused, leaves_count}
 use Rattle.items.proofs.Laying.{laid_more}
@@ -10,18 +11,17 @@ pub loop-k-init : goal.loop-k-init
 loop-k-init c =
     (λ cs h. (refl, refl), c.requires.0, omega arith, refl, refl, refl)
 
-pub apply_item-edited-requires : goal.apply_item-edited-requires
-apply_item-edited-requires c =
+pub apply_item-requires : goal.apply_item-requires
+apply_item-requires c =
     c.loop-k.invariant.1
 
-pub returns-in_default : goal.returns-in_default
-returns-in_default c cs h =
+pub returns-in_err-m : goal.returns-in_err-m
+returns-in_err-m c cs h =
     let next : let a = c.args in let k = c.loop-k.k in
     (cs : List Change) → Laid a.size cs a.lists.now → drop k cs ≡ change_at a.lists.now k ∷ drop (k + 1) cs = λ cs h. let k = c.loop-k-test.true in
     let z = c.requires.1 in
     laid_more _ cs _ h _ (omega arith) (omega arith) in
-    let q = c.in_default.is in
-    leaves_refused _ _ _ _ _ _ _ _ q (items_stop _ _ _ _ _ _ (next cs h) (c.loop-k.invariant.0 cs h).0 _ _ _ q c.apply_item-edited.ensures.result_value)
+    leaves_refused _ _ _ _ _ _ _ (passed_on _ c.from_residual.ensures.1) (items_stop _ _ _ _ _ _ (next cs h) (c.loop-k.invariant.0 cs h).0 _ c.in_err-m.ensures.result_value)
 
 pub loop-k-preserved : goal.loop-k-preserved
 loop-k-preserved c =
@@ -29,14 +29,13 @@ loop-k-preserved c =
     (cs : List Change) → Laid a.size cs a.lists.now → drop k cs ≡ change_at a.lists.now k ∷ drop (k + 1) cs = λ cs h. let k = c.loop-k-test.true in
     let z = c.requires.1 in
     laid_more _ cs _ h _ (omega arith) (omega arith) in
-    let q = c.in-Count.is in
-    let f = c.apply_item-edited.ensures.leaves.edges _ q in (
-      λ cs h. (items_more _ _ _ _ _ _ (next cs h) (c.loop-k.invariant.0 cs h).0 _ _ q c.apply_item-edited.ensures.result_value _ f, edits_more _ _ _ _ _ (next cs h) f (c.loop-k.invariant.0 cs h).1),
-      c.apply_item-edited.ensures.leaves.table _ q,
+    let f = c.in_ok-m.ensures.leaves.edges _ refl in (
+      λ cs h. (items_more _ _ _ _ _ _ (next cs h) (c.loop-k.invariant.0 cs h).0 _ c.in_ok-m.ensures.result_value _ f, edits_more _ _ _ _ _ (next cs h) f (c.loop-k.invariant.0 cs h).1),
+      c.in_ok-m.ensures.leaves.table _ refl,
       omega arith,
-      c.apply_item-edited.auto.tails ∙ c.loop-k.invariant.3,
-      c.apply_item-edited.auto.heads ∙ c.loop-k.invariant.4,
-      c.apply_item-edited.auto.weights ∙ c.loop-k.invariant.5,
+      c.apply_item.auto.tails ∙ c.loop-k.invariant.3,
+      c.apply_item.auto.heads ∙ c.loop-k.invariant.4,
+      c.apply_item.auto.weights ∙ c.loop-k.invariant.5,
     )
 
 pub returns : goal.returns

@@ -1,5 +1,5 @@
 -- `items::apply_items` meets its contract: what is left of the changes gives, from here, the verdict and the edges of all. Assumes nothing.
-use Rattle.property.proofs.Basics.{◌≡◌, List, ◌-◌, ◌≤◌, length, drop}
+use Rattle.property.proofs.Basics.{◌≡◌, List, ◌≤◌, length, drop}
 use Rattle.graph.specs.Edge.{edges}
 use Rattle.network.specs.Change.{Change, edits, items}
 use Rattle.items.specs.Code.{Laid}
@@ -11,7 +11,3 @@ invariant-loop-k l =
     ((cs : List Change) → Laid l.size cs l.lists → (items l.n l.k (edges l.tails l.heads l.weights l.m) (drop l.k cs) ≡ items l.n 0 (edges l.initial.tails l.initial.heads l.initial.weights l.count) cs) × (edits (edges l.tails l.heads l.weights l.m) (drop l.k cs) ≡ edits (edges l.initial.tails l.initial.heads l.initial.weights l.count) cs))
     × Tabled l.n l.m l.tails l.heads l.weights
     × (l.k ≤ l.size) × (length l.tails ≡ length l.initial.tails) × (length l.heads ≡ length l.initial.heads) × (length l.weights ≡ length l.initial.weights)
-
-abbrev pub decreases-loop-k : goal.decreases-loop-k
-decreases-loop-k l =
-    l.size - l.k

@@ -1,6 +1,6 @@
 -- `items::insert_item` meets its contract. Assumes nothing.
 use Rattle.property.proofs.Basics.{arith, ◌≡◌, refl, sym, ◌∙◌, length}
-use Rattle.graph.specs.declared.Found.TheVariants.{Absent}
+use Rattle.std.specs.Prelude.{None}
 use Rattle.graph.specs.Limits.{max_edges}
 use Rattle.graph.specs.Edge.{edge, edges}
 use Rattle.graph.specs.Code.{Room, find}
@@ -12,25 +12,25 @@ use Rattle.graph.proofs.Seek.{absent_has}
 use Rattle.items.proofs.Editing.{leaves_refused, insert_present, insert_full, insert_fine, item_leaves}
 use Rattle.items.proofs.insert_item.Goals as goal
 
-pub returns-in-At : goal.returns-in-At
-returns-in-At c =
-    let both = leaves_refused _ _ _ _ _ _ _ _ refl (insert_present _ _ _ _ _ _ (sym c.find.ensures ∙ c.in-At.is)) in record { result_value = both.0; leaves = both.1 }
+pub returns-in-Some : goal.returns-in-Some
+returns-in-Some c =
+    let both = leaves_refused _ _ _ _ _ _ _ refl (insert_present _ _ _ _ _ _ (sym c.find.ensures ∙ c.in-Some.is)) in record { result_value = both.0; leaves = both.1 }
 
 pub returns-then-count-ge-MAX_EDGES : goal.returns-then-count-ge-MAX_EDGES
 returns-then-count-ge-MAX_EDGES c =
-    let absent : let a = c.args in find (edge a.t a.h a.w) (edges a.tails.now a.heads.now a.weights.now a.count) ≡ Absent = sym c.find.ensures ∙ c.in_default.is in
+    let absent : let a = c.args in find (edge a.t a.h a.w) (edges a.tails.now a.heads.now a.weights.now a.count) ≡ None = sym c.find.ensures ∙ c.in_default.is in
     let long : let a = c.args in length (edges a.tails.now a.heads.now a.weights.now a.count) ≡ a.count = let t = c.requires.tabled in edges_length _ _ _ _ (room_less t.few t.room) in
-    let q = long in let both = leaves_refused _ _ _ _ _ _ _ _ refl (insert_full _ _ _ _ _ absent (omega arith)) in record { result_value = both.0; leaves = both.1 }
+    let q = long in let both = leaves_refused _ _ _ _ _ _ _ refl (insert_full _ _ _ _ _ absent (omega arith)) in record { result_value = both.0; leaves = both.1 }
 
 pub insert-requires : goal.insert-requires
 insert-requires c =
-    let absent : let a = c.args in find (edge a.t a.h a.w) (edges a.tails.now a.heads.now a.weights.now a.count) ≡ Absent = sym c.find.ensures ∙ c.in_default.is in
+    let absent : let a = c.args in find (edge a.t a.h a.w) (edges a.tails.now a.heads.now a.weights.now a.count) ≡ None = sym c.find.ensures ∙ c.in_default.is in
     let t = c.requires.tabled in record { room = room_less (omega arith) t.room; count_value = t.rules; w_value = absent_has table_order _ _ absent }
 
 pub returns : goal.returns
 unfolding edit
 returns c =
-    let absent : let a = c.args in find (edge a.t a.h a.w) (edges a.tails.now a.heads.now a.weights.now a.count) ≡ Absent = sym c.find.ensures ∙ c.in_default.is in
+    let absent : let a = c.args in find (edge a.t a.h a.w) (edges a.tails.now a.heads.now a.weights.now a.count) ≡ None = sym c.find.ensures ∙ c.in_default.is in
     let long : let a = c.args in length (edges a.tails.now a.heads.now a.weights.now a.count) ≡ a.count = let t = c.requires.tabled in edges_length _ _ _ _ (room_less t.few t.room) in
     let q = long in
     let a = insert_fine _ c.args.t c.args.h c.args.w c.args.place absent (omega arith) in

@@ -10,6 +10,6 @@ pub returns : goal.returns
 returns c =
     let a = c.args in
     let cs = changes_of a.changes.now in
-    let e : c.lesser-end.result ≡ min a.to (length cs) = c.lesser-end.ensures ∙ ap (min a.to) (sym (length-map a.changes.now change_of)) in
+    let e : c.min-end.result ≡ min a.to (length cs) = c.min-end.ensures ∙ ap (min a.to) (sym (length-map a.changes.now change_of)) in
     c.batch_laid.ensures _ c.lay.ensures
-    ∙ ap (batch_call a.n a.landmarks.now (network a.tails.now a.heads.now a.weights.now a.forward.now a.backward.now a.count)) (part_cut cs a.from a.to _ _ e c.lesser-start.ensures)
+    ∙ ap (batch_call a.n a.landmarks.now (network a.tails.now a.heads.now a.weights.now a.forward.now a.backward.now a.count)) (part_cut cs a.from a.to _ _ e c.min-start.ensures)

@@ -1,9 +1,8 @@
 -- `plain_batch::try_changes` meets its contract. Assumes nothing.
-use Rattle.property.proofs.Basics.{arith, ◌≡◌, sym, ap, ◌∙◌, length}
+use Rattle.property.proofs.Basics.{arith, ◌≡◌, refl, sym, ◌∙◌, length}
 use Rattle.graph.specs.Refusal.{accept}
-use Rattle.graph.specs.Edge.{edges}
+use Rattle.graph.proofs.Judging.{passed_on}
 use Rattle.graph.proofs.Records.{room_less}
-use Rattle.network.specs.Change.{items}
 use Rattle.network.specs.Batch.{batch_faults}
 use Rattle.calls.specs.Code.{network, Tabled}
 use Rattle.items.specs.Code.{verdict}
@@ -17,8 +16,8 @@ copy_table-requires c =
     let t = fair.table in
     (room_less t.few t.room, record { tails = t.few; heads = t.few; weights = t.few })
 
-pub apply_items-edited-requires : goal.apply_items-edited-requires
-apply_items-edited-requires c =
+pub apply_items-requires : goal.apply_items-requires
+apply_items-requires c =
     let fair : let g = c.args in Fair g.n g.landmarks.now (network g.tails.now g.heads.now g.weights.now g.forward.now g.backward.now g.records) = faults_fair _ _ _ _ _ _ _ _ _ c.requires.1 in
     let tabled : let g = c.args in Tabled g.n g.records c.copy_table.new.tails2 c.copy_table.new.heads2 c.copy_table.new.weights2 = let t = fair.table in
     let k = c.copy_table.auto in
@@ -28,21 +27,20 @@ apply_items-edited-requires c =
 pub apply-requires : goal.apply-requires
 apply-requires c =
     let fair : let g = c.args in Fair g.n g.landmarks.now (network g.tails.now g.heads.now g.weights.now g.forward.now g.backward.now g.records) = faults_fair _ _ _ _ _ _ _ _ _ c.requires.1 in
-    record { fair = fair; tabled = (c.apply_items-edited.ensures _ (laid_some c.args.size c.args.lists.now)).1.table _ c.in-Count.is }
+    record { fair = fair; tabled = (c.in_ok-count2.ensures _ (laid_some c.args.size c.args.lists.now)).1.table _ refl }
 
-pub returns-in-Refused : goal.returns-in-Refused
+pub returns-in_err-count2 : goal.returns-in_err-count2
 unfolding verdict
-returns-in-Refused c = λ cs l.
+returns-in_err-count2 c = λ cs l.
     let g = c.args in
     let passed : batch_faults g.n g.landmarks.now (network g.tails.now g.heads.now g.weights.now g.forward.now g.backward.now g.records) (length cs) ≡ accept = faults_as _ _ _ (sym l.size) c.requires.1 in
-    let judged : verdict c.apply_items-edited.result ≡ items g.n 0 (edges g.tails.now g.heads.now g.weights.now g.records) cs = rw c.copy_table.ensures at (c.apply_items-edited.ensures cs l).0 in
-    call_item _ _ _ _ _ _ _ _ cs passed _ _ (ap verdict (sym c.in-Refused.is) ∙ judged)
+    let judged = rw c.copy_table.ensures at (c.in_err-count2.ensures cs l).0 in
+    rw (passed_on _ c.from_residual.ensures.1) (call_item _ _ _ _ _ _ _ _ cs passed _ judged)
 
-pub returns-in-Count : goal.returns-in-Count
+pub returns : goal.returns
 unfolding verdict
-returns-in-Count c = λ cs l.
+returns c = λ cs l.
     let g = c.args in
     let passed : batch_faults g.n g.landmarks.now (network g.tails.now g.heads.now g.weights.now g.forward.now g.backward.now g.records) (length cs) ≡ accept = faults_as _ _ _ (sym l.size) c.requires.1 in
-    let judged : verdict c.apply_items-edited.result ≡ items g.n 0 (edges g.tails.now g.heads.now g.weights.now g.records) cs = rw c.copy_table.ensures at (c.apply_items-edited.ensures cs l).0 in
-    let q = c.in-Count.is in
-    c.apply.ensures ∙ call_applied _ _ _ _ _ _ _ _ cs passed (ap verdict (sym q) ∙ judged) _ (rw c.copy_table.ensures at ((c.apply_items-edited.ensures cs l).1.edges _ q))
+    let judged = rw c.copy_table.ensures at (c.in_ok-count2.ensures cs l).0 in
+    c.apply.ensures ∙ call_applied _ _ _ _ _ _ _ _ cs passed judged _ (rw c.copy_table.ensures at ((c.in_ok-count2.ensures cs l).1.edges _ refl))

@@ -2,6 +2,7 @@
 use Rattle.property.proofs.Basics.{arith, ◌*◌, ◌≤◌, length}
 use Rattle.graph.specs.Limits.{max_vertices, max_landmarks}
 use Rattle.property.specs.Property.{properties}
+use Rattle.graph.proofs.Judging.{passed_on}
 use Rattle.network.specs.Network.{row_count}
 use Rattle.network.proofs.Alike.{Alike}
 use Rattle.calls.specs.Code.{network, Openable}
@@ -42,8 +43,8 @@ ask-requires c =
     × (row_count a.landmarks.now * a.n ≤ length a.forward.now) × (row_count a.landmarks.now * a.n ≤ length a.backward.now) = let a = c.args in network_accept a.n a.landmarks.now a.tails.now a.heads.now a.weights.now a.count a.forward.now a.backward.now c.requires.count_value in
     (sound.0.few, c.requires.lists_len.1)
 
-pub returns-in-Refused : goal.returns-in-Refused
-returns-in-Refused c cs l =
+pub returns-in_err-report : goal.returns-in_err-report
+returns-in_err-report c cs l =
     let sound : let a = c.args in Openable a.n a.count a.landmarks.now a.tails.now a.heads.now a.weights.now
     × (row_count a.landmarks.now * a.n ≤ length a.forward.now) × (row_count a.landmarks.now * a.n ≤ length a.backward.now) = let a = c.args in network_accept a.n a.landmarks.now a.tails.now a.heads.now a.weights.now a.count a.forward.now a.backward.now c.requires.count_value in
     let room : row_count c.args.landmarks.now * c.args.n ≤ max_landmarks * properties * max_vertices = rows_most (length c.args.landmarks.now) c.args.n sound.0.landmarks.few sound.0.few in
@@ -53,10 +54,10 @@ returns-in-Refused c cs l =
     copied_alike c.args.n c.args.landmarks.now _ _ _ _ _ _ c.requires.count_value _ _ _ _ _ _ _
     (record { tails = omega (arith, k.tails2); heads = omega (arith, k.heads2); weights = omega (arith, k.weights2) })
     c.copy_table.ensures (omega (arith, room, c.copy.auto.dst)) (omega (arith, room, c.copy-2.auto.dst)) c.copy.ensures c.copy-2.ensures in
-    follows_refused _ _ _ _ c.requires.count_value copied _ _ cs _ _ c.in-Refused.is (c.batch_laid-applied.ensures cs l)
+    rw (passed_on _ c.from_residual.ensures.1) (follows_refused _ _ _ _ c.requires.count_value copied _ _ cs _ _ (c.in_err-report.ensures cs l))
 
-pub returns-in-Done : goal.returns-in-Done
-returns-in-Done c cs l =
+pub returns : goal.returns
+returns c cs l =
     let sound : let a = c.args in Openable a.n a.count a.landmarks.now a.tails.now a.heads.now a.weights.now
     × (row_count a.landmarks.now * a.n ≤ length a.forward.now) × (row_count a.landmarks.now * a.n ≤ length a.backward.now) = let a = c.args in network_accept a.n a.landmarks.now a.tails.now a.heads.now a.weights.now a.count a.forward.now a.backward.now c.requires.count_value in
     let room : row_count c.args.landmarks.now * c.args.n ≤ max_landmarks * properties * max_vertices = rows_most (length c.args.landmarks.now) c.args.n sound.0.landmarks.few sound.0.few in
@@ -66,5 +67,4 @@ returns-in-Done c cs l =
     copied_alike c.args.n c.args.landmarks.now _ _ _ _ _ _ c.requires.count_value _ _ _ _ _ _ _
     (record { tails = omega (arith, k.tails2); heads = omega (arith, k.heads2); weights = omega (arith, k.weights2) })
     c.copy_table.ensures (omega (arith, room, c.copy.auto.dst)) (omega (arith, room, c.copy-2.auto.dst)) c.copy.ensures c.copy-2.ensures in
-    follows_asked _ _ _ _ c.requires.count_value copied _ _ cs _ _ _ _ c.in-Done.is
-    (c.batch_laid-applied.ensures cs l) c.ask.ensures
+    follows_asked _ _ _ _ c.requires.count_value copied _ _ cs _ _ _ (c.in_ok-report.ensures cs l) c.ask.ensures

@@ -1,7 +1,8 @@
 -- `plate_track::plate_track_choose` meets its contract. Assumes nothing.
 use Rattle.property.proofs.Basics.{refl}
 use Rattle.spelling.specs.Code.{choice_words}
-use Rattle.plate_track.proofs.Spelling.{spelled_short, spelled_told}
+use Rattle.spelling.proofs.Choosing.{choice_tells}
+use Rattle.plate_track.proofs.Spelling.{spelled_short, spelled_reply}
 use Rattle.plate_track.proofs.plate_track_choose.Goals as goal
 
 pub returns-then-reply-lt-REPLY_WORDS : goal.returns-then-reply-lt-REPLY_WORDS
@@ -10,4 +11,4 @@ returns-then-reply-lt-REPLY_WORDS c =
 
 pub returns : goal.returns
 returns c =
-    spelled_told choice_words _ _ _ _ c.if-reply-lt-REPLY_WORDS.false refl (c.spell_choice.ensures _ c.choose_landmarks-r.ensures)
+    spelled_reply choice_words _ _ _ _ c.if-reply-lt-REPLY_WORDS.false refl (choice_tells _ _ c.choose_landmarks-r.ensures c.spell.ensures)

@@ -9,4 +9,4 @@ returns-then-reply-lt-REPLY_WORDS c =
 
 pub returns : goal.returns
 returns c =
-    spelled_told open_words _ _ _ _ c.if-reply-lt-REPLY_WORDS.false c.open-r.ensures c.spell_open.ensures
+    spelled_told open_words _ _ (λ u. tt) _ _ c.if-reply-lt-REPLY_WORDS.false c.open-r.ensures c.spell.ensures

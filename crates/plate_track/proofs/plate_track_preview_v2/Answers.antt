@@ -1,6 +1,7 @@
 -- `plate_track::plate_track_preview_v2` meets its contract. Assumes nothing.
 use Rattle.spelling.specs.Code.{open_words}
-use Rattle.plate_track.proofs.Spelling.{spelled_short, spelled_told}
+use Rattle.spelling.proofs.Telling.{told_by, replied_told}
+use Rattle.plate_track.proofs.Spelling.{spelled_short, spelled_reply}
 use Rattle.plate_track.proofs.plate_track_preview_v2.Goals as goal
 
 pub returns-then-reply-lt-REPLY_WORDS : goal.returns-then-reply-lt-REPLY_WORDS
@@ -9,4 +10,5 @@ returns-then-reply-lt-REPLY_WORDS c =
 
 pub returns : goal.returns
 returns c =
-    spelled_told open_words _ _ _ _ c.if-reply-lt-REPLY_WORDS.false c.preview_words-r.ensures c.spell_preview.ensures
+    spelled_reply open_words _ _ _ _ c.if-reply-lt-REPLY_WORDS.false c.preview_words-r.ensures
+    (rw (replied_told c.preview_words-r.result) (told_by open_words (λ u. tt) _ c.spell.ensures))

@@ -1,5 +1,6 @@
 -- `plate_track::plate_track_read` meets its contract. Assumes nothing.
 use Rattle.spelling.specs.Code.{size_words}
+use Rattle.reader.specs.Code.{sized}
 use Rattle.plate_track.proofs.Spelling.{spelled_short, spelled_told}
 use Rattle.plate_track.proofs.plate_track_read.Goals as goal
 
@@ -9,4 +10,4 @@ returns-then-reply-lt-REPLY_WORDS c =
 
 pub returns : goal.returns
 returns c =
-    spelled_told size_words _ _ _ _ c.if-reply-lt-REPLY_WORDS.false c.read_network-r.ensures c.spell_read.ensures
+    spelled_told size_words _ _ sized _ _ c.if-reply-lt-REPLY_WORDS.false c.read_network-r.ensures c.spell.ensures

@@ -9,4 +9,4 @@ returns-then-reply-lt-REPLY_WORDS c =
 
 pub returns : goal.returns
 returns c =
-    spelled_told one_word _ _ _ _ c.if-reply-lt-REPLY_WORDS.false c.read_sources-r.ensures c.spell_sources.ensures
+    spelled_told one_word _ _ (λ k. k) _ _ c.if-reply-lt-REPLY_WORDS.false c.read_sources-r.ensures c.spell.ensures

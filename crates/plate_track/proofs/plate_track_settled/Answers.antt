@@ -2,6 +2,7 @@
 use Rattle.property.proofs.Basics.{ap}
 use Rattle.plate_track.specs.Code.{alone}
 use Rattle.spelling.specs.Code.{check_words}
+use Rattle.settled_check.specs.Code.{spotted}
 use Rattle.plate_track.proofs.Spelling.{spelled_short, spelled_told}
 use Rattle.plate_track.proofs.plate_track_settled.Goals as goal
 
@@ -11,4 +12,4 @@ returns-then-reply-lt-REPLY_WORDS c =
 
 pub returns : goal.returns
 returns c =
-    spelled_told check_words _ _ _ _ c.if-reply-lt-REPLY_WORDS.false (ap alone c.find_relaxable-r.ensures) c.spell_check.ensures
+    spelled_told check_words _ _ spotted _ _ c.if-reply-lt-REPLY_WORDS.false (ap alone c.find_relaxable-r.ensures) c.spell.ensures

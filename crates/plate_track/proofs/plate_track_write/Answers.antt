@@ -9,4 +9,4 @@ returns-then-reply-lt-REPLY_WORDS c =
 
 pub returns : goal.returns
 returns c =
-    spelled_told one_word _ _ _ _ c.if-reply-lt-REPLY_WORDS.false c.write_network-r.ensures c.spell_write.ensures
+    spelled_told one_word _ _ (λ k. k) _ _ c.if-reply-lt-REPLY_WORDS.false c.write_network-r.ensures c.spell.ensures

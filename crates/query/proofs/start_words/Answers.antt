@@ -18,7 +18,6 @@ loop-i-init c =
           ap (λ x. get_or x t 0) e ∙ get_or_within (replicate (length a.out.now) c.none.result) t 0 c.none.result (omega (arith, c.requires.0)) ∙ replicate_at (length a.out.now) t c.none.result ∙ c.none.ensures
           ∙ sym (bound_none (property a.p) told (length a.landmarks.now) t)),
       ap length e ∙ z ∙ c.requires.0,
-      omega arith,
     )
 
 pub overflow_add-at : goal.overflow_add-at
@@ -70,9 +69,8 @@ loop-i-preserved c =
     let i = inside in (
       (λ t b.
           let v = entry_join a.n a.landmarks.now a.p a.source a.forward.now a.backward.now (c.loop-i.i - 1) t c.row_start-at.result _ c.row_start-at.ensures h.source b (omega (arith, h.source)) (omega arith) refl in
-          bound_turn (property a.p) told (length a.landmarks.now) t c.loop-i.i _ _ _ (omega arith) c.loop-i.invariant.2 v (c.loop-i.invariant.0 t b) (c.join_row.ensures t (omega (arith, c.loop-i.invariant.1)))),
+          bound_turn (property a.p) told (length a.landmarks.now) t c.loop-i.i _ _ _ (omega arith) (omega arith) v (c.loop-i.invariant.0 t b) (c.join_row.ensures t (omega (arith, c.loop-i.invariant.1)))),
       search needs,
-      omega arith,
     )
 
 pub shape_of-out : goal.shape_of-out

@@ -2,32 +2,32 @@
 use Rattle.property.proofs.Basics.{arith, ◌∙◌}
 use Rattle.items.specs.Code.{changes_of}
 use Rattle.replay.proofs.Replaying.{batches_more, batches_none, carried_done, carried_refused, carried_none}
-use Rattle.replay.proofs.apply_parts.Goals.{in-Done, in_default}
+use Rattle.replay.proofs.apply_parts.Goals.{in-Ok, in_default}
 use Rattle.replay.proofs.apply_parts.Goals as goal
 
-pub loop-i-preserved : goal.loop-i-preserved
-loop-i-preserved c =
+pub loop-end-preserved : goal.loop-end-preserved
+loop-end-preserved c =
     let g = c.args in
-    let d = batches_more c.loop-i.from g.ends.now c.loop-i.i (changes_of g.changes.now) c.loop-i-test.true in
+    let d = batches_more c.loop-end.from g.ends.now c.loop-end.end-index (changes_of g.changes.now) c.loop-end-test.true in
     let o = c.batch_part-applied.ensures in
     let k = c.batch_part-applied.auto in (
       elim c.match-applied.branch [
-        | in-Done w ↦ carried_done _ _ _ _ _ _ _ d c.loop-i.invariant.0 _ _ _ _ _ _ _ w.in-Done.is o _ _ w.present-is w.accepted-is
-        | in_default w ↦ carried_refused _ _ _ _ _ _ _ d c.loop-i.invariant.0 _ _ _ _ _ _ _ _ w.in_default.is o _ _ w.present-is w.accepted-is
+        | in-Ok w ↦ rw w.from-is (carried_done _ _ _ _ _ _ _ d c.loop-end.invariant.0 _ _ _ _ _ _ _ w.in-Ok.is o _ _ w.present-is w.accepted-is)
+        | in_default w ↦ rw w.from-is (carried_refused _ _ _ _ _ _ _ d c.loop-end.invariant.0 _ _ _ _ _ _ _ w.in_default.is o _ _ w.present-is w.accepted-is)
       ],
       elim c.match-applied.branch [
-        | in-Done w ↦ omega (arith, w.accepted-is)
+        | in-Ok w ↦ omega (arith, w.accepted-is)
         | in_default w ↦ omega (arith, w.accepted-is)
       ],
       omega arith,
-      k.tails ∙ c.loop-i.invariant.3,
-      k.heads ∙ c.loop-i.invariant.4,
-      k.weights ∙ c.loop-i.invariant.5,
-      k.forward ∙ c.loop-i.invariant.6,
-      k.backward ∙ c.loop-i.invariant.7,
+      k.tails ∙ c.loop-end.invariant.3,
+      k.heads ∙ c.loop-end.invariant.4,
+      k.weights ∙ c.loop-end.invariant.5,
+      k.forward ∙ c.loop-end.invariant.6,
+      k.backward ∙ c.loop-end.invariant.7,
     )
 
 pub returns : goal.returns
 returns c =
     let a = c.args in
-    carried_none _ _ _ _ _ _ _ _ _ _ (batches_none c.loop-i.from a.ends.now c.loop-i.i (changes_of a.changes.now) (omega (arith, c.loop-i-test.false))) c.loop-i.invariant.0
+    carried_none _ _ _ _ _ _ _ _ _ _ (batches_none c.loop-end.from a.ends.now c.loop-end.end-index (changes_of a.changes.now) (omega (arith, c.loop-end-test.false))) c.loop-end.invariant.0

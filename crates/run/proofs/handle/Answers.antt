@@ -72,8 +72,8 @@ bounds-firsts-u-2 c =
     let low : (c.args.u < max_vertices) × (c.args.u + 1 < length c.args.firsts.now) = let (u, r) = ready in (omega (arith, r.fit.few), omega (arith, r.fit.places)) in
     omega (arith, low)
 
-pub overflow_cast-j : goal.overflow_cast-j
-overflow_cast-j c =
+pub overflow_cast-lo : goal.overflow_cast-lo
+overflow_cast-lo c =
     omega (arith, c.type_inv.firsts c.args.u)
 
 pub remove-requires : goal.remove-requires
@@ -82,7 +82,7 @@ remove-requires c =
     (g.u < length g.words.now) × Ready 39 g.packed (length g.words.now) g.firsts.now g.heads.now g.weights.now g.words.now g.waiting.now g.tally = let g = c.args in
     subst (λ n. (g.u < n) × Ready 39 g.packed n g.firsts.now g.heads.now g.weights.now g.words.now g.waiting.now g.tally) (sym c.requires.2.sized.words) (c.requires.1, c.requires.2) in
     let low : (c.args.u < max_vertices) × (c.args.u + 1 < length c.args.firsts.now) = let (u, r) = ready in (omega (arith, r.fit.few), omega (arith, r.fit.places)) in
-    low.0
+    (omega arith, low.0)
 
 pub loop-j-init : goal.loop-j-init
 loop-j-init c =
@@ -116,10 +116,6 @@ relax-t-requires c =
       r.sized,
       record { taken = omega arith; rounds = omega arith; stores = omega (arith, f.fit.short) },
     )
-
-pub overflow_add-j : goal.overflow_add-j
-overflow_add-j c =
-    omega (arith, c.loop-j-test.true, c.type_inv.firsts (c.args.u + 1))
 
 pub loop-j-preserved : goal.loop-j-preserved
 loop-j-preserved c =

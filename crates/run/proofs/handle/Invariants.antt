@@ -10,10 +10,6 @@ use Rattle.run.proofs.handle.Given as goal
 abbrev pub invariant-loop-j : goal.invariant-loop-j
 invariant-loop-j l =
     (foldl (spec.relax (property l.p)) (state l.n l.words l.waiting l.t) (part_in l.packed l.heads l.weights l.u l.j (l.hi - l.j))
-    ≡ foldl (spec.relax (property l.p)) (state l.n l.initial.words l.initial.waiting l.initial.t) (part_in l.packed l.heads l.weights l.u l.initial.j (l.hi - l.initial.j)))
-    × (get_or l.firsts 0 0 ≤ l.initial.j) × (l.initial.j ≤ l.j) × (l.j ≤ l.hi) × (l.hi ≤ get_or l.firsts l.n 0) × Ran l.n l.words l.waiting l.initial.t l.t 0 0 (l.j - l.initial.j) × (get_or l.words l.u 0 ≡ l.v)
+    ≡ foldl (spec.relax (property l.p)) (state l.n l.initial.words l.initial.waiting l.initial.t) (part_in l.packed l.heads l.weights l.u l.lo (l.hi - l.lo)))
+    × (get_or l.firsts 0 0 ≤ l.lo) × (l.lo ≤ l.j) × (l.j ≤ l.hi) × (l.hi ≤ get_or l.firsts l.n 0) × Ran l.n l.words l.waiting l.initial.t l.t 0 0 (l.j - l.lo) × (get_or l.words l.u 0 ≡ l.v)
     × (l.hi ≤ length l.heads) × (l.hi ≤ length l.weights)
-
-abbrev pub decreases-loop-j : goal.decreases-loop-j
-decreases-loop-j l =
-    l.hi - l.j

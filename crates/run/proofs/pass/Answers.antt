@@ -15,20 +15,20 @@ loop-entry-init c =
 
 pub overflow_cast-u : goal.overflow_cast-u
 overflow_cast-u c =
-    omega (arith, c.type_inv.schedule c.loop-entry.entry)
+    omega (arith, c.type_inv.schedule c.loop-entry.entry-index)
 
 pub take-t-requires : goal.take-t-requires
 take-t-requires c =
     let f = c.requires.ready in
     let v = c.requires.scheduled in
-    let r = c.loop-entry.invariant.2 in record { u_lt_n = v.inside c.loop-entry.entry (omega arith); ready = record { fit = f.fit; sized = r.sized; low = record { taken = omega (arith, v.few); rounds = omega arith; stores = omega (arith, v.few) } } }
+    let r = c.loop-entry.invariant.2 in record { u_lt_n = v.inside c.loop-entry.entry-index (omega arith); ready = record { fit = f.fit; sized = r.sized; low = record { taken = omega (arith, v.few); rounds = omega arith; stores = omega (arith, v.few) } } }
 
 pub loop-entry-preserved : goal.loop-entry-preserved
 loop-entry-preserved c =
     let g = c.args in
     let at = c.loop-entry in (
       λ es o.
-          fold_turn (spec.take_entry (property g.p) es) _ (drop_more g.schedule.now at.entry c.loop-entry-test.true) (c.take-t.ensures.result_after es o) (at.invariant.0 es o),
+          fold_turn (spec.take_entry (property g.p) es) _ (drop_more g.schedule.now at.entry-index c.loop-entry-test.true) (c.take-t.ensures.result_after es o) (at.invariant.0 es o),
       omega arith,
       ran_then at.invariant.2 c.take-t.ensures.ran (omega arith) (omega arith) (omega arith),
     )

@@ -12,8 +12,8 @@ pub loop-i-init : goal.loop-i-init
 loop-i-init c =
     ((λ es o. rw sub-zero), omega arith, ran_none c.requires.sized _ 0 0 0)
 
-pub next_from-next-requires : goal.next_from-next-requires
-next_from-next-requires c =
+pub next_from-requires : goal.next_from-requires
+next_from-requires c =
     omega (arith, c.requires.fit.few)
 
 pub returns-in_default : goal.returns-in_default
@@ -22,15 +22,15 @@ returns-in_default c =
     let at = c.loop-i in record {
       result_after = λ es o.
           round_none (property g.p) es g.n at.i at.words at.waiting at.t _ (at.invariant.0 es o)
-          (next_none (waiting_of at.waiting) at.i (sym c.next_from-next.ensures.next ∙ c.in_default.is))
+          (next_none (waiting_of at.waiting) at.i (sym c.next_from.ensures.next ∙ c.in_default.is))
           ∙ round_begins (property g.p) es g.n g.words.now g.waiting.now g.tally;
       ran = ran_round g.tally at.invariant.2 (omega (arith, c.requires.fit.few));
     }
 
 pub handle-t-requires : goal.handle-t-requires
 handle-t-requires c =
-    let found : First (waiting_of c.loop-i.waiting) c.loop-i.i c.in-At.v = next_first _ _ _ (sym c.next_from-next.ensures.next ∙ c.in-At.is) in
-    let found_within : c.in-At.v < c.args.n = marks_within _ c.loop-i.waiting _ c.loop-i.invariant.2.sized.waiting found.waits in
+    let found : First (waiting_of c.loop-i.waiting) c.loop-i.i c.in-Some.v = next_first _ _ _ (sym c.next_from.ensures.next ∙ c.in-Some.is) in
+    let found_within : c.in-Some.v < c.args.n = marks_within _ c.loop-i.waiting _ c.loop-i.invariant.2.sized.waiting found.waits in
     let f = c.requires.fit.few in
     let r = c.loop-i.invariant.2 in (
       c.args.n,
@@ -40,25 +40,25 @@ handle-t-requires c =
 
 pub overflow_add-i : goal.overflow_add-i
 overflow_add-i c =
-    let found : First (waiting_of c.loop-i.waiting) c.loop-i.i c.in-At.v = next_first _ _ _ (sym c.next_from-next.ensures.next ∙ c.in-At.is) in
-    let found_within : c.in-At.v < c.args.n = marks_within _ c.loop-i.waiting _ c.loop-i.invariant.2.sized.waiting found.waits in
+    let found : First (waiting_of c.loop-i.waiting) c.loop-i.i c.in-Some.v = next_first _ _ _ (sym c.next_from.ensures.next ∙ c.in-Some.is) in
+    let found_within : c.in-Some.v < c.args.n = marks_within _ c.loop-i.waiting _ c.loop-i.invariant.2.sized.waiting found.waits in
     omega (arith, found_within)
 
 pub loop-i-smaller : goal.loop-i-smaller
 loop-i-smaller c =
-    let found : First (waiting_of c.loop-i.waiting) c.loop-i.i c.in-At.v = next_first _ _ _ (sym c.next_from-next.ensures.next ∙ c.in-At.is) in
+    let found : First (waiting_of c.loop-i.waiting) c.loop-i.i c.in-Some.v = next_first _ _ _ (sym c.next_from.ensures.next ∙ c.in-Some.is) in
     omega (arith, found.from)
 
 pub loop-i-preserved : goal.loop-i-preserved
 loop-i-preserved c =
-    let found : First (waiting_of c.loop-i.waiting) c.loop-i.i c.in-At.v = next_first _ _ _ (sym c.next_from-next.ensures.next ∙ c.in-At.is) in
-    let found_within : c.in-At.v < c.args.n = marks_within _ c.loop-i.waiting _ c.loop-i.invariant.2.sized.waiting found.waits in
+    let found : First (waiting_of c.loop-i.waiting) c.loop-i.i c.in-Some.v = next_first _ _ _ (sym c.next_from.ensures.next ∙ c.in-Some.is) in
+    let found_within : c.in-Some.v < c.args.n = marks_within _ c.loop-i.waiting _ c.loop-i.invariant.2.sized.waiting found.waits in
     let g = c.args in
     let at = c.loop-i in
     let f = found in (
       λ es o.
           round_next (property g.p) es g.n at.i at.words at.waiting at.t _ (at.invariant.0 es o)
-          c.in-At.v _ at.invariant.2.sized.waiting f (c.handle-t.ensures.by_index g.n at.invariant.2.sized.words es o),
+          c.in-Some.v _ at.invariant.2.sized.waiting f (c.handle-t.ensures.by_index g.n at.invariant.2.sized.words es o),
       omega (arith, found_within),
       ran_then at.invariant.2 (c.handle-t.ensures.by_index_2 g.n at.invariant.2.sized.words) (omega arith) (omega arith) (omega (arith, f.from)),
     )

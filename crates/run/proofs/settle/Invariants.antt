@@ -9,12 +9,8 @@ use Rattle.run.specs.Run as spec
 use Rattle.run.specs.Code.{state, Ran}
 use Rattle.run.proofs.settle.Given as goal
 
-abbrev pub invariant-loop-k : goal.invariant-loop-k
-invariant-loop-k l =
+abbrev pub invariant-loop-round : goal.invariant-loop-round
+invariant-loop-round l =
     ((es : List Edge) → OwnIn l.packed l.n l.firsts l.heads l.weights es
-    → spec.settle (property l.p) es l.n (l.n - l.k) (state l.n l.words l.waiting l.t) ≡ spec.settle (property l.p) es l.n l.n (state l.n l.initial.words l.initial.waiting l.initial.t))
-    × (l.k ≤ l.n) × Ran l.n l.words l.waiting l.initial.t l.t 0 l.k (max_vertices * max_edges * l.k)
-
-abbrev pub decreases-loop-k : goal.decreases-loop-k
-decreases-loop-k l =
-    l.n - l.k
+    → spec.settle (property l.p) es l.n (l.n - l._round) (state l.n l.words l.waiting l.t) ≡ spec.settle (property l.p) es l.n l.n (state l.n l.initial.words l.initial.waiting l.initial.t))
+    × (l._round ≤ l.n) × Ran l.n l.words l.waiting l.initial.t l.t 0 l._round (max_vertices * max_edges * l._round)

@@ -1,34 +1,18 @@
 -- `scanner::begins` meets its contract: what is left of the mark, from here on in the line, comes to the same. Assumes nothing.
-use Rattle.property.proofs.Basics.{arith, refl, sym, ◌∙◌}
+use Rattle.property.proofs.Basics.{arith, sym, ◌∙◌}
 use Rattle.scanner.proofs.Fields.{mark_more, mark_other, mark_done}
 use Rattle.scanner.proofs.begins.Goals as goal
-
-pub loop-i-init : goal.loop-i-init
-loop-i-init c =
-    (refl, omega arith)
-
-pub bounds-mark-i : goal.bounds-mark-i
-bounds-mark-i c =
-    omega arith
 
 pub returns-then-not-holds : goal.returns-then-not-holds
 returns-then-not-holds c =
     let a = c.args in
-    sym (mark_other a.mark.now a.line.now c.loop-i.i (omega arith) (sym c.holds.ensures ∙ c.if-not-holds.true)) ∙ c.loop-i.invariant.0
-
-pub overflow_add-i : goal.overflow_add-i
-overflow_add-i c =
-    omega arith
-
-pub loop-i-smaller : goal.loop-i-smaller
-loop-i-smaller c =
-    omega arith
+    sym (mark_other a.mark.now a.line.now c.loop-i.i (omega arith) (sym c.holds.ensures ∙ c.if-not-holds.true)) ∙ c.loop-i.invariant
 
 pub loop-i-preserved : goal.loop-i-preserved
 loop-i-preserved c =
     let a = c.args in
-    (sym (mark_more a.mark.now a.line.now c.loop-i.i (omega arith) (sym c.holds.ensures ∙ c.if-not-holds.false)) ∙ c.loop-i.invariant.0, omega arith)
+    sym (mark_more a.mark.now a.line.now c.loop-i.i (omega arith) (sym c.holds.ensures ∙ c.if-not-holds.false)) ∙ c.loop-i.invariant
 
 pub returns : goal.returns
 returns c =
-    let a = c.args in sym (mark_done a.mark.now a.line.now c.loop-i.i (omega arith)) ∙ c.loop-i.invariant.0
+    let a = c.args in sym (mark_done a.mark.now a.line.now c.loop-i.i (omega arith)) ∙ c.loop-i.invariant

@@ -7,22 +7,10 @@ pub loop-i-init : goal.loop-i-init
 loop-i-init c =
     (feed_start c.args.text.now c.args.at, omega arith)
 
-pub bounds-text-i : goal.bounds-text-i
-bounds-text-i c =
-    omega arith
-
 pub returns-then-text-i-eq10 : goal.returns-then-text-i-eq10
 returns-then-text-i-eq10 c =
     let a = c.args in
     (sym (feed_ends a.text.now a.at c.loop-i.i c.loop-i.invariant.1 (omega arith) c.if-text-i-eq10.true c.loop-i.invariant.0), (omega arith, omega arith))
-
-pub overflow_add-i : goal.overflow_add-i
-overflow_add-i c =
-    omega arith
-
-pub loop-i-smaller : goal.loop-i-smaller
-loop-i-smaller c =
-    omega arith
 
 pub loop-i-preserved : goal.loop-i-preserved
 loop-i-preserved c =

@@ -14,19 +14,20 @@ pub overflow_cast-hi : goal.overflow_cast-hi
 overflow_cast-hi c =
     omega (arith, c.type_inv.index (c.args.u + 1))
 
-pub overflow_cast-j : goal.overflow_cast-j
-overflow_cast-j c =
+pub overflow_cast-lo : goal.overflow_cast-lo
+overflow_cast-lo c =
     omega (arith, c.type_inv.index c.args.u)
 
 pub loop-j-init : goal.loop-j-init
 loop-j-init c =
     let u = c.args.u in
     let f = c.requires.1 in
-    (refl, f.after u (omega (arith, c.requires.0)), f.rising u c.requires.0, f.within u c.requires.0, refl, c.requires.3, refl)
+    (refl, f.rising u c.requires.0, c.requires.3)
 
 pub bounds-row-h : goal.bounds-row-h
 bounds-row-h c =
-    let i = c.requires.1.inside c.loop-j.j (omega arith) (omega arith) in
+    let f = c.requires.1 in
+    let i = f.inside c.loop-j.j (omega (arith, f.after c.args.u (omega (arith, c.requires.0)))) (omega (arith, f.within c.args.u c.requires.0)) in
     omega (arith, c.head-h.ensures, c.requires.2)
 
 pub arc-requires : goal.arc-requires
@@ -36,8 +37,8 @@ arc-requires c =
 pub look-m-requires : goal.look-m-requires
 look-m-requires c =
     let f = c.requires.1 in
-    let i = f.inside c.loop-j.j (omega arith) (omega arith) in
-    (omega (arith, c.head-h.ensures), (λ q. omega (arith, c.arc.ensures, c.weight-w.ensures, f.few, c.requires.0)), c.loop-j.invariant.5)
+    let i = f.inside c.loop-j.j (omega (arith, f.after c.args.u (omega (arith, c.requires.0)))) (omega (arith, f.within c.args.u c.requires.0)) in
+    (omega (arith, c.head-h.ensures), (λ q. omega (arith, c.arc.ensures, c.weight-w.ensures, f.few, c.requires.0)), c.loop-j.invariant.2)
 
 pub loop-j-preserved : goal.loop-j-preserved
 loop-j-preserved c =
@@ -46,17 +47,14 @@ loop-j-preserved c =
     let arcAt = get_or g.index.now at.j 0 in
     let e = edge g.u (arc_head arcAt) (arc_weight arcAt) in
     let F = eligible g.p g.row.now g.v in
-    let i = c.requires.1.inside at.j (omega arith) (omega arith) in
+    let f = c.requires.1 in
+    let i = f.inside at.j (omega (arith, f.after g.u (omega (arith, c.requires.0)))) (omega (arith, f.within g.u c.requires.0)) in
     let z = eligible_word g.p g.v g.u c.head-h.result c.weight-w.result arcAt g.row.now _
     (omega (arith, c.requires.0, c.requires.2)) (omega (arith, c.requires.2)) c.head-h.ensures c.weight-w.ensures c.is_eligible-test.ensures in
     let q = c.look-m.ensures.via_after F e z (sym c.head-h.ensures) (ap (arc g.u) (sym c.weight-w.ensures) ∙ sym c.arc.ensures) in (
       fold_turn (look F) e (part_more _ _ _ _ _ _ c.loop-j-test.true) q at.invariant.0,
       omega arith,
-      omega arith,
-      at.invariant.3,
-      omega arith,
       c.look-m.ensures.searching,
-      c.look-m.auto.queue ∙ at.invariant.6,
     )
 
 pub returns : goal.returns
@@ -66,5 +64,5 @@ returns c =
       via_after = λ es o.
           fold_done (look F) (part_none _ _ _ _ _ _ c.loop-j-test.false) c.loop-j.invariant.0
           ∙ expand_own F es g.index.now _ g.u (o g.u c.requires.0);
-      searching = c.loop-j.invariant.5;
+      searching = c.loop-j.invariant.2;
     }

@@ -1,8 +1,8 @@
 -- `settled_check::first_spot` meets its contract: each loop's invariant says that what is left from here on gives the whole
 -- check. Assumes nothing.
-use Rattle.property.proofs.Basics.{◌+◌, ◌-◌, ◌≤◌, ◌≡◌, cond, List, ℕ, drop, eqb}
+use Rattle.property.proofs.Basics.{◌+◌, ◌-◌, ◌≡◌, cond, List, ℕ, drop, eqb}
 use Rattle.graph.specs.Edge.{edges, range}
-use Rattle.settled_check.specs.declared.Checked.TheVariants as checked
+use Rattle.std.specs.Prelude.{None}
 use Rattle.network.specs.Network.{row, row_count, property_of}
 use Rattle.network.specs.Settled.{Check, check, in_records, in_rows}
 use Rattle.calls.specs.Code.{network}
@@ -24,26 +24,14 @@ from_record n ls ts hs ws m f b side r j =
 abbrev pub invariant-loop-j : goal.invariant-loop-j
 invariant-loop-j l =
     (from_record l.n l.landmarks l.tails l.heads l.weights l.count l.forward l.backward l.side l.r l.j ≡ check l.n l.landmarks (network l.tails l.heads l.weights l.forward l.backward l.count))
-    × (l.j ≤ l.count) × (l.found ≡ checked.Settled)
-
-abbrev pub decreases-loop-j : goal.decreases-loop-j
-decreases-loop-j l =
-    l.count - l.j
+    × (l.found ≡ None)
 
 abbrev pub invariant-loop-r : goal.invariant-loop-r
 invariant-loop-r l =
     (from_row l.n l.landmarks l.tails l.heads l.weights l.count l.forward l.backward l.side l.r ≡ check l.n l.landmarks (network l.tails l.heads l.weights l.forward l.backward l.count))
-    × (l.r ≤ row_count l.landmarks) × (l.found ≡ checked.Settled)
-
-abbrev pub decreases-loop-r : goal.decreases-loop-r
-decreases-loop-r l =
-    row_count l.landmarks - l.r
+    × (l.found ≡ None)
 
 abbrev pub invariant-sides : goal.invariant-sides
 invariant-sides l =
     (in_sides l.n (row_count l.landmarks) (edges l.tails l.heads l.weights l.count) l.forward l.backward l.side (2 - l.side) ≡ check l.n l.landmarks (network l.tails l.heads l.weights l.forward l.backward l.count))
-    × (l.side ≤ 2) × (l.found ≡ checked.Settled)
-
-abbrev pub decreases-sides : goal.decreases-sides
-decreases-sides l =
-    2 - l.side
+    × (l.found ≡ None)

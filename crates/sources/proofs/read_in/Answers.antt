@@ -1,65 +1,43 @@
 -- `sources::read_in` meets its contract. Assumes nothing.
-use Rattle.property.proofs.Basics.{arith, ◌≡◌, sym, ap, subst, ◌∙◌, ◌≤◌, length, length-take-le, lt-ltb, le-ltb}
-use Rattle.graph.specs.Refusal.{accept, ◌▷◌, refuse_if, replied, choose}
-use Rattle.dimacs.specs.Call.{judged, sources_read, sources_call}
-use Rattle.graph.specs.Table.{size}
-use Rattle.graph.specs.Code.{told}
-use Rattle.graph.proofs.Judging.{size_accept}
-use Rattle.dimacs.specs.Sources.{max_sources}
+use Rattle.property.proofs.Basics.{arith, ◌≤◌, ◌∙◌, length, length-take-le, lt-ltb, le-ltb}
+use Rattle.graph.specs.Refusal.{◌▷◌, refuse_if, replied, choose}
+use Rattle.graph.specs.Code.{told, reply_of}
+use Rattle.graph.proofs.Judging.{size_accept, passed_on, fine_accept}
 use Rattle.graph.proofs.Copies.{paste_front}
-use Rattle.sources.specs.Code.{Whole, read_of, reading}
-use Rattle.scanner.proofs.Steps.{known}
+use Rattle.dimacs.specs.Call.{judged, sources_read, sources_call}
+use Rattle.dimacs.specs.Sources.{max_sources}
+use Rattle.sources.specs.Code.{read_of}
 use Rattle.sources.proofs.read_in.Goals as goal
 
-pub returns-in-Refused : goal.returns-in-Refused
-returns-in-Refused c =
-    unfold told sources_call reading ◌▷◌ replied choose in rw (← (ap told (sym c.in-Refused.is) ∙ c.judge_size-size.ensures))
+pub returns-in_err-judge_size : goal.returns-in_err-judge_size
+unfolding told sources_call reply_of ◌▷◌ replied choose
+returns-in_err-judge_size c =
+    rw (passed_on _ c.from_residual.ensures.1, ← c.in_err-judge_size.ensures)
 
 pub returns-then-sources-lt-MAX_SOURCES : goal.returns-then-sources-lt-MAX_SOURCES
-unfolding told sources_call reading ◌▷◌ refuse_if replied choose
+unfolding told sources_call reply_of ◌▷◌ refuse_if replied choose
 returns-then-sources-lt-MAX_SOURCES c =
-    let fine : accept ≡ size c.args.n = rw c.in_default.is at c.judge_size-size.ensures in
-    rw (← fine, lt-ltb (length c.args.sources.now) max_sources (omega arith))
+    rw (← c.in_ok-judge_size.ensures, lt-ltb (length c.args.sources.now) max_sources (omega arith))
 
 pub read_text-requires : goal.read_text-requires
-unfolding told
 read_text-requires c =
-    let fine : accept ≡ size c.args.n = rw c.in_default.is at c.judge_size-size.ensures in
-    ((size_accept _ (sym fine)).1, c.requires)
+    ((size_accept _ (fine_accept _ c.in_ok-judge_size.ensures)).1, c.requires)
+
+pub returns-in_err-count : goal.returns-in_err-count
+unfolding told read_of sources_call reply_of ◌▷◌ refuse_if replied choose judged
+returns-in_err-count c =
+    let e = c.in_err-count.ensures in
+    rw (passed_on _ c.from_residual-in_err-count.ensures.1, ← c.in_ok-judge_size.ensures, le-ltb _ max_sources c.if-sources-lt-MAX_SOURCES.false, ← e.result_after, e.whole)
 
 pub copy-requires : goal.copy-requires
 copy-requires c =
-    let count : (c.in-Good.count ≤ max_sources) × (max_sources ≤ length c.read_text.new.list) = subst (λ r. Whole r c.read_text.new.list) c.in-Good.is c.read_text.ensures.whole in
-    let w = count in let l = c.if-sources-lt-MAX_SOURCES.false in (omega arith, omega arith)
+    let w = c.in_ok-count.ensures.whole in
+    let l = c.if-sources-lt-MAX_SOURCES.false in
+    (omega arith, omega arith)
 
-pub overflow_cast-result : goal.overflow_cast-result
-overflow_cast-result c =
-    let count : (c.in-Good.count ≤ max_sources) × (max_sources ≤ length c.read_text.new.list) = subst (λ r. Whole r c.read_text.new.list) c.in-Good.is c.read_text.ensures.whole in
-    omega (arith, count)
-
-pub shape_of-list-in-Bad : goal.shape_of-list-in-Bad
-shape_of-list-in-Bad c =
-    omega arith
-
-pub returns-in-Bad : goal.returns-in-Bad
-unfolding read_of sources_call reading ◌▷◌ refuse_if replied choose judged told
-returns-in-Bad c =
-    let fine : accept ≡ size c.args.n = rw c.in_default.is at c.judge_size-size.ensures in
-    rw (← fine, le-ltb _ max_sources c.if-sources-lt-MAX_SOURCES.false, ← known (read_of _) c.in-Bad.is c.read_text.ensures.result_after)
-
-pub shape_of-sources : goal.shape_of-sources
-shape_of-sources c =
-    omega arith
-
-pub shape_of-list-in-Good : goal.shape_of-list-in-Good
-shape_of-list-in-Good c =
-    omega arith
-
-pub returns-in-Good : goal.returns-in-Good
-unfolding read_of sources_call reading ◌▷◌ refuse_if replied choose judged sources_read told
-returns-in-Good c =
-    let fine : accept ≡ size c.args.n = rw c.in_default.is at c.judge_size-size.ensures in
-    let count : (c.in-Good.count ≤ max_sources) × (max_sources ≤ length c.read_text.new.list) = subst (λ r. Whole r c.read_text.new.list) c.in-Good.is c.read_text.ensures.whole in
-    let w = count in
-    let fits : c.in-Good.count ≤ length c.read_text.new.list = omega arith in
-    rw (← fine, le-ltb _ max_sources c.if-sources-lt-MAX_SOURCES.false, ← known (read_of _) c.in-Good.is c.read_text.ensures.result_after, c.copy.ensures ∙ paste_front _ _ _ fits, length-take-le _ _ fits)
+pub returns : goal.returns
+unfolding told read_of sources_call reply_of ◌▷◌ refuse_if replied choose judged sources_read
+returns c =
+    let w = c.in_ok-count.ensures.whole in
+    let fits : c.in_ok-count.count ≤ length c.read_text.new.list = omega arith in
+    rw (← c.in_ok-judge_size.ensures, le-ltb _ max_sources c.if-sources-lt-MAX_SOURCES.false, ← c.in_ok-count.ensures.result_after, c.copy.ensures ∙ paste_front _ _ _ fits, length-take-le _ _ fits)

@@ -1,5 +1,5 @@
 -- `sources::take_line` meets its contract. Assumes nothing.
-use Rattle.property.proofs.Basics.{arith, true, false}
+use Rattle.property.proofs.Basics.{true, false}
 use Rattle.dimacs.specs.Sources.{item_in, complete}
 use Rattle.sources.specs.Code.{step_of}
 use Rattle.scanner.proofs.Steps.{step_comment, step_item}
@@ -14,10 +14,6 @@ returns-then-is_comment c =
 pub returns-then-holds : goal.returns-then-holds
 returns-then-holds c =
     unfold step_of in record { result_after = step_comment item_in _ complete _ _ false c.holds.ensures c.is_comment.ensures c.if-holds.true c.if-is_comment.false; keeps = tt }
-
-pub shape_of-list : goal.shape_of-list
-shape_of-list c =
-    omega arith
 
 pub returns : goal.returns
 returns c =

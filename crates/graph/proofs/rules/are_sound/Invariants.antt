@@ -9,7 +9,3 @@ use Rattle.graph.proofs.rules.are_sound.Given as goal
 abbrev pub invariant-loop-k : goal.invariant-loop-k
 invariant-loop-k l =
     (Sofar l.n l.tails l.heads l.weights l.count l.tall l.wide l.all l.last l.k) × (1 ≤ l.k) × (l.k ≤ l.count)
-
-abbrev pub decreases-loop-k : goal.decreases-loop-k
-decreases-loop-k l =
-    l.count - l.k

@@ -1,37 +1,28 @@
 -- `graph::rules::judge_bare` meets its contract: one refusal after the other. Assumes nothing.
-use Rattle.property.proofs.Basics.{◌≡◌, refl}
-use Rattle.graph.specs.declared.Judged.{Judged}
-use Rattle.graph.specs.Refusal.{Verdict, ◌▷◌}
-use Rattle.graph.specs.Table.{size, short_table}
-use Rattle.graph.specs.Code.{told, columns}
-use Rattle.graph.proofs.Judging.{lengths_accept, then_refused, then_judged, fine_accept}
+use Rattle.property.proofs.Basics.{ap, sym}
+use Rattle.graph.specs.Code.{told}
+use Rattle.graph.proofs.Judging.{lengths_accept, passed_on, then_refused, then_judged, fine_accept}
 use Rattle.graph.proofs.rules.judge_bare.Goals as goal
 
-pub returns-in_default : goal.returns-in_default
-returns-in_default c =
-    then_refused _ _ _ _ _ c.judge_size-size.ensures c.in_default.is
+pub returns-in_err-judge_size : goal.returns-in_err-judge_size
+returns-in_err-judge_size c =
+    rw (passed_on _ c.from_residual.ensures.1) (then_refused _ _ _ c.in_err-judge_size.ensures)
 
-pub returns-in_default-lengths : goal.returns-in_default-lengths
-returns-in_default-lengths c =
-    let sized : (r : Judged) (w : Verdict) → told r ≡ w → told r ≡ (size c.args.n ▷ w) = λ r w e. then_judged _ r _ w c.judge_size-size.ensures c.in-Fine.is e in
-    sized _ _ (then_refused _ _ _ _ _ c.judge_lengths-lengths.ensures c.in_default-lengths.is)
+pub returns-in_err-judge_lengths : goal.returns-in_err-judge_lengths
+returns-in_err-judge_lengths c =
+    rw (passed_on _ c.from_residual-in_err-judge_lengths.ensures.1)
+    (then_judged _ _ _ c.in_ok-judge_size.ensures (then_refused _ _ _ c.in_err-judge_lengths.ensures))
 
-pub returns-in_default-between : goal.returns-in_default-between
-returns-in_default-between c =
-    let sized : (r : Judged) (w : Verdict) → told r ≡ w → told r ≡ (size c.args.n ▷ w) = λ r w e. then_judged _ r _ w c.judge_size-size.ensures c.in-Fine.is e in
-    let lengthy : (r : Judged) (w : Verdict) → told r ≡ w →
-    let a = c.args in
-    told r ≡ (size a.n ▷ short_table (columns a.tails.now a.heads.now a.weights.now) ▷ w) = λ r w e. sized r _ (then_judged _ r _ w c.judge_lengths-lengths.ensures c.in-Fine-lengths.is e) in
-    lengthy _ _ (then_refused _ _ _ _ _ refl c.in_default-between.is)
+pub returns-in_err-between : goal.returns-in_err-between
+returns-in_err-between c =
+    rw (passed_on _ c.from_residual-in_err-between.ensures.1)
+    (then_judged _ _ _ c.in_ok-judge_size.ensures (then_judged _ _ _ c.in_ok-judge_lengths.ensures (then_refused _ _ _ (ap told (sym c.in_err-between.was)))))
 
 pub judge_table-requires : goal.judge_table-requires
 judge_table-requires c =
-    lengths_accept _ _ _ (fine_accept _ _ c.judge_lengths-lengths.ensures c.in-Fine-lengths.is)
+    lengths_accept _ _ _ (fine_accept _ c.in_ok-judge_lengths.ensures)
 
 pub returns : goal.returns
 returns c =
-    let sized : (r : Judged) (w : Verdict) → told r ≡ w → told r ≡ (size c.args.n ▷ w) = λ r w e. then_judged _ r _ w c.judge_size-size.ensures c.in-Fine.is e in
-    let lengthy : (r : Judged) (w : Verdict) → told r ≡ w →
-    let a = c.args in
-    told r ≡ (size a.n ▷ short_table (columns a.tails.now a.heads.now a.weights.now) ▷ w) = λ r w e. sized r _ (then_judged _ r _ w c.judge_lengths-lengths.ensures c.in-Fine-lengths.is e) in
-    lengthy _ _ (then_judged _ _ _ _ refl c.in-Fine-between.is c.judge_table.ensures)
+    then_judged _ _ _ c.in_ok-judge_size.ensures
+    (then_judged _ _ _ c.in_ok-judge_lengths.ensures (then_judged _ _ _ (ap told (sym c.in_ok-between.was)) c.judge_table.ensures))

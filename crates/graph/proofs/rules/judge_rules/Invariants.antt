@@ -8,7 +8,3 @@ use Rattle.graph.proofs.rules.judge_rules.Given as goal
 abbrev pub invariant-loop-k : goal.invariant-loop-k
 invariant-loop-k l =
     (follow l.n l.k (edge_at l.tails l.heads l.weights (l.k - 1)) (drop l.k (edges l.tails l.heads l.weights l.count)) ≡ rules l.n (edges l.tails l.heads l.weights l.count)) × (1 ≤ l.k) × (l.k ≤ l.count)
-
-abbrev pub decreases-loop-k : goal.decreases-loop-k
-decreases-loop-k l =
-    l.count - l.k

@@ -21,6 +21,6 @@ loop-i-preserved c =
 pub returns : goal.returns
 returns c =
     let a = c.args in
-    let m = c.lesser-most.ensures in
-    let e : c.loop-i.i ≡ c.lesser-most.result = omega arith in
+    let m = c.min-most.ensures in
+    let e : c.loop-i.i ≡ c.min-most.result = omega arith in
     filled_laid (from_on a.changes.now a.from) a.lists.now c.requires.1 _ a.size _ (part_length a.changes.now a.from a.size c.requires.0) m (part_at a.changes.now a.from a.size c.requires.0) (rw e at c.loop-i.invariant.0)

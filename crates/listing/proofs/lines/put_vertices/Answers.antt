@@ -11,27 +11,25 @@ loop-t-init c =
     let a = c.args in
     let z : a.n - 0 ≡ a.n = omega arith in
     let m = lines_most a.source a.n a.rows.now (omega arith) (λ i. omega (arith, c.type_inv.rows i)) a.n 0 (omega arith) in
-    (rw z (pending_start (record { room = omega (arith, m) })), omega arith)
+    rw z (pending_start (record { room = omega (arith, m) }))
 
 pub put_vertex-end-requires : goal.put_vertex-end-requires
 put_vertex-end-requires c =
     let a = c.args in
-    let t = c.loop-t.t in record { rows = (c.requires.0, omega arith); fits = pending_fits c.loop-t.invariant.0 (rows_line a.source t a.n a.rows.now) (rows_lines a.source a.n a.rows.now (range (t + 1) (a.n - (t + 1)))) (lines_more a.source a.n a.rows.now t a.n (omega arith)) }
+    let t = c.loop-t.t in record { rows = (c.requires.0, omega arith); fits = pending_fits c.loop-t.invariant (rows_line a.source t a.n a.rows.now) (rows_lines a.source a.n a.rows.now (range (t + 1) (a.n - (t + 1)))) (lines_more a.source a.n a.rows.now t a.n (omega arith)) }
 
 pub loop-t-preserved : goal.loop-t-preserved
 loop-t-preserved c =
     let a = c.args in
-    let t = c.loop-t.t in (
-      pending_turn c.loop-t.invariant.0 (rows_line a.source t a.n a.rows.now) (rows_lines a.source a.n a.rows.now (range (t + 1) (a.n - (t + 1)))) (lines_more a.source a.n a.rows.now t a.n (omega arith))
-          c.put_vertex-end.ensures,
-      omega arith,
-    )
+    let t = c.loop-t.t in
+    pending_turn c.loop-t.invariant (rows_line a.source t a.n a.rows.now) (rows_lines a.source a.n a.rows.now (range (t + 1) (a.n - (t + 1)))) (lines_more a.source a.n a.rows.now t a.n (omega arith))
+    c.put_vertex-end.ensures
 
 pub shape_of-out : goal.shape_of-out
 shape_of-out c =
-    c.loop-t.invariant.0.same
+    c.loop-t.invariant.same
 
 pub returns : goal.returns
 returns c =
     let a = c.args in
-    let p = c.loop-t.invariant.0 in record { wrote = pending_done p (lines_done a.source a.n a.rows.now c.loop-t.t a.n (omega arith)); upper_bound = omega (arith, p.fits.room) }
+    let p = c.loop-t.invariant in record { wrote = pending_done p (lines_done a.source a.n a.rows.now c.loop-t.t a.n (omega arith)); upper_bound = omega (arith, p.fits.room) }

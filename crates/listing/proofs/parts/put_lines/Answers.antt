@@ -40,7 +40,7 @@ pub returns : goal.returns
 returns c =
     record {
       by_index = λ gr ss h e.
-          rw (parts_lines h e c.requires.1.bounded.sources c.args.i c.requires.0)
-          (c.put_source.ensures.wrote (edges_read (read_network gr)) (h.running e).ready.landmarks);
+          rw (parts_lines h c.requires.1.bounded.sources c.args.i c.requires.0)
+          (c.put_source.ensures.wrote (edges_read (read_network gr)) h.1.ready.landmarks);
       upper_bound = c.put_source.ensures.upper_bound;
     }

@@ -20,44 +20,36 @@ pub loop-i-init : goal.loop-i-init
 loop-i-init c =
     let few : let a = c.args in (a.k < length a.via.now) × (length a.via.now ≤ max_vertices) = let (s, ps, h, e) = c.requires.0 in (omega (arith, h.short), h.few) in
     let a = c.args in
-    let z = few in (
-      (λ s ps h e.
-          let m = length_visited s ps in
-          let n = length_weights ps in
-          let q : At s ps a.k a.t = rw e (at_last h) in (
-            q,
-            over_back_turn (visited s ps) a.vertices.now (suc a.k) a.k a.t refl (omega arith) (omega arith) q.vertex
-                (over_back_start (visited s ps) a.vertices.now (suc a.k) (omega arith)) ∙ sym (over_set (visited s ps) a.vertices.now a.k a.t (omega arith)),
-            over_back_start (weights_of ps) a.figures.now a.k (omega arith),
-          )),
-      omega arith,
-      refl,
-      refl,
+    let z = few in
+    λ s ps h e.
+    let m = length_visited s ps in
+    let n = length_weights ps in
+    let q : At s ps a.k a.t = rw e (at_last h) in (
+      q,
+      over_back_turn (visited s ps) a.vertices.now (suc a.k) a.k a.t refl (omega arith) (omega arith) q.vertex
+          (over_back_start (visited s ps) a.vertices.now (suc a.k) (omega arith)) ∙ sym (over_set (visited s ps) a.vertices.now a.k a.t (omega arith)),
+      over_back_start (weights_of ps) a.figures.now a.k (omega arith),
     )
 
 pub overflow_cast-a : goal.overflow_cast-a
 overflow_cast-a c =
-    let near : c.loop-i.u < length c.args.via.now = let (s, ps, h, e) = c.requires.0 in at_inside h (c.loop-i.invariant.0 s ps h e).0 in
+    let near : c.loop-i.u < length c.args.via.now = let (s, ps, h, e) = c.requires.0 in at_inside h (c.loop-i.invariant s ps h e).0 in
     omega (arith, near)
 
 pub offset_bounds-via-u : goal.offset_bounds-via-u
 offset_bounds-via-u c =
-    let near : c.loop-i.u < length c.args.via.now = let (s, ps, h, e) = c.requires.0 in at_inside h (c.loop-i.invariant.0 s ps h e).0 in
+    let near : c.loop-i.u < length c.args.via.now = let (s, ps, h, e) = c.requires.0 in at_inside h (c.loop-i.invariant s ps h e).0 in
     omega (arith, near)
 
 pub bounds-via-u : goal.bounds-via-u
 bounds-via-u c =
-    let near : c.loop-i.u < length c.args.via.now = let (s, ps, h, e) = c.requires.0 in at_inside h (c.loop-i.invariant.0 s ps h e).0 in
+    let near : c.loop-i.u < length c.args.via.now = let (s, ps, h, e) = c.requires.0 in at_inside h (c.loop-i.invariant s ps h e).0 in
     near
-
-pub head-u-requires : goal.head-u-requires
-head-u-requires c =
-    tt
 
 pub offset_bounds-vertices-i : goal.offset_bounds-vertices-i
 offset_bounds-vertices-i c =
     let few : let a = c.args in (a.k < length a.via.now) × (length a.via.now ≤ max_vertices) = let (s, ps, h, e) = c.requires.0 in (omega (arith, h.short), h.few) in
-    let kept : length c.loop-i.vertices ≡ length c.args.vertices.now = let a = c.args in c.loop-i.invariant.2 ∙ length-set a.vertices.now a.k a.t in
+    let kept : length c.loop-i.vertices ≡ length c.args.vertices.now = let a = c.args in c.loop-i.auto.vertices ∙ length-set a.vertices.now a.k a.t in
     let room : (c.loop-i.i < length c.loop-i.vertices) × (c.loop-i.i < length c.loop-i.figures) = let z = few in
     let e = kept in
     (omega arith, omega arith) in
@@ -66,20 +58,16 @@ offset_bounds-vertices-i c =
 pub bounds-vertices-i : goal.bounds-vertices-i
 bounds-vertices-i c =
     let few : let a = c.args in (a.k < length a.via.now) × (length a.via.now ≤ max_vertices) = let (s, ps, h, e) = c.requires.0 in (omega (arith, h.short), h.few) in
-    let kept : length c.loop-i.vertices ≡ length c.args.vertices.now = let a = c.args in c.loop-i.invariant.2 ∙ length-set a.vertices.now a.k a.t in
+    let kept : length c.loop-i.vertices ≡ length c.args.vertices.now = let a = c.args in c.loop-i.auto.vertices ∙ length-set a.vertices.now a.k a.t in
     let room : (c.loop-i.i < length c.loop-i.vertices) × (c.loop-i.i < length c.loop-i.figures) = let z = few in
     let e = kept in
     (omega arith, omega arith) in
     let z = room in search needs
 
-pub weight-requires : goal.weight-requires
-weight-requires c =
-    tt
-
 pub offset_bounds-figures-i : goal.offset_bounds-figures-i
 offset_bounds-figures-i c =
     let few : let a = c.args in (a.k < length a.via.now) × (length a.via.now ≤ max_vertices) = let (s, ps, h, e) = c.requires.0 in (omega (arith, h.short), h.few) in
-    let kept : length c.loop-i.vertices ≡ length c.args.vertices.now = let a = c.args in c.loop-i.invariant.2 ∙ length-set a.vertices.now a.k a.t in
+    let kept : length c.loop-i.vertices ≡ length c.args.vertices.now = let a = c.args in c.loop-i.auto.vertices ∙ length-set a.vertices.now a.k a.t in
     let room : (c.loop-i.i < length c.loop-i.vertices) × (c.loop-i.i < length c.loop-i.figures) = let z = few in
     let e = kept in
     (omega arith, omega arith) in
@@ -88,7 +76,7 @@ offset_bounds-figures-i c =
 pub bounds-figures-i : goal.bounds-figures-i
 bounds-figures-i c =
     let few : let a = c.args in (a.k < length a.via.now) × (length a.via.now ≤ max_vertices) = let (s, ps, h, e) = c.requires.0 in (omega (arith, h.short), h.few) in
-    let kept : length c.loop-i.vertices ≡ length c.args.vertices.now = let a = c.args in c.loop-i.invariant.2 ∙ length-set a.vertices.now a.k a.t in
+    let kept : length c.loop-i.vertices ≡ length c.args.vertices.now = let a = c.args in c.loop-i.auto.vertices ∙ length-set a.vertices.now a.k a.t in
     let room : (c.loop-i.i < length c.loop-i.vertices) × (c.loop-i.i < length c.loop-i.figures) = let z = few in
     let e = kept in
     (omega arith, omega arith) in
@@ -97,29 +85,25 @@ bounds-figures-i c =
 pub loop-i-preserved : goal.loop-i-preserved
 loop-i-preserved c =
     let few : let a = c.args in (a.k < length a.via.now) × (length a.via.now ≤ max_vertices) = let (s, ps, h, e) = c.requires.0 in (omega (arith, h.short), h.few) in
-    let kept : length c.loop-i.vertices ≡ length c.args.vertices.now = let a = c.args in c.loop-i.invariant.2 ∙ length-set a.vertices.now a.k a.t in
+    let kept : length c.loop-i.vertices ≡ length c.args.vertices.now = let a = c.args in c.loop-i.auto.vertices ∙ length-set a.vertices.now a.k a.t in
     let room : (c.loop-i.i < length c.loop-i.vertices) × (c.loop-i.i < length c.loop-i.figures) = let z = few in
     let e = kept in
     (omega arith, omega arith) in
     let v = c.loop-i.invariant in
     let i = c.loop-i.i in
-    let z = room in (
-      (λ s ps h e.
-          let r = v.0 s ps h e in
-          let b = r.0.inside in
-          let w : At s ps (i - 1) c.head-u.result = rw c.head-u.ensures (at_back h r.0 (i - 1) (omega arith)) in (
-            w,
-            over_back_turn (visited s ps) c.loop-i.vertices i (i - 1) _ (omega arith) (omega (arith, length_visited s ps)) (omega arith) w.vertex r.1,
-            over_back_turn (weights_of ps) c.loop-i.figures i (i - 1) _ (omega arith) (omega (arith, length_weights ps)) (omega arith) (c.weight.ensures ∙ at_weight h r.0 (i - 1) (omega arith)) r.2,
-          )),
-      omega arith,
-      length-set c.loop-i.vertices (i - 1) c.head-u.result ∙ v.2,
-      simp length-set v.3,
+    let z = room in
+    λ s ps h e.
+    let r = v s ps h e in
+    let b = r.0.inside in
+    let w : At s ps (i - 1) c.head-u.result = rw c.head-u.ensures (at_back h r.0 (i - 1) (omega arith)) in (
+      w,
+      over_back_turn (visited s ps) c.loop-i.vertices i (i - 1) _ (omega arith) (omega (arith, length_visited s ps)) (omega arith) w.vertex r.1,
+      over_back_turn (weights_of ps) c.loop-i.figures i (i - 1) _ (omega arith) (omega (arith, length_weights ps)) (omega arith) (c.weight.ensures ∙ at_weight h r.0 (i - 1) (omega arith)) r.2,
     )
 
 pub shape_of-vertices : goal.shape_of-vertices
 shape_of-vertices c =
-    let kept : length c.loop-i.vertices ≡ length c.args.vertices.now = let a = c.args in c.loop-i.invariant.2 ∙ length-set a.vertices.now a.k a.t in
+    let kept : length c.loop-i.vertices ≡ length c.args.vertices.now = let a = c.args in c.loop-i.auto.vertices ∙ length-set a.vertices.now a.k a.t in
     kept
 
 pub returns : goal.returns
@@ -127,7 +111,7 @@ returns c =
     let v = c.loop-i.invariant in
     let a = c.args in
     λ s ps h e.
-    let r = v.0 s ps h e in (
+    let r = v s ps h e in (
       over_back_done (visited s ps) c.loop-i.vertices c.loop-i.i (omega arith) r.1 ∙ over_set (visited s ps) a.vertices.now a.k a.t (omega (arith, length_visited s ps)),
       over_back_done (weights_of ps) c.loop-i.figures c.loop-i.i (omega arith) r.2,
     )

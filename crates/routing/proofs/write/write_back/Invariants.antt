@@ -1,5 +1,5 @@
 -- `routing::write::write_back` meets its contract: what is still to be written, over the lists as they are, comes to the same. Assumes nothing.
-use Rattle.property.proofs.Basics.{◌≡◌, List, ℕ, ◌≤◌, length, take}
+use Rattle.property.proofs.Basics.{◌≡◌, List, ℕ, length, take}
 use Rattle.graph.specs.Refusal.{over}
 use Rattle.graph.specs.Edge.{Edge}
 use Rattle.graph.specs.Leads.{visited, weights_of}
@@ -12,8 +12,3 @@ invariant-loop-i l =
     ((s : ℕ) (ps : List Edge) → Trace s l.t l.via ps → l.k ≡ length ps
     → At s ps l.i l.u × (over (take l.i (visited s ps)) l.vertices ≡ over (visited s ps) l.initial.vertices)
     × (over (take l.i (weights_of ps)) l.figures ≡ over (weights_of ps) l.initial.figures))
-    × (l.i ≤ l.k) × (length l.vertices ≡ length l.initial.vertices) × (length l.figures ≡ length l.initial.figures)
-
-abbrev pub decreases-loop-i : goal.decreases-loop-i
-decreases-loop-i l =
-    l.i

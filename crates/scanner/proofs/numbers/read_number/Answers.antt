@@ -27,8 +27,8 @@ pub overflow_sub-b : goal.overflow_sub-b
 overflow_sub-b c =
     omega (arith, is_digit_lem _ (sym c.is_digit.ensures ∙ c.if-not-is_digit.false))
 
-pub scan-r-requires : goal.scan-r-requires
-scan-r-requires c =
+pub scan-requires : goal.scan-requires
+scan-requires c =
     omega (arith, is_digit_lem _ (sym c.is_digit.ensures ∙ c.if-not-is_digit.false))
 
 pub returns : goal.returns
@@ -36,6 +36,6 @@ unfolding cap_number cap_scan number
 returns c =
     let a = c.args in (
       rw (drop-cons a.s.now a.at 0 (omega arith), ne_eqb _ 48 c.if-b-eq48.false, sym c.is_digit.ensures ∙ c.if-not-is_digit.false)
-          (ap (λ (q : ℕ × List ℕ). some q) (rw add-one at c.scan-r.ensures.0)),
-      c.scan-r.ensures.1,
+          (ap (λ (q : ℕ × List ℕ). some q) (rw add-one at c.scan.ensures.0)),
+      c.scan.ensures.1,
     )

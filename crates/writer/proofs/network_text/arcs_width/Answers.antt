@@ -5,19 +5,7 @@ use Rattle.writer.proofs.network_text.arcs_width.Goals as goal
 
 pub loop-k-init : goal.loop-k-init
 loop-k-init c =
-    (omega arith, omega arith, omega arith)
-
-pub bounds-tails-k : goal.bounds-tails-k
-bounds-tails-k c =
-    omega arith
-
-pub bounds-heads-k : goal.bounds-heads-k
-bounds-heads-k c =
-    omega arith
-
-pub bounds-weights-k : goal.bounds-weights-k
-bounds-weights-k c =
-    omega arith
+    (omega arith, omega arith)
 
 pub overflow_add-sum : goal.overflow_add-sum
 overflow_add-sum c =
@@ -25,7 +13,7 @@ overflow_add-sum c =
 
 pub loop-k-preserved : goal.loop-k-preserved
 loop-k-preserved c =
-    (arcs_sum c.requires.1 c.loop-k.k c.loop-k.sum _ _ (omega arith) c.arc_width-sum.ensures.value c.loop-k.invariant.0, omega (arith, c.arc_width-sum.ensures.upper_bound), omega arith)
+    (arcs_sum c.requires.1 c.loop-k.k c.loop-k.sum _ _ (omega arith) c.arc_width-sum.ensures.value c.loop-k.invariant.0, omega (arith, c.arc_width-sum.ensures.upper_bound))
 
 pub returns : goal.returns
 returns c =

@@ -6,20 +6,20 @@ use Rattle.writer.proofs.network_text.put_arcs.Goals as goal
 
 pub loop-k-init : goal.loop-k-init
 loop-k-init c =
-    (pending_start c.requires.fits, omega arith)
+    pending_start c.requires.fits
 
 pub put_arc-end-requires : goal.put_arc-end-requires
 put_arc-end-requires c =
-    pending_fits c.loop-k.invariant.0 _ _ (arcs_more c.requires.room c.loop-k.k (omega arith))
+    pending_fits c.loop-k.invariant _ _ (arcs_more c.requires.room c.loop-k.k (omega arith))
 
 pub loop-k-preserved : goal.loop-k-preserved
 loop-k-preserved c =
-    (pending_turn c.loop-k.invariant.0 _ _ (arcs_more c.requires.room c.loop-k.k (omega arith)) c.put_arc-end.ensures, omega arith)
+    pending_turn c.loop-k.invariant _ _ (arcs_more c.requires.room c.loop-k.k (omega arith)) c.put_arc-end.ensures
 
 pub shape_of-out : goal.shape_of-out
 shape_of-out c =
-    c.loop-k.invariant.0.same
+    c.loop-k.invariant.same
 
 pub returns : goal.returns
 returns c =
-    pending_done c.loop-k.invariant.0 (arcs_none c.requires.room c.loop-k.k (omega arith))
+    pending_done c.loop-k.invariant (arcs_none c.requires.room c.loop-k.k (omega arith))

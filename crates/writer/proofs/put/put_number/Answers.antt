@@ -5,10 +5,6 @@ use Rattle.writer.proofs.Digits.{digits_pad}
 use Rattle.writer.proofs.Laid.{laid_sets, pad_turn, pad_done}
 use Rattle.writer.proofs.put.put_number.Goals as goal
 
-pub width-requires : goal.width-requires
-width-requires c =
-    tt
-
 pub overflow_add-end : goal.overflow_add-end
 overflow_add-end c =
     omega (arith, c.width.ensures)
@@ -19,51 +15,25 @@ loop-i-init c =
     let e : a.at + c.width.result - a.at ≡ length (digits a.v) = omega (arith, c.width.ensures) in (
       rw (e, ← digits_pad a.v),
       omega arith,
-      omega arith,
       refl,
       omega (arith, c.width.ensures),
     )
-
-pub overflow_sub-i : goal.overflow_sub-i
-overflow_sub-i c =
-    omega arith
-
-pub overflow_cast-out : goal.overflow_cast-out
-overflow_cast-out c =
-    omega arith
-
-pub overflow_add-out : goal.overflow_add-out
-overflow_add-out c =
-    omega arith
-
-pub bounds-out-i : goal.bounds-out-i
-bounds-out-i c =
-    omega arith
-
-pub loop-i-smaller : goal.loop-i-smaller
-loop-i-smaller c =
-    omega arith
 
 pub loop-i-preserved : goal.loop-i-preserved
 loop-i-preserved c =
     let a = c.args in (
       pad_turn c.loop-i.out a.at c.loop-i.i c.loop-i.w (omega arith) ∙ c.loop-i.invariant.0,
       omega arith,
-      omega arith,
-      simp length-set c.loop-i.invariant.3,
-      c.loop-i.invariant.4,
+      simp length-set c.loop-i.invariant.2,
+      c.loop-i.invariant.3,
     )
-
-pub shape_of-out : goal.shape_of-out
-shape_of-out c =
-    omega arith
 
 pub returns : goal.returns
 returns c =
     let a = c.args in
     let e : c.loop-i.i - a.at ≡ 0 = omega arith in
     record {
-      next = c.loop-i.invariant.4;
+      next = c.loop-i.invariant.3;
       bytes =
           pad_done c.loop-i.out a.at (c.loop-i.i - a.at) c.loop-i.w (sets a.out.now a.at (digits a.v)) e c.loop-i.invariant.0
           ∙ sym (laid_sets a.at (digits a.v) a.out.now c.requires.room);

@@ -6,8 +6,4 @@ use Rattle.writer.proofs.put.put_number.Given as goal
 
 abbrev pub invariant-loop-i : goal.invariant-loop-i
 invariant-loop-i l =
-    (sets l.out l.at (pad (l.i - l.at) l.w) ≡ sets l.initial.out l.at (digits l.v)) × (l.at ≤ l.i) × (l.i ≤ l.end) × (length l.out ≡ length l.initial.out) × (l.end ≡ l.at + length (digits l.v))
-
-abbrev pub decreases-loop-i : goal.decreases-loop-i
-decreases-loop-i l =
-    l.i
+    (sets l.out l.at (pad (l.i - l.at) l.w) ≡ sets l.initial.out l.at (digits l.v)) × (l.at ≤ l.i) × (length l.out ≡ length l.initial.out) × (l.end ≡ l.at + length (digits l.v))

@@ -7,14 +7,6 @@ pub loop-w-init : goal.loop-w-init
 loop-w-init c =
     (refl, omega arith)
 
-pub overflow_add-n : goal.overflow_add-n
-overflow_add-n c =
-    omega arith
-
-pub loop-w-smaller : goal.loop-w-smaller
-loop-w-smaller c =
-    omega arith
-
 pub loop-w-preserved : goal.loop-w-preserved
 loop-w-preserved c =
     let b : 10 ≤ c.loop-w.w = omega arith in (omega (arith, width_big c.loop-w.w b), omega arith)

@@ -1,0 +1,8 @@
+-- `frontier::contains` meets its contract. Assumes nothing.
+use Rattle.property.proofs.Basics.{arith}
+use Rattle.frontier.proofs.Words.{waiting_test}
+use Rattle.frontier.proofs.contains.Goals as goal
+
+pub returns : goal.returns
+returns g c =
+    waiting_test c.args.ws.now c.args.i (omega arith)

@@ -1,0 +1,8 @@
+-- `frontier::remove` meets its contract. Assumes nothing.
+use Rattle.property.proofs.Basics.{arith}
+use Rattle.frontier.proofs.Words.{waiting_remove}
+use Rattle.frontier.proofs.remove.Goals as goal
+
+pub returns : goal.returns
+returns g c =
+    waiting_remove c.args.ws.now c.args.i (omega arith)
