@@ -1,7 +1,10 @@
 // A frontier: one waiting bit for each vertex, in words of 64 bits. Each contract is an equation over `waiting_of`, the list of the bits,
-// so that a caller reasons about a list of Bool alone. The operations are on any number of words; a frontier has `WORDS`.
+// so that a caller reasons about a list of Bool alone. The operations are on arrays of any number of words; a frontier has `WORDS`. Each calls its form
+// on slices, which serves words whose number is known only when they are lent.
 // Where bits are numbered or counted, a `usize` must be able to hold how many there are.
 #![tactic(auto)]
+
+pub mod slices;
 
 ghost use Rattle.std.specs.Prelude.{◌≡◌, true, false, ◌*◌, ◌^◌, ◌<◌, length, get_or, set, replicate};
 ghost use Rattle.frontier.specs.Waiting.{waiting_of, capacity, next_from, any_of, count_of};
@@ -22,7 +25,7 @@ pub fn empty() -> Words
 pub fn clear<const N: usize>(ws: &mut [u64; N])
     ensures { waiting_of ws.new ≡ replicate (64 * N) false }
 {
-    ws.fill(0);
+    slices::clear(ws);
 }
 
 // Vertex `i` waits.
@@ -30,7 +33,7 @@ pub fn insert<const N: usize>(ws: &mut [u64; N], i: usize)
     requires { i < 64 * N }
     ensures { waiting_of ws.new ≡ set (waiting_of ws.old) i true }
 {
-    ws[i / 64] |= 1u64 << (i % 64);
+    slices::insert(ws, i);
 }
 
 // Vertex `i` waits no more.
@@ -38,7 +41,7 @@ pub fn remove<const N: usize>(ws: &mut [u64; N], i: usize)
     requires { i < 64 * N }
     ensures { waiting_of ws.new ≡ set (waiting_of ws.old) i false }
 {
-    ws[i / 64] &= !(1u64 << (i % 64));
+    slices::remove(ws, i);
 }
 
 // Whether vertex `i` waits.
@@ -46,35 +49,16 @@ pub fn contains<const N: usize>(ws: &[u64; N], i: usize) -> bool
     requires { i < 64 * N }
     ensures { result ≡ get_or (waiting_of ws.now) i false }
 {
-    (ws[i / 64] >> (i % 64)) & 1 == 1
+    slices::contains(ws, i)
 }
 
-// The first vertex from word `from` on that waits: the lowest set bit of the first word that is not 0.
-fn next_word<const N: usize>(ws: &[u64; N], from: usize) -> Option<usize>
-    requires { 64 * N < 2 ^ 64 }
-    ensures { result ≡ next_from (waiting_of ws.now) (from * 64) }
-{
-    for k in from..N {
-        if ws[k] != 0 {
-            return Some(k * 64 + ws[k].trailing_zeros() as usize);
-        }
-    }
-    None
-}
-
-// The first vertex at or after `i` that waits: in the word of `i`, with the bits below `i` masked, or in the words after it.
-// `size` is for callers: nothing else tells them how many bits lie behind a `&Words`.
+// The first vertex at or after `i` that waits. `size` is for callers: nothing else tells them how many bits lie behind a `&Words`.
 pub fn next_from<const N: usize>(ws: &[u64; N], i: usize) -> Option<usize>
     requires { (i < 64 * N) × (64 * N < 2 ^ 64) }
     ensures next { result ≡ next_from (waiting_of ws.now) i }
     ensures size { length (waiting_of ws.now) ≡ 64 * N }
 {
-    let k = i / 64;
-    let w = ws[k] & (u64::MAX << (i % 64));
-    if w != 0 {
-        return Some(k * 64 + w.trailing_zeros() as usize);
-    }
-    next_word(ws, k + 1)
+    slices::next_from(ws, i)
 }
 
 // How many vertices wait.
@@ -82,11 +66,7 @@ pub fn count<const N: usize>(ws: &[u64; N]) -> usize
     requires { 64 * N < 2 ^ 64 }
     ensures { result ≡ count_of (waiting_of ws.now) }
 {
-    let mut n: usize = 0;
-    for w in ws {
-        n += w.count_ones() as usize;
-    }
-    n
+    slices::count(ws)
 }
 
 // Whether any vertex waits.
@@ -94,5 +74,5 @@ pub fn any<const N: usize>(ws: &[u64; N]) -> bool
     requires { 64 * N < 2 ^ 64 }
     ensures { result ≡ any_of (waiting_of ws.now) }
 {
-    count(ws) != 0
+    slices::any(ws)
 }

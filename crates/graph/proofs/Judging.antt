@@ -5,11 +5,11 @@ use Rattle.std.proofs.lemmas.Result.{err_from_is_err_and}
 use Rattle.graph.specs.declared.refusal.Refusal.{Refusal}
 use Rattle.graph.specs.declared.refusal.Refusal.TheVariants as refusal
 use Rattle.graph.specs.Limits.{max_vertices, max_edges}
-use Rattle.graph.specs.Refusal.{Verdict, accept, ◌▷◌, refuse_if}
+use Rattle.graph.specs.Refusal.{Verdict, accept, refuse, ◌▷◌, refuse_if}
 use Rattle.graph.specs.Edge.{edges}
 use Rattle.graph.specs.Table.{Columns, edges_of, is_edge, follow, rules, size, short_table, table, bare_faults}
 use Rattle.graph.specs.Sorted as order
-use Rattle.graph.specs.Code.{number, place, told, Room, columns, edge_at, keeps}
+use Rattle.graph.specs.Code.{number, place, told, told_with, Room, columns, edge_at, keeps}
 use Rattle.graph.proofs.Tests.{neither}
 use Rattle.graph.proofs.Verdicts.{then_accept, if_accept}
 use Rattle.graph.proofs.Records.{edges_more, edges_none}
@@ -79,6 +79,36 @@ if_judged t k i b w e f = rw e f
 pub fine_accept : (v : Verdict) → told (Ok tt) ≡ v → v ≡ accept
 unfolding told
 fine_accept v e = sym e
+
+-- ---- the same of any error that a refusal turns into
+
+-- a refusal by its own number and place
+told_alike : (r : Result (Unit {0}) Refusal) → told_with number place r ≡ told r
+unfolding told told_with
+told_alike (Ok u) = λ i. accept
+told_alike (Err e) = λ i. refuse (number e) (place e)
+
+pub as_told : (b d : Result (Unit {0}) Refusal) (f : Verdict → Verdict)
+    → ((k i : Refusal → ℕ) → ((r e : Refusal) → e ≡ r → (k e ≡ number r) × (i e ≡ place r)) → told_with k i b ≡ f (told_with k i d)) → told b ≡ f (told d)
+as_told b d f h = sym (told_alike b) ∙ h number place (λ r e q. (ap number q, ap place q)) ∙ ap f (told_alike d)
+
+module _ {E : Type 0} (k i : E → ℕ) where
+  pub turned_on : {gives : Refusal → E → Type 0} (e : Refusal) (law : (r : Refusal) (d : E) → gives r d → (k d ≡ number r) × (i d ≡ place r)) (r : Result (Unit {0}) E)
+      → IsErrAnd r (gives e) → told_with k i r ≡ told (Err e)
+  unfolding told told_with
+  turned_on e law r h = let p = err_from_is_err_and r h in let q = law _ p.0 p.2 in rw (p.1, q.0, q.1)
+
+  pub handed_on : (d : E) (r : Result (Unit {0}) E) (w : Verdict) → IsErrAnd r (λ e. e ≡ d) → told_with k i r ≡ (told_with k i (Err d) ▷ w)
+  unfolding told_with ◌▷◌
+  handed_on d r w h = let p = err_from_is_err_and r h in rw (p.1, p.2)
+
+  pub passed : {b : Result (Unit {0}) E} {u : Unit {0}} → b ≡ Ok u → told_with k i b ≡ accept
+  unfolding told_with
+  passed h = rw h
+
+  pub all_fine : {v : Verdict} → told (Ok tt) ≡ v → told_with k i (Ok tt) ≡ v
+  unfolding told told_with
+  all_fine h = h
 
 -- ---- what acceptance says of each
 

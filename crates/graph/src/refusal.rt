@@ -1,5 +1,5 @@
-// Why a call is turned back: a case for each number of the table of refusals that a call gives, with its place where that is not always 0. Number 13 has
-// no case, since it never comes.
+// Why a call is turned back: a case for each number of the table of refusals, with its place where that is not always 0. Number 13, `Unsettled`, never
+// comes.
 ghost use Rattle.std.specs.Prelude.{◌≡◌};
 ghost use Rattle.graph.specs.Code.{number, place};
 
@@ -17,6 +17,7 @@ pub enum Refusal {
     Present(usize),
     Absent(usize),
     Full(usize),
+    Unsettled,
     Text(usize),
     NoRoute,
 }
@@ -39,6 +40,7 @@ impl Refusal {
             Refusal::Present(_) => 10,
             Refusal::Absent(_) => 11,
             Refusal::Full(_) => 12,
+            Refusal::Unsettled => 13,
             Refusal::Text(_) => 14,
             Refusal::NoRoute => 15,
         }
@@ -53,6 +55,7 @@ impl Refusal {
             | Refusal::Short
             | Refusal::Landmarks
             | Refusal::Property
+            | Refusal::Unsettled
             | Refusal::NoRoute => 0,
             Refusal::Table(at)
             | Refusal::Vertex(at)

@@ -1,10 +1,11 @@
 // Refusals 1, 2 and 4 of a table, and the rules of its edges.
-ghost use Rattle.std.specs.Prelude.{◌≡◌, true, not, ◌&&◌, ◌+◌, ◌<◌, ◌≤◌, eqb, ltb};
+ghost use Rattle.std.specs.Prelude.{◌≡◌, ℕ, true, not, ◌&&◌, ◌+◌, ◌<◌, ◌≤◌, eqb, ltb};
 ghost use Rattle.graph.specs.Limits.{max_vertices, max_edges, max_weight};
 ghost use Rattle.graph.specs.Refusal.{accept, refuse_if};
+ghost use Rattle.graph.specs.declared.refusal.Refusal.{Refusal};
 ghost use Rattle.graph.specs.Edge.{edge, edges, precedes};
 ghost use Rattle.graph.specs.Table.{is_weight, is_edge, rules, size, short_table, table, bare_faults};
-ghost use Rattle.graph.specs.Code.{number, place, told, Room, columns, keeps, rank_of};
+ghost use Rattle.graph.specs.Code.{number, place, told, told_with, Room, columns, keeps, rank_of};
 
 use super::{MAX_EDGES, MAX_VERTICES, MAX_WEIGHT, Refusal};
 
@@ -171,19 +172,21 @@ pub fn judge_table(
     judge_table_plainly(n, tails, heads, weights, count)
 }
 
-// Numbers 1, 2 and 4 of a call that takes a table and no landmarks, with what that call judges between 2 and 4.
-pub fn judge_bare(
+// Numbers 1, 2 and 4 of a call that takes a table and no landmarks, with what that call judges between 2 and 4: any error that a refusal turns into, whatever
+// number and place it has.
+pub fn judge_bare<E: From<Refusal> + Drop>(
     n: u32,
     tails: &[u32],
     heads: &[u32],
     weights: &[u32],
     count: u32,
-    between: Result<(), Refusal>,
-) -> Result<(), Refusal>
-    ensures { told result ≡ bare_faults n (columns tails.now heads.now weights.now) count (told between) }
+    between: Result<(), E>,
+) -> Result<(), E>
+    ensures { (k i : E → ℕ) → ((r : Refusal) (e : E) → E.from_gives r e → (k e ≡ number r) × (i e ≡ place r)) → told_with k i result ≡ bare_faults n (columns tails.now heads.now weights.now) count (told_with k i between) }
 {
     judge_size(n)?;
     judge_lengths(tails, heads, weights)?;
     between?;
-    judge_table(n, tails, heads, weights, count)
+    judge_table(n, tails, heads, weights, count)?;
+    Ok(())
 }

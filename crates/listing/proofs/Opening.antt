@@ -37,7 +37,7 @@ abbrev pub Few : Choice → Type 0
 Few c = (c.count ≤ max_landmarks) × (length c.vertices ≡ max_landmarks)
 
 -- whatever the table, where none are chosen in place of a refusal
-chosen_few : (n : ℕ) (cs : Columns) (m : ℕ) (d : Choice) → Few d → (r : Result Choice Refusal) → choosing r ≡ chosen_of (choice_call n cs m max_landmarks) → Few (result_unwrap_or r d)
+pub chosen_few : (n : ℕ) (cs : Columns) (m : ℕ) (d : Choice) → Few d → (r : Result Choice Refusal) → choosing r ≡ chosen_of (choice_call n cs m max_landmarks) → Few (result_unwrap_or r d)
 chosen_few n cs m d f (Ok c) e =
     let p = choosing_chosen n cs m max_landmarks c e in
     let l : length (choice n (edges_of cs m) max_landmarks) ≤ max_landmarks = simp length-take (omega arith) in

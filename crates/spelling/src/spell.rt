@@ -1,5 +1,5 @@
 // Replies as a number and words.
-ghost use Rattle.std.specs.Prelude.{◌≡◌, List, ℕ, ◌≤◌, length};
+ghost use Rattle.std.specs.Prelude.{◌≡◌, List, [], ◌∷◌, ℕ, ◌≤◌, length};
 ghost use Rattle.graph.specs.Refusal.{over};
 ghost use Rattle.graph.specs.Code.{reply_of};
 ghost use Rattle.run.specs.Code.{counts};
@@ -38,11 +38,17 @@ pub fn spell<T: Answer>(r: Result<T, Refusal>, reply: &mut [u64]) -> u32
             answer.put(reply);
             0
         }
-        Err(refusal) => {
-            reply[0] = refusal.place() as u64;
-            refusal.number()
-        }
+        Err(refusal) => spell_refusal(refusal.number(), refusal.place(), reply),
     }
+}
+
+// A refusal by any number and place.
+pub fn spell_refusal(number: u32, place: usize, reply: &mut [u64]) -> u32
+    requires { reply_words ≤ length reply.old }
+    ensures { (result ≡ number) × (reply.new ≡ over (place ∷ []) reply.old) }
+{
+    reply[0] = place as u64;
+    number
 }
 
 // An opening, like a preview, tells only that it was accepted.

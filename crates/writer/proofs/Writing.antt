@@ -38,12 +38,12 @@ module _ (n : ℕ) (cs : Columns) (m : ℕ) (out : List ℕ) where
   text = written n (edges_of cs m)
 
   -- the whole chain, by its value
-  chain : (v : Verdict) → judged_write n cs m ≡ v → (size n ▷ short_table cs ▷ table n cs m ▷ refuse_if (ltb (length out) (length text)) 2 0) ≡ (v ▷ refuse_if (ltb (length out) (length text)) 2 0)
+  pub chain : (v : Verdict) → judged_write n cs m ≡ v → (size n ▷ short_table cs ▷ table n cs m ▷ refuse_if (ltb (length out) (length text)) 2 0) ≡ (v ▷ refuse_if (ltb (length out) (length text)) 2 0)
   chain v e =
       let last = refuse_if (ltb (length out) (length text)) 2 0 in
       rw (← e, then_assoc (size n) (short_table cs ▷ table n cs m) last, then_assoc (short_table cs) (table n cs m) last)
 
-wrote_over : {text out new : List ℕ} {r : ℕ} → Wrote text 0 out r new → new ≡ over text out
+pub wrote_over : {text out new : List ℕ} {r : ℕ} → Wrote text 0 out r new → new ≡ over text out
 unfolding laid
 wrote_over w = rw zero-add at w.bytes
 

@@ -1,8 +1,8 @@
--- `frontier::contains` meets its contract. Assumes nothing.
+-- `frontier::slices::contains` meets its contract. Assumes nothing.
 use Rattle.property.proofs.Basics.{arith}
 use Rattle.frontier.proofs.Words.{waiting_test}
-use Rattle.frontier.proofs.contains.Goals as goal
+use Rattle.frontier.proofs.slices.contains.Goals as goal
 
 pub returns : goal.returns
-returns g c =
+returns c =
     waiting_test c.args.ws.now c.args.i (omega arith)

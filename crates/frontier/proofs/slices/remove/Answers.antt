@@ -1,8 +1,8 @@
--- `frontier::remove` meets its contract. Assumes nothing.
+-- `frontier::slices::remove` meets its contract. Assumes nothing.
 use Rattle.property.proofs.Basics.{arith}
 use Rattle.frontier.proofs.Words.{waiting_remove}
-use Rattle.frontier.proofs.remove.Goals as goal
+use Rattle.frontier.proofs.slices.remove.Goals as goal
 
 pub returns : goal.returns
-returns g c =
+returns c =
     waiting_remove c.args.ws.now c.args.i (omega arith)
