@@ -49,7 +49,7 @@ fn ask(
 {
     let mut starts = [0u32; graph::VERTEX_WORDS];
     let size = n as usize;
-    query::query(
+    let answer = query::query(
         n,
         landmarks,
         tails,
@@ -63,8 +63,12 @@ fn ask(
         &landmarks[..0],
         &mut starts[..size],
         settled,
-    )?;
-    Ok(())
+    );
+    // a `match` and not a `?`: the edit that shows a refusal as though it were none stands in its last arm
+    match answer {
+        Ok(_) => Ok(()),
+        Err(refusal) => Err(refusal),
+    }
 }
 
 // The batch on a copy of the network, and then such a query there.

@@ -67,10 +67,14 @@ pub fn replay(
     ensures backward_after { replay_outcome result tails.new heads.new weights.new forward.new backward.new ≡ replay_call n landmarks.now (network tails.old heads.old weights.old forward.old backward.old count) (batches ends.now (changes_of changes.now)) }
     ensures at_exit { AtExit n landmarks.now (network tails.old heads.old weights.old forward.old backward.old count) (batches ends.now (changes_of changes.now)) result tails.new heads.new weights.new forward.new backward.new }
 {
-    open::open(
+    let opened = open::open(
         n, landmarks, tails, heads, weights, count, forward, backward,
-    )?;
-    Ok(apply_parts(
-        n, landmarks, tails, heads, weights, count, forward, backward, changes, ends,
-    ))
+    );
+    // a `match` and not a `?`: the edit by which the opening's number is lost stands in its first arm
+    match opened {
+        Err(refusal) => Err(refusal),
+        Ok(()) => Ok(apply_parts(
+            n, landmarks, tails, heads, weights, count, forward, backward, changes, ends,
+        )),
+    }
 }
