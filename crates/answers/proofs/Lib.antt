@@ -9,3 +9,4 @@ pub mod Behind
 pub mod Preview
 pub mod Digest
 pub mod Upgrade
+pub mod Numbers

@@ -1,5 +1,5 @@
 -- Two files as they are read: the verdict of each, and what it leaves in the lists. Assumes nothing.
-use Rattle.property.proofs.Basics.{◌≡◌, refl, sym, ap, subst, ◌∙◌, List, ℕ, ◌≤◌, ◌<◌, arith, length, drop, replicate, length-append, take_at, lt-ltb, le-ltb}
+use Rattle.property.proofs.Basics.{◌≡◌, refl, sym, ap, subst, ◌∙◌, Bool, ◌||◌, List, ℕ, ◌≤◌, ◌<◌, arith, length, drop, replicate, length-append, take_at, eqb, lt-ltb, le-ltb}
 use Rattle.std.specs.Prelude.{Result, Ok, Err}
 use Rattle.graph.specs.declared.refusal.Refusal.{Refusal}
 use Rattle.graph.specs.Refusal.{Verdict, accept, refuse, ◌▷◌, refuse_if, Reply, accepted, verdict_of, Outcome, replied, choose, over}
@@ -8,7 +8,7 @@ use Rattle.graph.specs.Edge.{Edge}
 use Rattle.graph.specs.Table.{Columns, size, short_table}
 use Rattle.graph.specs.Code.{reply_of, columns}
 use Rattle.graph.proofs.Verdicts.{accept_then, refuse_then, accept_if, verdict_replied}
-use Rattle.dimacs.specs.Read.{Read, good}
+use Rattle.dimacs.specs.Read.{Read, good, bad}
 use Rattle.dimacs.specs.Network as net
 use Rattle.dimacs.specs.Sources as src
 use Rattle.dimacs.specs.Call.{Size, judged, vertex_count, edges_read, filled, read_call, sources_read, sources_call}
@@ -17,6 +17,7 @@ use Rattle.dimacs.proofs.Calls.{judged_accept}
 use Rattle.dimacs.proofs.Network as networks
 use Rattle.dimacs.proofs.Theorems.{network_tables}
 use Rattle.dimacs.proofs.Written.{read_call_lem}
+use Rattle.network.proofs.Never.{Only, accepts, refuses, only_if, only_then}
 use Rattle.reader.specs.declared.network_text.Size as graphs
 use Rattle.reader.specs.Code as graph
 use Rattle.sources.specs.Code as list
@@ -132,3 +133,18 @@ files_first gr ss k i e = refuse_then (graph_verdict gr) _ e
 
 pub files_second : (gr ss : List ℕ) (n : ℕ) (v : Verdict) → graph_verdict gr ≡ accept → n ≡ vertex_count (net.read_network gr) → sources_verdict n ss ≡ v → files_verdict gr ss ≡ v
 files_second gr ss n v e a h = accept_then e ∙ ap (λ (k : ℕ). sources_verdict k ss) (sym a) ∙ h
+
+-- ---- which numbers the files are refused with
+
+-- 2 and 14
+abbrev pub file_number : ℕ → Bool
+file_number k = eqb k 2 || eqb k 14
+
+only_judged : {S : Type 0} (r : Read S) → Only file_number (judged r)
+unfolding judged
+only_judged (good st) = accepts
+only_judged (bad k) = refuses refl
+
+pub files_numbers : (gr ss : List ℕ) → Only file_number (files_verdict gr ss)
+files_numbers gr ss = only_then (only_then (only_if _ 2 0 refl) (only_judged (net.read_network gr)))
+    (only_then (only_if _ 2 0 refl) (only_judged (src.read_sources (vertex_count (net.read_network gr)) ss)))

@@ -7,6 +7,7 @@ pub mod Moment
 pub mod Query
 pub mod History
 pub mod Never
+pub mod Numbers
 pub mod Chosen
 pub mod Held
 pub mod Stays

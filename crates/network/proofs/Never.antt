@@ -1,6 +1,7 @@
 -- Number 13 never comes on a network of these calls, and which numbers do. Assumes nothing.
 --
 --   Only Q v       == v accepts, or refuses with a number that passes the test Q
+--   between a b k  == k is a to b
 --   open_number k  == k is 1 to 4
 --   batch_number k == k is 1, or 6 to 12
 --   query_number k == k is 1, 2, 5 or 6
@@ -10,9 +11,9 @@ use Rattle.property.specs.Property.{M, property}
 use Rattle.property.proofs.Instances.{property_laws}
 use Rattle.graph.specs.Refusal.{Verdict, accept, refuse, ◌▷◌, refuse_if, Reply, verdict_of}
 use Rattle.graph.specs.Edge.{Edge, reverse, range}
-use Rattle.graph.specs.Table.{follow, rules}
+use Rattle.graph.specs.Table.{Columns, edges_of, follow, rules, table}
 use Rattle.graph.specs.Sorted as order
-use Rattle.graph.proofs.Tests.{or_false}
+use Rattle.graph.proofs.Tests.{or_false, or_right}
 use Rattle.graph.proofs.Verdicts.{accept_if, then_last, verdict_replied}
 use Rattle.graph.proofs.Order.{within}
 use Rattle.run.specs.Run.{word}
@@ -86,7 +87,7 @@ query_judged n ls w q out g = verdict_replied (query_verdict n ls w q out) _
 
 -- ---- which numbers come
 
-abbrev between : ℕ → ℕ → ℕ → Bool
+abbrev pub between : ℕ → ℕ → ℕ → Bool
 between a b k = leb a k && leb k b
 
 abbrev pub open_number : ℕ → Bool
@@ -102,12 +103,16 @@ pub data Only (Q : ℕ → Bool) : Verdict → Type 0 where
   accepts : Only Q accept
   refuses : {k i : ℕ} → Q k ≡ true → Only Q (refuse k i)
 
-only_if : {Q : ℕ → Bool} (t : Bool) (k i : ℕ) → Q k ≡ true → Only Q (refuse_if t k i)
+pub only_if : {Q : ℕ → Bool} (t : Bool) (k i : ℕ) → Q k ≡ true → Only Q (refuse_if t k i)
 unfolding refuse_if
 only_if true k i h = refuses h
 only_if false k i h = accepts
 
-only_then : {Q : ℕ → Bool} {a b : Verdict} → Only Q a → Only Q b → Only Q (a ▷ b)
+pub only_more : {Q R : ℕ → Bool} {v : Verdict} → ((k : ℕ) → Q k ≡ true → R k ≡ true) → Only Q v → Only R v
+only_more f accepts = accepts
+only_more f (refuses h) = refuses (f _ h)
+
+pub only_then : {Q : ℕ → Bool} {a b : Verdict} → Only Q a → Only Q b → Only Q (a ▷ b)
 unfolding ◌▷◌
 only_then accepts k = k
 only_then (refuses h) k = refuses h
@@ -117,17 +122,20 @@ unfolding order.follow
 only_follow h n i p [] = accepts
 only_follow h n i p (e ∷ es) = only_then (only_if _ 4 i h) (only_follow h n (suc i) e es)
 
-only_rules : {Q : ℕ → Bool} → Q 4 ≡ true → (n : ℕ) (es : List Edge) → Only Q (rules n es)
+pub only_rules : {Q : ℕ → Bool} → Q 4 ≡ true → (n : ℕ) (es : List Edge) → Only Q (rules n es)
 unfolding order.rules
 only_rules h n [] = accepts
 only_rules h n (e ∷ es) = only_then (only_if _ 4 0 h) (only_follow h n 1 e es)
 
-only_scheduled : {Q : ℕ → Bool} → Q 6 ≡ true → (n i : ℕ) (vs : List ℕ) → Only Q (scheduled n i vs)
+pub only_table : {Q : ℕ → Bool} → Q 4 ≡ true → (n : ℕ) (cs : Columns) (m : ℕ) → Only Q (table n cs m)
+only_table h n cs m = only_then (only_if _ 4 0 h) (only_rules h n (edges_of cs m))
+
+pub only_scheduled : {Q : ℕ → Bool} → Q 6 ≡ true → (n i : ℕ) (vs : List ℕ) → Only Q (scheduled n i vs)
 unfolding scheduled
 only_scheduled h n i [] = accepts
 only_scheduled h n i (v ∷ vs) = only_then (only_if _ 6 i h) (only_scheduled h n (suc i) vs)
 
-only_items : (n i : ℕ) (es : List Edge) (cs : List Change) → Only batch_number (items n i es cs)
+pub only_items : (n i : ℕ) (es : List Edge) (cs : List Change) → Only (between 6 12) (items n i es cs)
 unfolding items item words against
 only_items n i es [] = accepts
 only_items n i es (c ∷ cs) = only_then (only_then
@@ -135,13 +143,16 @@ only_items n i es (c ∷ cs) = only_then (only_then
     (only_then (only_if _ 10 i refl) (only_then (only_if _ 11 i refl) (only_if _ 12 i refl))))
     (only_items n (suc i) (edit es c) cs)
 
+pub faults_numbers : (n : ℕ) (ls : List ℕ) (w : Network) → Only open_number (faults n ls w)
+faults_numbers n ls w = only_then (only_if _ 1 0 refl) (only_then (only_if _ 2 0 refl) (only_then (only_if _ 2 0 refl) (only_then (only_if _ 3 0 refl)
+    (only_table refl n w.memory.table w.count))))
+
 pub open_numbers : (n : ℕ) (ls : List ℕ) (w : Network) → Only open_number (verdict_of (open_call n ls w).reply)
-open_numbers n ls w = rw (open_judged n ls w) (only_then (only_if _ 1 0 refl) (only_then (only_if _ 2 0 refl) (only_then (only_if _ 2 0 refl)
-    (only_then (only_if _ 3 0 refl) (only_then (only_if _ 4 0 refl) (only_rules refl n (edges_in w)))))))
+open_numbers n ls w = rw (open_judged n ls w) (faults_numbers n ls w)
 
 pub batch_numbers : (n : ℕ) (ls : List ℕ) (w : Network) (b : List Change) → Good n ls w → Only batch_number (verdict_of (batch_call n ls w b).reply)
 unfolding turned_back
-batch_numbers n ls w b g = rw (batch_judged n ls w b g) (only_then (only_if _ 1 0 refl) (only_items n 0 (edges_in w) b))
+batch_numbers n ls w b g = rw (batch_judged n ls w b g) (only_then (only_if _ 1 0 refl) (only_more (λ k. or_right (eqb k 1)) (only_items n 0 (edges_in w) b)))
 
 pub query_numbers : (n : ℕ) (ls : List ℕ) (w : Network) (q : Query) (out : Words) → Good n ls w
     → Only query_number (verdict_of (query_call n ls w q out).reply)
@@ -151,7 +162,7 @@ query_numbers n ls w q out g = rw (query_judged n ls w q out g) (only_then (only
 -- ---- number 13 does not
 
 -- 13 is none of those numbers
-others : {A : Type 0} {Q : ℕ → Bool} (r : Reply A) → Q 13 ≡ false → Only Q (verdict_of r) → Never r
+pub others : {A : Type 0} {Q : ℕ → Bool} (r : Reply A) → Q 13 ≡ false → Only Q (verdict_of r) → Never r
 unfolding verdict_of
 others {Q = Q} r d h i e = pick (rw e at h)
   where

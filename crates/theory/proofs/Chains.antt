@@ -19,7 +19,7 @@ use Rattle.graph.proofs.Edges.{leaving_in}
 use Rattle.graph.proofs.Order.{Within}
 use Rattle.run.specs.Run.{State, one_round, counted, word, waits, relaxable, store_if, clear, handle, visit_if, visit, pass, round, settle}
 use Rattle.theory.specs.Rest.{FitWords, NothingWaits, NothingWaitsOn, AllRounds}
-use Rattle.theory.proofs.Settle.{relaxes_keep, handle_keeps, store_betters, pass_keeps, settle_idle, settle_more}
+use Rattle.theory.proofs.Settle.{relaxes_keep, handle_keeps, store_betters, pass_keeps, settle_keeps, settle_idle, settle_more}
 use Rattle.theory.proofs.Rounds.{settle_all}
 
 -- ---- chains
@@ -75,10 +75,16 @@ module _ {P : Property} (L : Laws P) (es : List Edge) (n : ℕ) (inside : Within
             (at_set st.words o.head (along (word P st.words o.tail) o.weight) t 0 b);
       }
 
+  handle_words : (st : State) (i : ℕ) → FitWords n st → FitWords n (handle P es st i)
+  handle_words = handle_keeps P es (FitWords n) clear_words (λ a o m c. store_words a o m)
+
   -- a schedule leaves words of 32 bits
   pub pass_words : (vs : List ℕ) (st : State) → FitWords n st → FitWords n (pass P es vs st)
-  pass_words vs st g =
-      pass_keeps P es (FitWords n) (handle_keeps P es (FitWords n) clear_words (λ a o m c. store_words a o m)) (λ a q. record { words = q.words; waiting = q.waiting; fits = q.fits }) vs st g
+  pass_words vs st g = pass_keeps P es (FitWords n) handle_words (λ a q. record { words = q.words; waiting = q.waiting; fits = q.fits }) vs st g
+
+  -- .. and so do rounds
+  pub settle_words : (k : ℕ) (st : State) → FitWords n st → FitWords n (settle P es n k st)
+  settle_words k st g = settle_keeps P es (FitWords n) handle_words (λ a q. record { words = q.words; waiting = q.waiting; fits = q.fits }) n k st g
 
   -- ---- one store
 
