@@ -28,6 +28,7 @@
 --   PreviewComesTrue    == the claim: so it is of an accepted preview after any list of batches. A preview returns no table and no rows, so
 --                          previews may stand anywhere between batches
 --   EmptyShown          == the claim: on any network and whatever words it holds, an accepted preview of a batch without changes shows 0 and 0
+--   AnyPreviewNever     == the claim: on any network, whatever words its row lists hold, a preview is never refused for 13
 use Rattle.std.specs.Prelude.{◌≡◌, ◌≢◌, ◌↔◌, ◌⊎◌, ◌||◌, cond, List, [], ◌∷◌, ◌++◌, map, ℕ, ◌<◌, length, get_or, replicate, ℤ, pos, ◌-ℤ◌, eqb}
 use Rattle.property.specs.Property.{Property, property}
 use Rattle.graph.specs.Refusal.{Verdict, accept, ◌▷◌, accepted, refused, verdict_of, Outcome, outcome, over}
@@ -39,6 +40,7 @@ use Rattle.network.specs.Query.{Query, Words, short_words, requested, query_faul
 use Rattle.network.specs.Change.{Change, items}
 use Rattle.network.specs.Batch.{long_batch, batch_call}
 use Rattle.network.specs.Caller.{hand_on, queried}
+use Rattle.network.specs.Never.{Never, FitList}
 use Rattle.network.specs.Steady.{RestStays}
 use Rattle.network.specs.History.{moment, edges_now}
 
@@ -156,3 +158,7 @@ PreviewComesTrue = (n : ℕ) (ls : List ℕ) (w : Network) → faults n ls w ≡
 abbrev pub EmptyShown : Type 0
 EmptyShown = (n : ℕ) (ls : List ℕ) (w : Network) (p s : ℕ) (out : Shown) → (preview_call n ls w [] p s out).reply ≡ accepted tt
     → (preview_call n ls w [] p s out).memory ≡ record { effects = over (replicate n 0) out.effects; moves = over (replicate n (pos 0)) out.moves }
+
+abbrev pub AnyPreviewNever : Type 0
+AnyPreviewNever = (n : ℕ) (ls : List ℕ) (w : Network) → FitList w.memory.rows.forward → FitList w.memory.rows.backward → (b : List Change) (p s : ℕ) (out : Shown)
+    → Never (preview_call n ls w b p s out).reply

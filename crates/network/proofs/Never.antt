@@ -25,6 +25,7 @@ use Rattle.network.specs.Change.{Change, edit, words, against, item, items}
 use Rattle.network.specs.Batch.{batch_call}
 use Rattle.network.specs.Current.{turned_back, query_back}
 use Rattle.network.specs.History.{moment, edges_now}
+pub use Rattle.network.specs.Never.{FitList}
 use Rattle.network.specs.Never.{Never, OpenNever, BatchNever, QueryNever}
 use Rattle.network.proofs.Items.{table_sound}
 use Rattle.network.proofs.Rows.{open_rests}
@@ -51,11 +52,7 @@ pub batch_judged : (n : ℕ) (ls : List ℕ) (w : Network) (b : List Change) →
     → verdict_of (batch_call n ls w b).reply ≡ turned_back n (edges_in w) b
 batch_judged n ls w b g = (steps n ls w b g).applied.judged
 
--- each word of a list fits 32 bits
-abbrev pub FitList : List ℕ → Type 0
-FitList xs = (i : ℕ) → get_or xs i 0 ≤ M
-
--- .. and so does each that is read of a part of it, past its end too
+-- each word that is read of a part of a list of words of 32 bits is one, past its end too
 take_fits : (n : ℕ) (xs : List ℕ) (t d : ℕ) → d ≤ M → FitList xs → get_or (take n xs) t d ≤ M
 take_fits zero xs t d h k = h
 take_fits (suc n) [] t d h k = h

@@ -7,7 +7,7 @@ use Rattle.graph.specs.Refusal.{Verdict, accept, refuse, ◌▷◌, choose, verd
 use Rattle.graph.specs.Edge.{Edge, reverse}
 use Rattle.graph.specs.Table.{Columns, edges_of, bare_faults}
 use Rattle.graph.proofs.Tests.{both, and_true}
-use Rattle.graph.proofs.Verdicts.{then_accept, verdict_replied}
+use Rattle.graph.proofs.Verdicts.{then_accept, accept_then, verdict_replied}
 use Rattle.graph.proofs.Order.{Within, within}
 use Rattle.run.specs.Run.{State}
 use Rattle.theory.specs.Rest.{FitWords}
@@ -18,12 +18,12 @@ use Rattle.network.specs.Network.{Memory, Network, Rows, edges_in, faults, landm
 use Rattle.network.specs.Query.{Query, Words, at_end, query_faults, query_verdict, query_call}
 use Rattle.network.specs.Change.{Change, items}
 use Rattle.network.specs.Batch.{batch_row, batch_rows, batch_faults, batch_verdict, batch_call, long_batch, new_edges}
+use Rattle.network.specs.Current.{turned_back}
 use Rattle.network.specs.Settled.{check, settled_call}
 use Rattle.network.specs.Lookup.{lookup_verdict}
 use Rattle.network.specs.Choice.{choice, choice_verdict, choice_call}
-use Rattle.network.specs.Never.{Never}
-use Rattle.network.proofs.Items.{items_good, table_sound, table_count}
-use Rattle.network.proofs.Moment.{faults_parts}
+use Rattle.network.specs.Never.{AnyBatchNever, AnyQueryNever}
+use Rattle.network.proofs.Moment.{edits_good}
 use Rattle.network.proofs.Never.{FitList, row_fits, query_verdict_lem, Only, accepts, refuses, between, open_number, only_if, only_more, only_then, only_table, only_scheduled, only_items, faults_numbers, others}
 use Rattle.network.proofs.Still.{still_waiting_lem}
 
@@ -70,14 +70,14 @@ asked_numbers n ls w q a b = only_then (only_if _ 1 0 refl) (only_then (only_if 
     (only_then (only_if _ 2 0 refl) (only_then (only_if _ 3 0 refl) (only_then (only_table refl n w.memory.table w.count)
     (only_then (only_if _ 5 0 refl) (only_then (only_if _ 6 0 refl) (only_scheduled refl n 0 q.schedule)))))))))
 
-module _ (n : ℕ) (ls : List ℕ) (w : Network) (forward : FitList w.memory.rows.forward) (backward : FitList w.memory.rows.backward) where
-  pub query_any_numbers : (q : Query) (out : Words) → Only (between 1 6) (verdict_of (query_call n ls w q out).reply)
-  unfolding query_call
-  query_any_numbers q out =
-      rw (verdict_replied (query_verdict n ls w q out) (at_end n ls w q).tally ∙ query_verdict_lem n ls w q out forward backward) (asked_numbers n ls w q (length out.starts) (length out.settled))
+pub any_query_numbers : (n : ℕ) (ls : List ℕ) (w : Network) → FitList w.memory.rows.forward → FitList w.memory.rows.backward → (q : Query) (out : Words)
+    → Only (between 1 6) (verdict_of (query_call n ls w q out).reply)
+unfolding query_call
+any_query_numbers n ls w f g q out =
+    rw (verdict_replied (query_verdict n ls w q out) (at_end n ls w q).tally ∙ query_verdict_lem n ls w q out f g) (asked_numbers n ls w q (length out.starts) (length out.settled))
 
-  pub query_any_never : (q : Query) (out : Words) → Never (query_call n ls w q out).reply
-  query_any_never q out = others _ refl (query_any_numbers q out)
+pub any_query_never : AnyQueryNever
+any_query_never n ls w f g q out = others _ refl (any_query_numbers n ls w f g q out)
 
 -- ---- words of 32 bits, list by list
 
@@ -115,22 +115,18 @@ choose_either Q (refuse k i) f q = q
 module _ (n : ℕ) (ls : List ℕ) (w : Network) (b : List Change) where
   -- the edges after a batch that numbers 1 to 12 let pass lie within the vertices
   new_within : batch_faults n ls w (length b) ≡ accept → items n 0 (edges_in w) b ≡ accept → Within n (new_edges w b)
-  unfolding batch_faults
+  unfolding batch_faults turned_back
   new_within e i =
-      let o = faults_parts n ls w (then_accept (long_batch (length b)) (faults n ls w) e).1 in
-      let s = table_sound n w.memory.table w.count o.4 in
-      within n (new_edges w b) (items_good n 0 (edges_in w) b i s.1 (rw (table_count w.memory.table w.count o.1 s.0) s.0)).0
+      let z = then_accept (long_batch (length b)) (faults n ls w) e in
+      within n (new_edges w b) (edits_good n ls w b z.1 (accept_then z.0 ∙ i)).0
 
   module _ (forward : FitList w.memory.rows.forward) (backward : FitList w.memory.rows.backward) where
-    pub batch_any_numbers : Only (between 1 12) (verdict_of (batch_call n ls w b).reply)
+    pub any_batch_numbers : Only (between 1 12) (verdict_of (batch_call n ls w b).reply)
     unfolding batch_call batch_faults
-    batch_any_numbers = rw (verdict_replied (batch_verdict n ls w b) _)
+    any_batch_numbers = rw (verdict_replied (batch_verdict n ls w b) _)
         (only_after (only_then (only_if _ 1 0 refl) (only_more (wider {a = 1} {b = 4} (omega arith) (omega arith)) (faults_numbers n ls w)))
         (λ e. only_after (only_more (wider {a = 6} {b = 12} (omega arith) (omega arith)) (only_items n 0 (edges_in w) b))
         (λ i. only_accept (still_waiting_lem n ls w (new_edges w b) (new_within e i) forward backward))))
-
-    pub batch_any_never : Never (batch_call n ls w b).reply
-    batch_any_never = others _ refl batch_any_numbers
 
     -- the words of the row lists after it are of 32 bits
     pub batch_fits : let xs = (batch_call n ls w b).memory.rows in FitList xs.forward × FitList xs.backward
@@ -142,3 +138,6 @@ module _ (n : ℕ) (ls : List ℕ) (w : Network) (b : List Change) where
           left_fits n ls (map reverse (edges_in w)) (map reverse (new_edges w b)) (within_reverse n (new_edges w b) h) w.memory.rows.backward backward,
         ))
         (forward, backward)
+
+pub any_batch_never : AnyBatchNever
+any_batch_never n ls w f g b = others _ refl (any_batch_numbers n ls w b f g)
