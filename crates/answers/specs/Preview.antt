@@ -28,7 +28,7 @@
 --   PreviewComesTrue    == the claim: so it is of an accepted preview after any list of batches. A preview returns no table and no rows, so
 --                          previews may stand anywhere between batches
 --   EmptyShown          == the claim: on any network and whatever words it holds, an accepted preview of a batch without changes shows 0 and 0
---   AnyPreviewNever     == the claim: on any network, whatever words its row lists hold, a preview is never refused for 13
+--   AnyPreviewNever     == the claim: on any network, whatever words of 32 bits its row lists hold, a preview is never refused for 13
 use Rattle.std.specs.Prelude.{◌≡◌, ◌≢◌, ◌↔◌, ◌⊎◌, ◌||◌, cond, List, [], ◌∷◌, ◌++◌, map, ℕ, ◌<◌, length, get_or, replicate, ℤ, pos, ◌-ℤ◌, eqb}
 use Rattle.property.specs.Property.{Property, property}
 use Rattle.graph.specs.Refusal.{Verdict, accept, ◌▷◌, accepted, refused, verdict_of, Outcome, outcome, over}

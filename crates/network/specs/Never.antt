@@ -8,7 +8,7 @@
 --   OpenNever     == an opening is never refused for 13, whatever it is lent                                           open_never
 --   BatchNever    == nor is a batch, after an accepted opening and any list of batches                                 batch_never
 --   QueryNever    == nor is a query there                                                                              query_never
---   AnyBatchNever == nor is a batch on any network at all, whatever words its row lists hold                           any_batch_never
+--   AnyBatchNever == nor is a batch on any network at all, whatever words of 32 bits its row lists hold                 any_batch_never
 --   AnyQueryNever == nor is a query there                                                                              any_query_never
 use Rattle.std.specs.Prelude.{◌≡◌, List, ℕ, ◌≤◌, get_or}
 use Rattle.property.specs.Property.{M}
